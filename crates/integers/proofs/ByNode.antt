@@ -1,0 +1,138 @@
+-- Sums of which most terms are nothing, and sums over the arcs of one kind at their nodes.
+use Rattle.std.proofs.Common.{◌≡◌, ◌≢◌, ℕ, zero, suc, ◌+◌, ◌*◌, ◌<◌, ◌≤◌, ◌⊎◌, inl, inr, Bool, true, false, ◌==◌, if◌then◌else◌, ℤ, pos, unsigned_abs, ◌*ℤ◌, add-one, arith, refl, sym, ap, ◌∙◌}
+use Rattle.std.proofs.Math.IntN.{*ℤ-zero}
+use Rattle.std.proofs.Math.Nat.{mul-le-mul, mul-le-mul_left}
+use Rattle.integers.proofs.Ring.{additive}
+use Rattle.integers.specs.Sums.{int_sum_below, sum_below, int_sum_at, sum_at, product_below, product_but}
+use Rattle.integers.proofs.ByIndex.{int_sum_below-same}
+use Rattle.integers.proofs.AtKey.{same_or_other, chosen, passed, sum_below-part, sum_by_keys, pos-sum_at, sum_below-same, none_either, sum_at-none, sum_at-one, positive-product_below, abs-int_sum_below_to}
+
+-- ---- nothing
+pub sum_below-nothing : (f : ℕ → ℕ) (n : ℕ) → ((i : ℕ) → i < n → f i ≡ 0) → sum_below f n ≡ 0
+sum_below-nothing f zero h = refl
+sum_below-nothing f (suc n) h = omega (arith, h n (omega arith), sum_below-nothing f n (λ i lt. h i (omega arith)))
+
+-- no index has the key
+pub sum_at-no_key : (key : ℕ → ℕ) (k : ℕ) (f : ℕ → ℕ) (n : ℕ) → ((i : ℕ) → i < n → key i ≢ k) → sum_at key k f n ≡ 0
+sum_at-no_key key k f n h = sum_below-nothing (λ i. if key i == k then f i else 0) n (λ i lt. passed (key i) k (f i) 0 (h i lt))
+
+pub int_sum_below-nothing : (f : ℕ → ℤ) (n : ℕ) → ((i : ℕ) → i < n → f i ≡ pos 0) → int_sum_below f n ≡ pos 0
+int_sum_below-nothing f zero h = refl
+int_sum_below-nothing f (suc n) h = omega (arith, additive, h n (omega arith), int_sum_below-nothing f n (λ i lt. h i (omega arith)))
+
+-- ---- one term alone
+pub int_sum_below-one : (f : ℕ → ℤ) (e n : ℕ) → e < n → ((i : ℕ) → i < n → i ≢ e → f i ≡ pos 0) → int_sum_below f n ≡ f e
+int_sum_below-one f e zero h others = absurd (omega arith)
+int_sum_below-one f e (suc n) h others = elim (same_or_other n e) [
+  | inl q ↦ omega (arith, additive, int_sum_below-nothing f n (λ i lt. others i (omega arith) (omega arith)), ap f q)
+  | inr d ↦ omega (arith, additive, int_sum_below-one f e n (omega arith) (λ i lt ne. others i (omega arith) ne), others n (omega arith) d)
+]
+
+-- an amount at one node alone
+pub int_sum_below-alone : (c : ℕ → ℤ) (node amount n : ℕ) → node < n → int_sum_below (λ i. c i *ℤ pos (if node == i then amount else 0)) n ≡ c node *ℤ pos amount
+int_sum_below-alone c node amount n h =
+    int_sum_below-one (λ i. c i *ℤ pos (if node == i then amount else 0)) node n h
+    (λ i lt ne. ap (λ z. c i *ℤ pos z) (passed node i amount 0 (λ e. ne (sym e))) ∙ *ℤ-zero (c i))
+    ∙ ap (λ z. c node *ℤ pos z) (chosen node node amount 0 refl)
+
+-- ---- sums of equal terms
+pub sum_at-same : (key : ℕ → ℕ) (k : ℕ) (f g : ℕ → ℕ) (n : ℕ) → ((i : ℕ) → i < n → f i ≡ g i) → sum_at key k f n ≡ sum_at key k g n
+sum_at-same key k f g n h = sum_below-same (λ i. if key i == k then f i else 0) (λ i. if key i == k then g i else 0) n (λ i lt. ap (λ z. if key i == k then z else 0) (h i lt))
+
+pub sum_at-nothing : (key : ℕ → ℕ) (k : ℕ) (f : ℕ → ℕ) (n : ℕ) → ((i : ℕ) → i < n → f i ≡ 0) → sum_at key k f n ≡ 0
+sum_at-nothing key k f n h = sum_at-same key k f (λ i. 0) n h ∙ sum_at-none key k n
+
+pub int_sum_at-nothing : (key : ℕ → ℕ) (k : ℕ) (f : ℕ → ℤ) (n : ℕ) → ((i : ℕ) → i < n → f i ≡ pos 0) → int_sum_at key k f n ≡ pos 0
+int_sum_at-nothing key k f n h = int_sum_below-nothing (λ i. if key i == k then f i else pos 0) n (λ i lt. nothing (key i == k) (f i) (h i lt))
+  where
+    nothing : (b : Bool) (x : ℤ) → x ≡ pos 0 → (if b then x else pos 0) ≡ pos 0
+    nothing true x e = e
+    nothing false x e = refl
+
+-- a flow on one arc alone, if it is there
+pub sum_at-alone : (key : ℕ → ℕ) (k : ℕ) (f : ℕ → ℕ) (arc amount n : ℕ) → (arc < n) ⊎ (amount ≡ 0) → ((i : ℕ) → i < n → f i ≡ (if i == arc then amount else 0))
+    → sum_at key k f n ≡ (if key arc == k then amount else 0)
+sum_at-alone key k f arc amount n (inl h) is = sum_at-same key k f (λ i. if i == arc then amount else 0) n is ∙ sum_at-one key k arc amount n h
+sum_at-alone key k f arc amount n (inr e) is =
+    sum_at-nothing key k f n (λ i lt. is i lt ∙ none_either (i == arc) amount e) ∙ sym (none_either (key arc == k) amount e)
+
+pub int_sum_at-alone : (key : ℕ → ℕ) (k : ℕ) (c : ℕ → ℤ) (f : ℕ → ℕ) (arc amount n : ℕ) → (arc < n) ⊎ (amount ≡ 0) → ((i : ℕ) → i < n → f i ≡ (if i == arc then amount else 0))
+    → int_sum_at key k (λ i. c i *ℤ pos (f i)) n ≡ c arc *ℤ pos (if key arc == k then amount else 0)
+int_sum_at-alone key k c f arc amount n (inl h) is =
+    int_sum_below-one (λ i. if key i == k then c i *ℤ pos (f i) else pos 0) arc n h (λ i lt ne. nothing (key i == k) (c i) (f i) (is i lt ∙ passed i arc amount 0 ne))
+    ∙ inside (key arc == k) (c arc) (f arc) amount (is arc h ∙ chosen arc arc amount 0 refl)
+  where
+    nothing : (b : Bool) (x : ℤ) (t : ℕ) → t ≡ 0 → (if b then x *ℤ pos t else pos 0) ≡ pos 0
+    nothing true x t e = ap (λ z. x *ℤ pos z) e ∙ *ℤ-zero x
+    nothing false x t e = refl
+
+    inside : (b : Bool) (x : ℤ) (t amount : ℕ) → t ≡ amount → (if b then x *ℤ pos t else pos 0) ≡ x *ℤ pos (if b then amount else 0)
+    inside true x t amount e = ap (λ z. x *ℤ pos z) e
+    inside false x t amount e = sym (*ℤ-zero x)
+int_sum_at-alone key k c f arc amount n (inr e) is =
+    int_sum_at-nothing key k (λ i. c i *ℤ pos (f i)) n (λ i lt. ap (λ z. c i *ℤ pos z) (is i lt ∙ none_either (i == arc) amount e) ∙ *ℤ-zero (c i))
+    ∙ sym (ap (λ z. c arc *ℤ pos z) (none_either (key arc == k) amount e) ∙ *ℤ-zero (c arc))
+
+-- ---- what a coefficient of the node weighs is what it weighs arc by arc
+pub one_kind : (c : ℕ → ℤ) (a : ℕ → ℕ) (f : ℕ → ℕ) (k m : ℕ) → ((i : ℕ) → i < m → a i < k)
+    → int_sum_below (λ i. c i *ℤ pos (sum_at a i f m)) k ≡ int_sum_below (λ i. c (a i) *ℤ pos (f i)) m
+one_kind c a f k m h =
+    int_sum_below-same (λ i. c i *ℤ pos (sum_at a i f m)) (λ i. c i *ℤ int_sum_at a i (λ j. pos (f j)) m) k (λ i lt. ap (λ z. c i *ℤ z) (sym (pos-sum_at a i f m)))
+    ∙ sum_by_keys c a (λ j. pos (f j)) k m h
+
+-- ---- a loop's sum of sizes so far, and one more, is at most the whole
+pub sum_at-through : (key : ℕ → ℕ) (k : ℕ) (f : ℕ → ℕ) (i n : ℕ) → i < n → key i ≡ k → sum_at key k f i + f i ≤ sum_at key k f n
+sum_at-through key k f i n h e = omega (arith, sum_below-part (λ j. if key j == k then f j else 0) i n h, chosen (key i) k (f i) 0 e)
+
+pub sum_at-more_yes : (key : ℕ → ℕ) (k : ℕ) (f : ℕ → ℕ) (i : ℕ) → key i ≡ k → sum_at key k f (i + 1) ≡ sum_at key k f i + f i
+sum_at-more_yes key k f i e = rw add-one (ap (λ z. sum_at key k f i + z) (chosen (key i) k (f i) 0 e))
+
+pub sum_at-more_no : (key : ℕ → ℕ) (k : ℕ) (f : ℕ → ℕ) (i : ℕ) → key i ≢ k → sum_at key k f (i + 1) ≡ sum_at key k f i
+sum_at-more_no key k f i e = rw add-one (omega (arith, passed (key i) k (f i) 0 e))
+
+-- ---- a loop's product so far, and one factor more, is at most the whole where no factor is 0
+pub product_below-part : (f : ℕ → ℕ) (i n : ℕ) → ((j : ℕ) → 0 < f j) → i < n → product_below f i * f i ≤ product_below f n
+product_below-part f i zero p h = absurd (omega arith)
+product_below-part f i (suc n) p h = elim (same_or_other i n) [
+  | inl e ↦ omega (arith, ap (λ j. product_below f j * f j) e)
+  | inr d ↦ omega (arith, product_below-part f i n p (omega arith), mul-le-mul_left (product_below f n) (let one : 1 ≤ f n = omega (arith, p n) in one))
+]
+
+but-positive : (k : ℕ) (f : ℕ → ℕ) (i : ℕ) → 0 < f i → 0 < (if i == k then 1 else f i)
+but-positive k f i h = elim (same_or_other i k) [
+  | inl e ↦ omega (arith, chosen {X = ℕ} i k 1 (f i) e)
+  | inr d ↦ omega (arith, passed {X = ℕ} i k 1 (f i) d)
+]
+
+pub product_but-part : (k : ℕ) (f : ℕ → ℕ) (i n : ℕ) → ((j : ℕ) → 0 < f j) → i < n → i ≢ k → product_but k f i * f i ≤ product_but k f n
+product_but-part k f i n p h d =
+    omega (
+      arith,
+      product_below-part (λ j. if j == k then 1 else f j) i n (λ j. but-positive k f j (p j)) h,
+      ap (λ z. product_but k f i * z) (passed {X = ℕ} i k 1 (f i) d),
+    )
+
+-- the product of all but one is at most the product of all
+pub product_but-le : (k : ℕ) (f : ℕ → ℕ) (n : ℕ) → ((j : ℕ) → 0 < f j) → product_but k f n ≤ product_below f n
+product_but-le k f zero p = omega arith
+product_but-le k f (suc n) p = mul-le-mul (product_but-le k f n p) (factor-le (same_or_other n k))
+  where
+    factor-le : (n ≡ k) ⊎ (n ≢ k) → (if n == k then 1 else f n) ≤ f n
+    factor-le (inl e) = omega (arith, chosen {X = ℕ} n k 1 (f n) e, p n)
+    factor-le (inr d) = omega (arith, passed {X = ℕ} n k 1 (f n) d)
+
+pub product_but-positive : (k : ℕ) (f : ℕ → ℕ) (n : ℕ) → ((j : ℕ) → 0 < f j) → 0 < product_but k f n
+product_but-positive k f n p = positive-product_below (λ j. if j == k then 1 else f j) n (λ j. but-positive k f j (p j))
+
+-- past the end there is none to leave out
+pub product_but-past : (k : ℕ) (f : ℕ → ℕ) (n : ℕ) → n ≤ k → product_but k f n ≡ product_below f n
+product_but-past k f zero h = refl
+product_but-past k f (suc n) h = ap (λ z. z * (if n == k then 1 else f n)) (product_but-past k f n (omega arith)) ∙ ap (λ z. product_below f n * z) (passed {X = ℕ} n k 1 (f n) (omega arith))
+
+-- ---- the size of a sum at a key
+pub abs-int_sum_at : (key : ℕ → ℕ) (k : ℕ) (f : ℕ → ℤ) (g : ℕ → ℕ) (n : ℕ) → ((i : ℕ) → i < n → unsigned_abs (f i) ≤ g i) → unsigned_abs (int_sum_at key k f n) ≤ sum_at key k g n
+abs-int_sum_at key k f g n h = abs-int_sum_below_to (λ i. if key i == k then f i else pos 0) (λ i. if key i == k then g i else 0) n (λ i lt. inside (key i == k) (f i) (g i) (h i lt))
+  where
+    inside : (b : Bool) (x : ℤ) (y : ℕ) → unsigned_abs x ≤ y → unsigned_abs (if b then x else pos 0) ≤ (if b then y else 0)
+    inside true x y h = h
+    inside false x y h = omega arith
