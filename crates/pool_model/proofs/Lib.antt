@@ -1,0 +1,5 @@
+pub mod Reach
+pub mod Tabulate
+pub mod Starts
+pub mod PlainSteps
+pub mod Decision

@@ -1,0 +1,12 @@
+pub mod Quantity
+pub mod Rows
+pub mod Network
+pub mod Paths
+pub mod Naming
+pub mod Plan
+pub mod Starting
+pub mod Claim
+pub mod Plain
+pub mod Room
+pub mod Nodes
+pub mod Worked

@@ -1,0 +1,138 @@
+-- A network: its lists in file order, and the same by number, as plans speak of it.
+use Rattle.std.specs.Prelude.{◌≡◌, ℕ, ◌^◌, ◌<◌, ◌≤◌, List, [], ◌∷◌, length, get_or, Option, Some, None, ℤ, pos, neg_ℤ, ◌≤ℤ◌}
+
+-- a source: millionths of money a unit, millionths of flow at the most, millionths of each quality
+pub record Source : Type 0 where
+  pub name : List ℕ
+  pub cost : ℤ
+  pub max : ℕ
+  pub quality : List ℤ
+
+pub record Pool : Type 0 where
+  pub name : List ℕ
+  pub max : ℕ
+
+pub record Product : Type 0 where
+  pub name : List ℕ
+  pub price : ℤ
+  pub min : ℕ
+  pub max : ℕ
+  pub least : List (Option ℤ)
+  pub most : List (Option ℤ)
+
+-- an arc, by the numbers of its two ends
+pub record Arc : Type 0 where
+  pub from : ℕ
+  pub to : ℕ
+
+-- Sources, pools, products and qualities are numbered from 0 in file order. The arcs are kept by kind, each kind in
+-- file order: feeds go from a source to a pool, outs from a pool to a product, directs from a source to a product.
+pub record Network : Type 0 where
+  pub qualities : List (List ℕ)
+  pub sources : List Source
+  pub pools : List Pool
+  pub products : List Product
+  pub feeds : List Arc
+  pub outs : List Arc
+  pub directs : List Arc
+
+-- ---- the same by number
+
+-- Counts, the ends of the arcs by number, and the numbers of each node. What stands behind a count has no meaning.
+pub record Net : Type 0 where
+  pub sources : ℕ
+  pub pools : ℕ
+  pub products : ℕ
+  pub qualities : ℕ
+  pub feeds : ℕ
+  pub outs : ℕ
+  pub directs : ℕ
+  pub feed_source : ℕ → ℕ
+  pub feed_pool : ℕ → ℕ
+  pub out_pool : ℕ → ℕ
+  pub out_product : ℕ → ℕ
+  pub direct_source : ℕ → ℕ
+  pub direct_product : ℕ → ℕ
+  pub source_cost : ℕ → ℤ
+  pub source_max : ℕ → ℕ
+  pub source_quality : ℕ → ℕ → ℤ
+  pub pool_max : ℕ → ℕ
+  pub price : ℕ → ℤ
+  pub product_min : ℕ → ℕ
+  pub product_max : ℕ → ℕ
+  pub least : ℕ → ℕ → Option ℤ
+  pub most : ℕ → ℕ → Option ℤ
+
+-- what stands behind the end of a list
+abbrev pub no_source : Source
+no_source = record { name = []; cost = pos 0; max = 0; quality = [] }
+
+abbrev pub no_pool : Pool
+no_pool = record { name = []; max = 0 }
+
+abbrev pub no_product : Product
+no_product = record { name = []; price = pos 0; min = 0; max = 0; least = []; most = [] }
+
+abbrev pub no_arc : Arc
+no_arc = record { from = 0; to = 0 }
+
+unfoldable pub net_of : Network → Net
+net_of n = record {
+  sources = length n.sources;
+  pools = length n.pools;
+  products = length n.products;
+  qualities = length n.qualities;
+  feeds = length n.feeds;
+  outs = length n.outs;
+  directs = length n.directs;
+  feed_source = λ e. (get_or n.feeds e no_arc).from;
+  feed_pool = λ e. (get_or n.feeds e no_arc).to;
+  out_pool = λ o. (get_or n.outs o no_arc).from;
+  out_product = λ o. (get_or n.outs o no_arc).to;
+  direct_source = λ e. (get_or n.directs e no_arc).from;
+  direct_product = λ e. (get_or n.directs e no_arc).to;
+  source_cost = λ i. (get_or n.sources i no_source).cost;
+  source_max = λ i. (get_or n.sources i no_source).max;
+  source_quality = λ i k. get_or (get_or n.sources i no_source).quality k (pos 0);
+  pool_max = λ l. (get_or n.pools l no_pool).max;
+  price = λ j. (get_or n.products j no_product).price;
+  product_min = λ j. (get_or n.products j no_product).min;
+  product_max = λ j. (get_or n.products j no_product).max;
+  least = λ j k. get_or (get_or n.products j no_product).least k None;
+  most = λ j k. get_or (get_or n.products j no_product).most k None;
+}
+
+-- sources, pools, products, qualities, feeds, outs, directs
+abbrev pub counts_of : Net → List ℕ
+counts_of n = n.sources ∷ n.pools ∷ n.products ∷ n.qualities ∷ n.feeds ∷ n.outs ∷ n.directs ∷ []
+
+-- ---- limits
+
+-- at most this size
+abbrev pub IsWithin : ℕ → ℤ → Type 0
+IsWithin size z = (neg_ℤ (pos size) ≤ℤ z) × (z ≤ℤ pos size)
+
+-- The counts, numbers and ends of a network that is read stay within these limits.
+pub record IsLimited (n : Net) : Type 0 where
+  pub sources : n.sources ≤ 64
+  pub pools : n.pools ≤ 16
+  pub products : n.products ≤ 64
+  pub qualities : n.qualities ≤ 8
+  pub feeds : n.feeds ≤ 256
+  pub outs : n.outs ≤ 256
+  pub directs : n.directs ≤ 256
+  pub feed_sources : (e : ℕ) → e < n.feeds → n.feed_source e < n.sources
+  pub feed_pools : (e : ℕ) → e < n.feeds → n.feed_pool e < n.pools
+  pub out_pools : (o : ℕ) → o < n.outs → n.out_pool o < n.pools
+  pub out_products : (o : ℕ) → o < n.outs → n.out_product o < n.products
+  pub direct_sources : (e : ℕ) → e < n.directs → n.direct_source e < n.sources
+  pub direct_products : (e : ℕ) → e < n.directs → n.direct_product e < n.products
+  pub source_costs : (i : ℕ) → i < n.sources → IsWithin (10 ^ 12) (n.source_cost i)
+  pub source_maxima : (i : ℕ) → i < n.sources → n.source_max i ≤ 10 ^ 14
+  pub source_qualities : (i k : ℕ) → i < n.sources → k < n.qualities → IsWithin (10 ^ 11) (n.source_quality i k)
+  pub pool_maxima : (l : ℕ) → l < n.pools → n.pool_max l ≤ 10 ^ 14
+  pub prices : (j : ℕ) → j < n.products → IsWithin (10 ^ 12) (n.price j)
+  pub product_minima : (j : ℕ) → j < n.products → n.product_min j ≤ n.product_max j
+  pub product_maxima : (j : ℕ) → j < n.products → n.product_max j ≤ 10 ^ 12
+  pub least_limits : (j k : ℕ) (u : ℤ) → j < n.products → k < n.qualities → n.least j k ≡ Some u → IsWithin (10 ^ 11) u
+  pub most_limits : (j k : ℕ) (u : ℤ) → j < n.products → k < n.qualities → n.most j k ≡ Some u → IsWithin (10 ^ 11) u

@@ -1,0 +1,30 @@
+-- The paths of a network: a feed and an out of one pool.
+use Rattle.std.specs.Prelude.{ℕ, zero, suc, List, [], ◌∷◌, ◌++◌, map, if◌then◌else◌, ◌==◌}
+use Rattle.std.specs.List.{flat_map}
+use Rattle.pool_model.specs.Network.{Net}
+
+pub record Path : Type 0 where
+  pub feed : ℕ
+  pub out : ℕ
+
+-- the numbers below a count that have this key
+abbrev pub numbers_at : (ℕ → ℕ) → ℕ → ℕ → List ℕ
+numbers_at key k zero = []
+numbers_at key k (suc n) = numbers_at key k n ++ (if key n == k then n ∷ [] else [])
+
+-- the paths that begin with a feed
+abbrev pub feed_paths : Net → ℕ → List Path
+feed_paths n e = map (λ o. record { feed = e; out = o }) (numbers_at n.out_pool (n.feed_pool e) n.outs)
+
+-- the paths through a pool
+abbrev pub pool_paths : Net → ℕ → List Path
+pool_paths n l = flat_map (feed_paths n) (numbers_at n.feed_pool l n.feeds)
+
+-- the paths through the pools below a number
+abbrev pub paths_below : Net → ℕ → List Path
+paths_below n zero = []
+paths_below n (suc l) = paths_below n l ++ pool_paths n l
+
+-- ordered by pool, then by feed, then by out
+abbrev pub paths_of : Net → List Path
+paths_of n = paths_below n n.pools

@@ -1,0 +1,135 @@
+-- The starting plans, which the solver tries first, and the bound that margins alone give.
+use Rattle.std.specs.Prelude.{◌≡◌, ℕ, zero, suc, ◌<◌, min, List, [], ◌∷◌, ◌++◌, Bool, true, ◌&&◌, ◌==◌, if◌then◌else◌, ◌⊎◌, Option, Some, None, ℤ, pos, neg_ℤ, ◌-ℤ◌, ◌*ℤ◌, int_le}
+use Rattle.std.specs.Int.{int_min, int_max}
+use Rattle.integers.specs.Sums.{int_sum_below, sum_at}
+use Rattle.pool_model.specs.Network.{Net}
+use Rattle.pool_model.specs.Plan.{Written}
+
+-- f 0, f 1, up to f (n - 1)
+abbrev pub tabulate : {X : Type 0} → (ℕ → X) → ℕ → List X
+tabulate f zero = []
+tabulate f (suc n) = tabulate f n ++ f n ∷ []
+
+-- every pool has a feed
+abbrev pub HasFeeds : Net → Type 0
+HasFeeds n = (l : ℕ) → l < n.pools → (e : ℕ) × (e < n.feeds) × (n.feed_pool e ≡ l)
+
+-- no product must take anything
+abbrev pub HasNoMinima : Net → Type 0
+HasNoMinima n = (j : ℕ) → j < n.products → n.product_min j ≡ 0
+
+-- ---- the zero plan
+
+-- how many feeds of its pool stand before a feed
+abbrev pub feeds_before : Net → ℕ → ℕ
+feeds_before n e = sum_at n.feed_pool (n.feed_pool e) (λ _. 1) e
+
+-- all of a pool's weight stands on its first feed
+abbrev pub first_weight : Net → ℕ → ℕ
+first_weight n e = if feeds_before n e == 0 then 1 else 0
+
+-- nothing flows
+abbrev pub zero_plan : Net → Written
+zero_plan n = record {
+  base = 1;
+  flow_base = 1;
+  weights = tabulate (first_weight n) n.feeds;
+  outflows = tabulate (λ _. 0) n.outs;
+  direct = tabulate (λ _. 0) n.directs;
+}
+
+-- ---- simple plans: one way alone, as far as it carries
+
+-- a way from a source to a product: through a pool, by a feed and an out, or direct
+pub data Way : Type 0 where
+  through : (feed out : ℕ) → Way
+  straight : (direct : ℕ) → Way
+
+abbrev pub IsWay : Net → Way → Type 0
+IsWay n (through e o) = (e < n.feeds) × (o < n.outs) × (n.feed_pool e ≡ n.out_pool o)
+IsWay n (straight e) = e < n.directs
+
+-- whether a quality lies between two limits, where they are set
+abbrev pub is_above : Option ℤ → ℤ → Bool
+is_above None q = true
+is_above (Some least) q = int_le least q
+
+abbrev pub is_below : Option ℤ → ℤ → Bool
+is_below None q = true
+is_below (Some most) q = int_le q most
+
+-- whether a test passes at each number below a count
+abbrev pub all_below : (ℕ → Bool) → ℕ → Bool
+all_below test zero = true
+all_below test (suc n) = all_below test n && test n
+
+-- whether each quality of a source lies between a product's limits
+abbrev pub suits : Net → ℕ → ℕ → Bool
+suits n i j = all_below (λ k. is_above (n.least j k) (n.source_quality i k) && is_below (n.most j k) (n.source_quality i k)) n.qualities
+
+-- how much a way alone carries: the least of the maxima along it, or nothing where a quality breaks a limit
+abbrev pub direct_flow : Net → ℕ → ℕ
+direct_flow n e =
+    if suits n (n.direct_source e) (n.direct_product e) then min (n.source_max (n.direct_source e)) (n.product_max (n.direct_product e)) else 0
+
+abbrev pub path_flow : Net → ℕ → ℕ → ℕ
+path_flow n e o =
+    if suits n (n.feed_source e) (n.out_product o) then min (n.source_max (n.feed_source e)) (min (n.pool_max (n.out_pool o)) (n.product_max (n.out_product o))) else 0
+
+-- an amount at one number, and 0 at all others
+abbrev pub alone : ℕ → ℕ → ℕ → ℕ
+alone at amount i = if i == at then amount else 0
+
+-- the zero plan, with what the way carries along it, and all weight of its pool on its feed
+abbrev pub simple_plan : Net → Way → Written
+simple_plan n (through e o) = record {
+  base = 1;
+  flow_base = 1;
+  weights = tabulate (λ f. if n.feed_pool f == n.feed_pool e then alone e 1 f else first_weight n f) n.feeds;
+  outflows = tabulate (alone o (path_flow n e o)) n.outs;
+  direct = tabulate (λ _. 0) n.directs;
+}
+simple_plan n (straight e) = record {
+  base = 1;
+  flow_base = 1;
+  weights = tabulate (first_weight n) n.feeds;
+  outflows = tabulate (λ _. 0) n.outs;
+  direct = tabulate (alone e (direct_flow n e)) n.directs;
+}
+
+-- the plans that the solver tries first
+abbrev pub IsStarting : Net → Written → Type 0
+IsStarting n w = (w ≡ zero_plan n) ⊎ ((way : Way) × IsWay n way × (w ≡ simple_plan n way))
+
+-- ---- the reach bound
+
+-- the lesser of two costs that may be absent
+abbrev pub lesser : Option ℤ → Option ℤ → Option ℤ
+lesser None b = b
+lesser (Some a) None = Some a
+lesser (Some a) (Some b) = Some (int_min a b)
+
+-- the least of those that are there, below a count
+abbrev pub least_below : (ℕ → Option ℤ) → ℕ → Option ℤ
+least_below f zero = None
+least_below f (suc n) = lesser (least_below f n) (f n)
+
+-- the least cost of the sources that feed a pool
+abbrev pub pool_cost : Net → ℕ → Option ℤ
+pool_cost n l = least_below (λ e. if n.feed_pool e == l then Some (n.source_cost (n.feed_source e)) else None) n.feeds
+
+-- the least cost of the sources that reach a product, by a direct or through a pool
+abbrev pub reach_cost : Net → ℕ → Option ℤ
+reach_cost n j =
+    lesser
+    (least_below (λ e. if n.direct_product e == j then Some (n.source_cost (n.direct_source e)) else None) n.directs)
+    (least_below (λ o. if n.out_product o == j then pool_cost n (n.out_pool o) else None) n.outs)
+
+-- what a unit at this price earns at the most, where it costs at least that
+abbrev pub margin : Option ℤ → ℤ → ℤ
+margin None price = pos 0
+margin (Some cost) price = int_max (pos 0) (price -ℤ cost)
+
+-- No plan costs less: each product full, at its best margin. In picos.
+abbrev pub reach_bound : Net → ℤ
+reach_bound n = neg_ℤ (int_sum_below (λ j. pos (n.product_max j) *ℤ margin (reach_cost n j) (n.price j)) n.products)
