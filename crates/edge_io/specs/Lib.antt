@@ -1,0 +1,6 @@
+pub mod Counts
+pub mod Files
+pub mod Writing
+pub mod MemFiles
+pub mod MemSinks
+pub mod MemShelves

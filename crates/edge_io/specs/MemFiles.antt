@@ -1,0 +1,7 @@
+-- Files in memory, without where they lie.
+use Rattle.std.specs.Prelude.{ℕ, List, map, string_bytes, String, Vec}
+use Rattle.std.specs.declared.alloc.Global.{Global}
+
+-- names with bytes
+abbrev pub files_of : List (String Global × Vec ℕ Global) → List (List ℕ × List ℕ)
+files_of files = map (λ f. (string_bytes f.0, f.1.items)) files

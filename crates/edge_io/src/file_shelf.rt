@@ -1,0 +1,66 @@
+//! Files of the system.
+
+ghost use Rattle.std.specs.Prelude.{◌≡◌, None, true};
+
+use crate::fault::ShelfFault;
+use crate::shelf::Shelf;
+use std::alloc::Global;
+use std::io::{ErrorKind, Read};
+use std::rt::Files;
+use std::{fs, io};
+
+/// The files of the system, by their paths. It admits every name.
+#[derive(Drop)]
+pub struct FileShelf<R: Files> {
+    files: R,
+    taken: u64,
+    faults: u64,
+}
+
+impl<R: Files> FileShelf<R> {
+    /// Over the files of the runtime.
+    pub fn new(files: R) -> FileShelf<R>
+        ensures unread { ⟦<FileShelf<R> as Shelf>⟧.taken result ≡ 0 }
+        ensures sound { ⟦<FileShelf<R> as Shelf>⟧.faults result ≡ 0 }
+    {
+        FileShelf {
+            files,
+            taken: 0,
+            faults: 0,
+        }
+    }
+
+    /// Reads a file into `bytes`, at most `limit` bytes of it.
+    fn read(&self, name: &str, limit: u64, bytes: &mut Vec<u8>) -> io::Result<()> {
+        let file = fs::open(&self.files, name)?;
+        file.take(limit).read_to_end(bytes)?;
+        Ok(())
+    }
+}
+
+impl<R: Files> Shelf for FileShelf<R> {
+    ghost files = { λ _. None };
+
+    ghost taken = { λ s. s.taken };
+
+    ghost faults = { λ s. s.faults };
+
+    ghost admits = { λ _ _. true };
+
+    /// Reads at most one byte more than `most`, so a file that is too long, or has no end, is never read whole.
+    fn read_all(&mut self, alloc: Global, name: &str, most: usize) -> Result<Vec<u8>, ShelfFault> {
+        let mut bytes = Vec::new(alloc);
+        let limit = (most as u64).saturating_add(1);
+        let outcome = self.read(name, limit, &mut bytes);
+        self.taken = self.taken.saturating_add(bytes.len() as u64);
+        match outcome {
+            Ok(()) if bytes.len() > most => Err(ShelfFault::TooLong),
+            Ok(()) => Ok(bytes),
+            Err(e) if e.kind() == ErrorKind::OutOfMemory => Err(ShelfFault::Memory),
+            Err(_) => {
+                self.faults = self.faults.saturating_add(1);
+                Err(ShelfFault::Failed)
+            }
+        }
+    }
+}
