@@ -1,0 +1,9 @@
+pub mod Mapped
+pub mod Margins
+pub mod NameTables
+pub mod Lookups
+pub mod Firsts
+pub mod Joined
+pub mod Built
+pub mod Faultless
+pub mod PathLists

@@ -1,0 +1,12 @@
+use Rattle.std.proofs.Common.{ap, arith}
+use Rattle.std.proofs.lemmas.Int.{ints}
+use Rattle.pool_model.specs.Network.{net_of, no_pool}
+use Rattle.blend_network.specs.Shown.{shown_pool}
+use Rattle.blend_network.proofs.Mapped.{read-map}
+use Rattle.blend_network.proofs.network.Network.pool_max.Goals as goal
+
+pub overflow_cast-result : goal.overflow_cast-result
+unfolding net_of
+overflow_cast-result c =
+    let e = read-map shown_pool c.self.inside.pools.items c.args.n c.index.result.now no_pool (search arith) c.index.ensures in
+    omega (arith, ints, c.self.invariant.limited.pool_maxima c.args.n (search arith), ap (λ s. s.max) e)

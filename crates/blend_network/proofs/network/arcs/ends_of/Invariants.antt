@@ -1,0 +1,7 @@
+use Rattle.std.proofs.Common.{◌≡◌, map, take}
+use Rattle.blend_network.specs.Parts.{rows_of}
+use Rattle.blend_network.specs.Nodes.{known, nodes_of}
+use Rattle.blend_network.proofs.network.arcs.ends_of.Given as goal
+
+abbrev pub invariant-loop-arc : goal.invariant-loop-arc
+invariant-loop-arc l = map known l.ends.items ≡ take l.arc-index (map (nodes_of (rows_of l.parts)) (rows_of l.parts).arcs)

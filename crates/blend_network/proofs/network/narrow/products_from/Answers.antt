@@ -1,0 +1,15 @@
+use Rattle.std.specs.Vec.Iter.{into_iter_items}
+use Rattle.std.proofs.lemmas.List.Elements.{All-rest}
+use Rattle.pool_model.specs.Naming.{product_of}
+use Rattle.blend_network.specs.Parts.{product_row}
+use Rattle.blend_network.specs.Faults.{IsProductInRange}
+use Rattle.blend_network.specs.Shown.{shown_product}
+use Rattle.blend_network.proofs.Mapped.{made_more}
+use Rattle.blend_network.proofs.network.narrow.products_from.Goals as goal
+
+pub loop-row-preserved : goal.loop-row-preserved
+loop-row-preserved c = record {
+  made = made_more shown_product product_of product_row c.loop-row.products.items c.push.new.self.items (into_iter_items c.loop-row.row-iterator) (into_iter_items c.next.new.self) c.in_ok-product_from.field-0 c.in-Some.row
+      _ c.loop-row.invariant.made c.in-Some.ensures.steps.0 c.in_ok-push.ensures.items c.in_ok-product_from.ensures;
+  ranges = All-rest (λ s. IsProductInRange (product_row s)) c.in-Some.row (into_iter_items c.next.new.self) (into_iter_items c.loop-row.row-iterator) c.in-Some.ensures.steps.0 c.loop-row.invariant.ranges;
+}

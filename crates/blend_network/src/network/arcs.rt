@@ -1,0 +1,222 @@
+//! The arcs of a file, with the names of their ends looked up.
+
+ghost use Rattle.std.specs.Prelude.{◌≡◌, ◌<◌, ◌≤◌, map, length, IfOk, IfSome, ◌↔◌, IsTrue, Contains};
+ghost use Rattle.std.specs.List.{filter_map};
+ghost use Rattle.blend_network.specs.Parts.{rows_of, arc_ends};
+ghost use Rattle.blend_network.specs.Shown.{kept_arc};
+ghost use Rattle.std.specs.Option.{option_map};
+ghost use Rattle.blend_network.specs.Names.{names_in};
+ghost use Rattle.blend_network.specs.Faults.{node_names, IsFirst};
+ghost use Rattle.blend_network.specs.Checks.{IsMarked, IsRepeatedEnds, IsJoined, AreArcsOf};
+ghost use Rattle.blend_network.specs.Nodes.{node_of, nodes_of, known, node_by_place, feed_between, out_between, direct_between, is_backward, is_between_pools};
+
+use super::names::find_name;
+use super::paths::paths_from;
+use super::{Arc, Path};
+use crate::parts::Parts;
+use indexmap::IndexSet;
+use std::alloc::{AllocError, Global};
+
+/// A node, by its number in its kind.
+#[derive(Clone, Copy, Debug, PartialEq, Eq)]
+pub(super) enum Node {
+    Source(u32),
+    Pool(u32),
+    Product(u32),
+}
+
+/// The nodes at the two ends of an arc.
+#[derive(Clone, Copy, Debug, PartialEq, Eq)]
+pub(super) struct Ends {
+    from: Node,
+    to: Node,
+}
+
+impl Ends {
+    fn is_backward(self) -> bool
+        ensures { result ≡ is_backward self }
+    {
+        matches!(self.from, Node::Product(_)) || matches!(self.to, Node::Source(_))
+    }
+
+    fn is_between_pools(self) -> bool
+        ensures { result ≡ is_between_pools self }
+    {
+        matches!(self.from, Node::Pool(_)) && matches!(self.to, Node::Pool(_))
+    }
+}
+
+/// The ends of each arc. None where an end names no node.
+pub(super) fn ends_of(
+    alloc: Global,
+    parts: &Parts,
+    names: &IndexSet<&str>,
+) -> Result<Option<Vec<Ends>>, AllocError>
+    requires names { names_in names.now ≡ node_names (rows_of parts.now) }
+    requires count { length (node_names (rows_of parts.now)) ≤ 256 }
+    ensures { IfOk result (λ found. IfSome found (λ ends. map known ends.items ≡ map (nodes_of (rows_of parts.now)) (rows_of parts.now).arcs)) }
+{
+    let mut ends = Vec::new(alloc);
+    for arc in &parts.arcs {
+        match (
+            find_node(parts, names, arc.0.as_str()),
+            find_node(parts, names, arc.1.as_str()),
+        ) {
+            (Some(from), Some(to)) => ends.push(Ends { from, to })?,
+            _ => return Ok(None),
+        }
+    }
+    Ok(Some(ends))
+}
+
+/// The node that has this name.
+fn find_node(parts: &Parts, names: &IndexSet<&str>, name: &str) -> Option<Node>
+    requires names { names_in names.now ≡ node_names (rows_of parts.now) }
+    requires count { length (node_names (rows_of parts.now)) ≤ 256 }
+    ensures { result ≡ node_of (rows_of parts.now) name.now }
+{
+    let n = find_name(names, name)?;
+    Some(node_at(
+        n as u32,
+        parts.sources.len() as u32,
+        parts.pools.len() as u32,
+    ))
+}
+
+/// The node at a place among the sources, then the pools, then the products.
+fn node_at(n: u32, sources: u32, pools: u32) -> Node
+    ensures { result ≡ node_by_place sources pools n }
+{
+    if n < sources {
+        Node::Source(n)
+    } else if n - sources < pools {
+        Node::Pool(n - sources)
+    } else {
+        Node::Product(n - sources - pools)
+    }
+}
+
+/// The arcs by kind, and the paths that they make.
+#[derive(Debug, Drop)]
+pub(super) struct Arcs {
+    pub(super) feeds: Vec<Arc>,
+    pub(super) outs: Vec<Arc>,
+    pub(super) directs: Vec<Arc>,
+    pub(super) paths: Vec<Path>,
+}
+
+/// The arcs of the rows, whose ends are these.
+pub(super) fn arcs_from(alloc: Global, parts: &Parts, ends: &[Ends]) -> Result<Arcs, AllocError>
+    requires { IsJoined (rows_of parts.now) ends.now }
+    ensures { IfOk result (AreArcsOf (rows_of parts.now)) }
+{
+    let feeds = feeds_of(alloc, ends)?;
+    let outs = outs_of(alloc, ends)?;
+    let directs = directs_of(alloc, ends)?;
+    let paths = paths_from(alloc, parts.pools.len() as u32, &feeds, &outs)?;
+    Ok(Arcs {
+        feeds,
+        outs,
+        directs,
+        paths,
+    })
+}
+
+/// The feeds among the arcs.
+fn feeds_of(alloc: Global, ends: &[Ends]) -> Result<Vec<Arc>, AllocError>
+    ensures { IfOk result (λ v. v.items ≡ filter_map (λ e. option_map kept_arc (feed_between (known e))) ends.now) }
+{
+    ends.iter()
+        .filter_map(|pair| feed_from(*pair))
+        .collect(alloc)
+}
+
+fn feed_from(ends: Ends) -> Option<Arc>
+    ensures { result ≡ option_map kept_arc (feed_between (known ends)) }
+{
+    match (ends.from, ends.to) {
+        (Node::Source(from), Node::Pool(to)) => Some(Arc { from, to }),
+        _ => None,
+    }
+}
+
+/// The outs among the arcs.
+fn outs_of(alloc: Global, ends: &[Ends]) -> Result<Vec<Arc>, AllocError>
+    ensures { IfOk result (λ v. v.items ≡ filter_map (λ e. option_map kept_arc (out_between (known e))) ends.now) }
+{
+    ends.iter()
+        .filter_map(|pair| out_from(*pair))
+        .collect(alloc)
+}
+
+fn out_from(ends: Ends) -> Option<Arc>
+    ensures { result ≡ option_map kept_arc (out_between (known ends)) }
+{
+    match (ends.from, ends.to) {
+        (Node::Pool(from), Node::Product(to)) => Some(Arc { from, to }),
+        _ => None,
+    }
+}
+
+/// The directs among the arcs.
+fn directs_of(alloc: Global, ends: &[Ends]) -> Result<Vec<Arc>, AllocError>
+    ensures { IfOk result (λ v. v.items ≡ filter_map (λ e. option_map kept_arc (direct_between (known e))) ends.now) }
+{
+    ends.iter()
+        .filter_map(|pair| direct_from(*pair))
+        .collect(alloc)
+}
+
+fn direct_from(ends: Ends) -> Option<Arc>
+    ensures { result ≡ option_map kept_arc (direct_between (known ends)) }
+{
+    match (ends.from, ends.to) {
+        (Node::Source(from), Node::Product(to)) => Some(Arc { from, to }),
+        _ => None,
+    }
+}
+
+/// The first arc that starts at a product or ends at a source.
+pub(super) fn first_backward(ends: &[Ends]) -> Option<u32>
+    requires { length ends.now ≤ 256 }
+    ensures { IsFirst (IsMarked is_backward ends.now) result }
+{
+    for n in 0..ends.len() {
+        if ends[n].is_backward() {
+            return Some(n as u32);
+        }
+    }
+    None
+}
+
+/// The first arc from a pool to a pool.
+pub(super) fn first_between_pools(ends: &[Ends]) -> Option<u32>
+    requires { length ends.now ≤ 256 }
+    ensures { IsFirst (IsMarked is_between_pools ends.now) result }
+{
+    for n in 0..ends.len() {
+        if ends[n].is_between_pools() {
+            return Some(n as u32);
+        }
+    }
+    None
+}
+
+/// The first arc with the same two ends as an earlier one.
+pub(super) fn first_repeat(ends: &[Ends]) -> Option<u32>
+    requires { length ends.now ≤ 256 }
+    ensures { IsFirst (IsRepeatedEnds ends.now) result }
+{
+    for n in 0..ends.len() {
+        if is_among(&ends[..n], ends[n]) {
+            return Some(n as u32);
+        }
+    }
+    None
+}
+
+fn is_among(ends: &[Ends], pair: Ends) -> bool
+    ensures { IsTrue result ↔ Contains ends.now pair }
+{
+    ends.contains(&pair)
+}

@@ -1,0 +1,118 @@
+//! The bound on cost that margins alone give.
+
+ghost use Rattle.std.specs.Prelude.{◌≡◌, ◌<◌, ◌≤◌, ◌*◌, ◌^◌, ℤ, pos, ◌*ℤ◌, ◌≤ℤ◌, unsigned_abs};
+ghost use Rattle.std.specs.Option.{ForSome};
+ghost use Rattle.pool_model.specs.Network.{net_of, IsWithin};
+ghost use Rattle.pool_model.specs.Starting.{lesser, pool_cost, reach_cost, margin, reach_bound};
+ghost use Rattle.blend_network.specs.Reach.{direct_cost, through_cost};
+ghost use Rattle.blend_network.specs.Faults.{IsUpTo};
+
+use super::Network;
+
+impl Network {
+    /// No plan costs less than this, in picos: each product full, at its best margin over the sources that reach it. A
+    /// product that no source reaches earns nothing.
+    pub fn reach_bound(&self) -> i128
+        ensures bound { result ≡ reach_bound (net_of self.now) }
+        ensures size { unsigned_abs result ≤ 128 * 10 ^ 24 }
+    {
+        let mut earned: i128 = 0;
+        for j in 0..self.products.len() as u32 {
+            let margin = best_margin(self.reach_cost(j), self.product_price(j));
+            earned += earnings(self.product_max(j), margin);
+        }
+        -earned
+    }
+
+    /// The least cost of the sources that reach the product.
+    fn reach_cost(&self, product: u32) -> Option<i64>
+        ensures { result ≡ reach_cost (net_of self.now) product }
+    {
+        lesser_cost(self.direct_cost(product), self.through_cost(product))
+    }
+
+    /// The least cost of the sources that reach the product directly.
+    fn direct_cost(&self, product: u32) -> Option<i64>
+        ensures { result ≡ direct_cost (net_of self.now) product }
+    {
+        let mut least = None;
+        for e in 0..self.directs.len() as u32 {
+            let (source, to) = self.direct(e);
+            let cost = if to == product {
+                Some(self.source_cost(source))
+            } else {
+                None
+            };
+            least = lesser_cost(least, cost);
+        }
+        least
+    }
+
+    /// The least cost of the sources that reach the product through a pool.
+    fn through_cost(&self, product: u32) -> Option<i64>
+        ensures { result ≡ through_cost (net_of self.now) product }
+    {
+        let mut least = None;
+        for o in 0..self.outs.len() as u32 {
+            let (pool, to) = self.out(o);
+            let cost = if to == product {
+                self.pool_cost(pool)
+            } else {
+                None
+            };
+            least = lesser_cost(least, cost);
+        }
+        least
+    }
+
+    /// The least cost of the sources that feed the pool.
+    fn pool_cost(&self, pool: u32) -> Option<i64>
+        ensures { result ≡ pool_cost (net_of self.now) pool }
+    {
+        let mut least = None;
+        for e in 0..self.feeds.len() as u32 {
+            let (source, to) = self.feed(e);
+            let cost = if to == pool {
+                Some(self.source_cost(source))
+            } else {
+                None
+            };
+            least = lesser_cost(least, cost);
+        }
+        least
+    }
+}
+
+/// The lesser of two costs that may be absent.
+fn lesser_cost(a: Option<i64>, b: Option<i64>) -> Option<i64>
+    ensures { result ≡ lesser a b }
+{
+    match (a, b) {
+        (Some(x), Some(y)) => Some(x.min(y)),
+        (Some(x), None) => Some(x),
+        (None, other) => other,
+    }
+}
+
+/// What a unit at this price earns at the most, where it costs at least that.
+fn best_margin(cost: Option<i64>, price: i64) -> i64
+    requires cost { ForSome cost (IsWithin (10 ^ 12)) }
+    requires price { IsWithin (10 ^ 12) price }
+    ensures margin { result ≡ margin cost price }
+    ensures size { IsUpTo (2 * 10 ^ 12) result }
+{
+    match cost {
+        Some(cost) if cost < price => price - cost,
+        _ => 0,
+    }
+}
+
+/// What this much flow earns at this margin.
+fn earnings(flow: i64, margin: i64) -> i128
+    requires flow { IsUpTo (10 ^ 12) flow }
+    requires margin { IsUpTo (2 * 10 ^ 12) margin }
+    ensures earnings { result ≡ flow *ℤ margin }
+    ensures size { IsUpTo (2 * 10 ^ 24) result }
+{
+    i128::from(flow) * i128::from(margin)
+}
