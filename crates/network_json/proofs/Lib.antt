@@ -1,0 +1,5 @@
+pub mod Lists
+pub mod Each
+pub mod Bytes
+pub mod Widths
+pub mod Found

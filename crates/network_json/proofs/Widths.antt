@@ -1,0 +1,120 @@
+-- What is read has one place for each quality in every list of qualities.
+use Rattle.std.proofs.Common.{◌≡◌, ℕ, pos, ◌+◌, suc, List, [], ◌∷◌, length, Option, Some, None, Result, Ok, Err, refl, ap, subst, codes}
+use Rattle.std.specs.Prelude.{IfOk}
+use Rattle.std.specs.List.{AllByRecursion}
+use Rattle.std.proofs.lemmas.List.Elements.{All-from_recursion}
+use Rattle.serde_json.specs.Data.{Data}
+use Rattle.serde_json.specs.Find.{get}
+use Rattle.pool_model.specs.Rows.{SourceRow, ProductRow, Rows, IsRectangular}
+use Rattle.blend_network.specs.Parts.{rows_of}
+use Rattle.blend_network.specs.declared.parts.Parts.{Parts}
+use Rattle.network_json.specs.declared.fault.Section.{Section}
+use Rattle.network_json.specs.declared.fault.Section.TheVariants.{Qualities, Sources, Pools, Products, Arcs}
+use Rattle.network_json.specs.declared.fault.Place.{Place}
+use Rattle.network_json.specs.declared.fault.ReadNet.{ReadNet}
+use Rattle.network_json.specs.Walk.{◌>>=◌, Walk, Gives, each, rows, place, top, object, needs, allows, ignored, if_there, present, list, items, text, quantity, version}
+use Rattle.network_json.specs.Format.{quality, limit, limits, no_limits, source, pool, product, arc, lists, network}
+
+-- ---- facts of what a walk gives
+
+-- from a fact of the first step
+bind_if : {A B : Type 0} (P : A → Type 0) (Q : B → Type 0) (r : Result A ReadNet) (f : A → Result B ReadNet) → IfOk r P → ((x : A) → P x → IfOk (f x) Q) → IfOk (r >>= f) Q
+bind_if P Q (Ok x) f p h = h x p
+bind_if P Q (Err e) f p h = tt
+
+-- whatever the first step gives
+bind_any : {A B : Type 0} (Q : B → Type 0) (r : Result A ReadNet) (f : A → Result B ReadNet) → ((x : A) → IfOk (f x) Q) → IfOk (r >>= f) Q
+bind_any Q (Ok x) f h = h x
+bind_any Q (Err e) f h = tt
+
+there_if : {X : Type 0} (P : X → Type 0) (walk : Walk X) (absent : X) (o : Option Data) → P absent → ((d : Data) → IfOk (walk d) P) → IfOk (if_there walk absent o) P
+there_if P walk absent None h all = h
+there_if P walk absent (Some d) h all = all d
+
+needs_if : {X : Type 0} (P : X → Type 0) (at : Place) (k : List ℕ) (walk : Walk X) → ((d : Data) → IfOk (walk d) P) → (d : Data) → IfOk (needs at k walk d) P
+needs_if P at k walk h d = bind_any P (present at k d) walk h
+
+length-each : {A X : Type 0} (w : ℕ → A → Result X ReadNet) (n : ℕ) (ds : List A) → IfOk (each w n ds) (λ xs. length xs ≡ length ds)
+length-each w n [] = refl
+length-each w n (d ∷ ds) = bind_any _ (w n d) _ (λ x. bind_if (λ xs. length xs ≡ length ds) _ (each w (n + 1) ds) _ (length-each w (n + 1) ds) (λ xs h. ap suc h))
+
+each_if : {A X : Type 0} (P : X → Type 0) (w : ℕ → A → Result X ReadNet) → ((n : ℕ) (d : A) → IfOk (w n d) P) → (n : ℕ) (ds : List A) → IfOk (each w n ds) (AllByRecursion P)
+each_if P w h n [] = tt
+each_if P w h n (d ∷ ds) = bind_if P _ (w n d) _ (h n d) (λ x p. bind_if (AllByRecursion P) _ (each w (n + 1) ds) _ (each_if P w h (n + 1) ds) (λ xs ps. (p, ps)))
+
+list_if : {X : Type 0} (P : X → Type 0) (k : List ℕ) (section : Section) (walk : Place → Walk X) → ((at : Place) (d : Data) → IfOk (walk at d) P) → (d : Data) → IfOk (needs top k (list section walk) d) (AllByRecursion P)
+unfolding rows
+list_if P k section walk h d = needs_if (AllByRecursion P) top k (list section walk) (λ e. bind_any (AllByRecursion P) (items top e) (rows section walk) (λ ds. each_if P (λ n. walk (place section n)) (λ n. h (place section n)) 0 ds)) d
+
+-- ---- one place for each name
+
+quality_wide : (names : List (List ℕ)) (at : Place) (d : Data) → IfOk (quality names at d) (λ qs. length qs ≡ length names)
+unfolding quality
+quality_wide names at d = bind_any _ (object at names [] d) _ (λ u. length-each _ 0 names)
+
+limits_wide : (names : List (List ℕ)) (at : Place) (d : Data) → IfOk (limits names at d) (λ us. length us ≡ length names)
+unfolding limits
+limits_wide names at d = bind_any _ (object at [] names d) _ (λ u. length-each _ 0 names)
+
+length-no_limits : (names : List (List ℕ)) → length (no_limits names) ≡ length names
+unfolding no_limits
+length-no_limits [] = refl
+length-no_limits (n ∷ ns) = ap suc (length-no_limits ns)
+
+source_wide : (names : List (List ℕ)) (at : Place) (d : Data) → IfOk (source names at d) (λ s. length s.quality ≡ length names)
+unfolding source
+source_wide names at d =
+    bind_any _ (object at (codes "name" ∷ codes "cost" ∷ codes "quality" ∷ []) (codes "max" ∷ []) d) _ (λ members.
+    bind_any _ (needs at (codes "name") (text at) d) _ (λ name.
+    bind_any _ (needs at (codes "cost") (quantity at) d) _ (λ cost.
+    bind_any _ (allows (codes "max") None (limit at) d) _ (λ max.
+    bind_if (λ qs. length qs ≡ length names) _ (needs at (codes "quality") (quality names at) d) _ (needs_if _ at (codes "quality") (quality names at) (quality_wide names at) d) (λ qs h. h)))))
+
+product_wide : (names : List (List ℕ)) (at : Place) (d : Data) → IfOk (product names at d) (λ p. (length p.least ≡ length names) × (length p.most ≡ length names))
+unfolding product
+product_wide names at d =
+    let wide = λ (k : List ℕ). there_if (λ us. length us ≡ length names) (limits names at) (no_limits names) (get k d) (length-no_limits names) (limits_wide names at) in
+    bind_any _ (object at (codes "name" ∷ codes "price" ∷ codes "max" ∷ []) (codes "min" ∷ codes "least" ∷ codes "most" ∷ []) d) _ (λ members.
+    bind_any _ (needs at (codes "name") (text at) d) _ (λ name.
+    bind_any _ (needs at (codes "price") (quantity at) d) _ (λ price.
+    bind_any _ (allows (codes "min") (pos 0) (quantity at) d) _ (λ min.
+    bind_any _ (needs at (codes "max") (quantity at) d) _ (λ max.
+    bind_if (λ us. length us ≡ length names) _ (allows (codes "least") (no_limits names) (limits names at) d) _ (wide (codes "least")) (λ least a.
+    bind_if (λ us. length us ≡ length names) _ (allows (codes "most") (no_limits names) (limits names at) d) _ (wide (codes "most")) (λ most b. (a, b))))))))
+
+-- ---- the file
+
+lists_wide : (names : List (List ℕ)) (d : Data) → IfOk (lists names d) IsRectangular
+unfolding lists
+lists_wide names d =
+    let narrow = λ (s : SourceRow). length s.quality ≡ length names in
+    let limited = λ (p : ProductRow). (length p.least ≡ length names) × (length p.most ≡ length names) in
+    bind_if (AllByRecursion narrow) _ (needs top (codes "sources") (list Sources (source names)) d) _ (list_if narrow (codes "sources") Sources (source names) (source_wide names) d) (λ sources wide.
+    bind_any _ (allows (codes "pools") [] (list Pools pool) d) _ (λ pools.
+    bind_if (AllByRecursion limited) _ (needs top (codes "products") (list Products (product names)) d) _ (list_if limited (codes "products") Products (product names) (product_wide names) d) (λ products limits.
+    bind_any _ (needs top (codes "arcs") (list Arcs arc) d) _ (λ arcs. record {
+      sources = All-from_recursion narrow sources wide;
+      least = All-from_recursion _ products (leasts products limits);
+      most = All-from_recursion _ products (mosts products limits);
+    }))))
+  where
+    leasts : (ps : List ProductRow) → AllByRecursion (λ p. (length p.least ≡ length names) × (length p.most ≡ length names)) ps → AllByRecursion (λ p. length p.least ≡ length names) ps
+    leasts [] h = tt
+    leasts (p ∷ ps) h = (h.0.0, leasts ps h.1)
+
+    mosts : (ps : List ProductRow) → AllByRecursion (λ p. (length p.least ≡ length names) × (length p.most ≡ length names)) ps → AllByRecursion (λ p. length p.most ≡ length names) ps
+    mosts [] h = tt
+    mosts (p ∷ ps) h = (h.0.1, mosts ps h.1)
+
+pub network_wide : (d : Data) → IfOk (network d) IsRectangular
+unfolding network
+network_wide d =
+    bind_any _ (object top (codes "version" ∷ codes "sources" ∷ codes "products" ∷ codes "arcs" ∷ []) (codes "title" ∷ codes "qualities" ∷ codes "pools" ∷ []) d) _ (λ members.
+    bind_any _ (needs top (codes "version") (version top) d) _ (λ one.
+    bind_any _ (ignored (allows (codes "title") [] (text top) d)) _ (λ title.
+    bind_any _ (allows (codes "qualities") [] (list Qualities text) d) _ (λ names. lists_wide names d))))
+
+-- the rows that a function returned
+pub rows_if : (P : Rows → Type 0) (r : Result Parts ReadNet) (walked : Result Rows ReadNet) → Gives rows_of r walked → IfOk walked P → IfOk r (λ p. P (rows_of p))
+rows_if P (Ok p) walked gives h = let Q : Result Rows ReadNet → Type 0 = λ w. IfOk w P in subst Q gives h
+rows_if P (Err e) walked gives h = tt

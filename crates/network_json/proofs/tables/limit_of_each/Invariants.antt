@@ -1,0 +1,8 @@
+use Rattle.std.proofs.Common.{◌≡◌, take, Ok, None}
+use Rattle.network_json.specs.Format.{limit}
+use Rattle.serde_json.specs.View.{view}
+use Rattle.network_json.specs.Walk.{each, allows, texts}
+use Rattle.network_json.proofs.tables.limit_of_each.Given as goal
+
+abbrev pub invariant-loop-name : goal.invariant-loop-name
+invariant-loop-name l = each (λ n k. allows k None (limit l.at) (view l.value)) 0 (texts (take l.name-index l.names)) ≡ Ok l.row.items

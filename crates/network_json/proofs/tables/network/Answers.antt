@@ -1,0 +1,8 @@
+use Rattle.std.proofs.Common.{rules}
+use Rattle.network_json.specs.Walk.{object}
+use Rattle.network_json.specs.Format.{network}
+use Rattle.network_json.proofs.tables.network.Goals as goal
+
+pub returns-in_err-open : goal.returns-in_err-open
+unfolding network object
+returns-in_err-open c = search rules

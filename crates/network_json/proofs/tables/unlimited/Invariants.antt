@@ -1,0 +1,7 @@
+use Rattle.std.proofs.Common.{◌≡◌, take}
+use Rattle.network_json.specs.Walk.{texts}
+use Rattle.network_json.specs.Format.{no_limits}
+use Rattle.network_json.proofs.tables.unlimited.Given as goal
+
+abbrev pub invariant-loop-name : goal.invariant-loop-name
+invariant-loop-name l = l.row.items ≡ no_limits (texts (take l._name-index l.names))

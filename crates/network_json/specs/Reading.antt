@@ -1,0 +1,30 @@
+-- Which network a file is, and why a file is none.
+use Rattle.std.specs.Prelude.{◌≡◌, ◌≢◌, ℕ, List, Ok, Err, ⊤}
+use Rattle.pool_model.specs.Rows.{Rows}
+use Rattle.pool_model.specs.Network.{Network}
+use Rattle.pool_model.specs.Naming.{network_of}
+use Rattle.blend_network.specs.Faults.{IsFaultless}
+use Rattle.blend_network.specs.declared.network.build.NetFault.{NetFault}
+use Rattle.blend_network.specs.declared.network.build.NetFault.TheVariants as net
+use Rattle.network_json.specs.declared.fault.ReadNet.{ReadNet}
+use Rattle.network_json.specs.declared.fault.ReadNet.TheVariants.{Net, Memory}
+use Rattle.network_json.specs.Format.{rows_in}
+
+-- The bytes are a file of this network: what it says has no fault, and it is the network of its rows.
+pub record ReadAs (bytes : List ℕ) (network : Network) : Type 0 where
+  pub rows : Rows
+  pub read : rows_in bytes ≡ Ok rows
+  pub faultless : IsFaultless rows
+  pub named : network ≡ network_of rows
+
+-- rows were read, and this is the reason to refuse them
+pub record IsNetFault (bytes : List ℕ) (fault : NetFault) : Type 0 where
+  pub rows : Rows
+  pub read : rows_in bytes ≡ Ok rows
+  pub cause : fault ≢ net.Memory
+
+-- A file is refused for the first fault of its walk, or for the fault of its rows; want of memory says nothing of it.
+abbrev pub IsRefusal : List ℕ → ReadNet → Type 0
+IsRefusal bytes Memory = ⊤
+IsRefusal bytes (Net fault) = IsNetFault bytes fault
+IsRefusal bytes e = rows_in bytes ≡ Err e

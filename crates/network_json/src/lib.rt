@@ -1,0 +1,19 @@
+//! Networks as JSON: a file is read to its network, or refused with the first fault and its place.
+//!
+//! The format is walked from the top in one order, the same for every file: `specs/Format.antt` has its tables, and
+//! `specs/Walk.antt` the steps. What `serde_json` reads from the bytes is judged, and not the bytes themselves.
+//!
+//! The layer above may use `read_network`. Whether the rows of a file make a network (names, limits, arcs) is left to
+//! `blend_network`.
+#![tactic(auto)]
+
+mod fault;
+mod read;
+mod tables;
+mod walk;
+
+pub use fault::{Place, ReadNet, Section};
+pub use read::{MAX_TEXT, read_network};
+
+#[cfg(test)]
+mod tests;
