@@ -1,0 +1,10 @@
+pub mod Firsts
+pub mod Fractions
+pub mod Blends
+pub mod Tables
+pub mod Supply
+pub mod Accepted
+pub mod FirstFault
+pub mod Terms
+pub mod Costs
+pub mod Rooms

@@ -1,0 +1,76 @@
+-- Tables of sums by node: one arc more adds its part at its node.
+use Rattle.std.proofs.Common.{◌≡◌, ℕ, zero, suc, ◌+◌, ◌*◌, ◌<◌, ◌≤◌, inl, inr, List, length, get_or, set, replicate, ℤ, pos, ◌+ℤ◌, ◌*ℤ◌, ◌^◌, unsigned_abs, FitsSigned, arith, refl, sym, ap, ◌∙◌, get_or-set_other, get_or-set_same}
+use Rattle.std.proofs.lemmas.Int.{ints}
+use mir.Syntax.{w128}
+use mir.Val.{to_z, of_z}
+use Rattle.integers.specs.Sums.{sum_at, int_sum_at}
+use Rattle.integers.proofs.Ring.{additive}
+use Rattle.integers.proofs.Order.{abs-mul-le}
+use Rattle.integers.proofs.AtKey.{same_or_other, int_sum_at-more_yes, int_sum_at-more_no}
+use Rattle.integers.proofs.ByNode.{sum_at-more_yes, sum_at-more_no}
+
+-- a table that begins with nothing
+pub nothing : (n i : ℕ) → ◌≡◌ {A = ℕ} (get_or (replicate n 0) i 0) 0
+nothing zero i = refl
+nothing (suc n) zero = refl
+nothing (suc n) (suc i) = nothing n i
+
+pub int_nothing : (n i : ℕ) → get_or (replicate n (pos 0)) i (pos 0) ≡ pos 0
+int_nothing zero i = refl
+int_nothing (suc n) zero = refl
+int_nothing (suc n) (suc i) = int_nothing n i
+
+-- ---- natural numbers
+pub added : (key : ℕ → ℕ) (f start : ℕ → ℕ) (e at v m : ℕ) (xs : List ℕ) → at < length xs → at ≡ key e → ((i : ℕ) → i < m → get_or xs i 0 ≡ start i + sum_at key i f e)
+    → v ≡ get_or xs at 0 + f e → (i : ℕ) → i < m → get_or (set xs at v) i 0 ≡ start i + sum_at key i f (e + 1)
+added key f start e at v m xs lt is before new i im = elim (same_or_other i at) [
+  | inl q ↦ rw (q, get_or-set_same) (omega (arith, new, before i im, ap (λ z. get_or xs z 0) q, sum_at-more_yes key at f e (sym is), ap start q, ap (λ z. sum_at key z f e) q))
+  | inr d ↦ rw get_or-set_other (omega (arith, before i im, sum_at-more_no key i f e (λ s. d (sym s ∙ sym is))))
+]
+
+-- the same for a table that begins with nothing
+pub added_first : (key : ℕ → ℕ) (f : ℕ → ℕ) (e at v m : ℕ) (xs : List ℕ) → at < length xs → at ≡ key e → ((i : ℕ) → i < m → get_or xs i 0 ≡ sum_at key i f e)
+    → v ≡ get_or xs at 0 + f e → (i : ℕ) → i < m → get_or (set xs at v) i 0 ≡ sum_at key i f (e + 1)
+added_first key f e at v m xs lt is before new i im = omega (arith, added key f (λ _. 0) e at v m xs lt is (λ j jm. omega (arith, before j jm)) new i im)
+
+pub added_size : (at v b s x : ℕ) (xs : List ℕ) → at < length xs → ((i : ℕ) → get_or xs i 0 ≤ b) → v ≡ get_or xs at 0 + x → x ≤ s → (i : ℕ) → get_or (set xs at v) i 0 ≤ b + s
+added_size at v b s x xs lt before new small i = elim (same_or_other i at) [
+  | inl q ↦ rw (q, get_or-set_same) (omega (arith, before at))
+  | inr d ↦ rw get_or-set_other (omega (arith, before i))
+]
+
+-- ---- signed numbers
+pub int_added : (key : ℕ → ℕ) (f start : ℕ → ℤ) (e at m : ℕ) (v : ℤ) (xs : List ℤ) → at < length xs → at ≡ key e → ((i : ℕ) → i < m → get_or xs i (pos 0) ≡ start i +ℤ int_sum_at key i f e)
+    → v ≡ get_or xs at (pos 0) +ℤ f e → (i : ℕ) → i < m → get_or (set xs at v) i (pos 0) ≡ start i +ℤ int_sum_at key i f (e + 1)
+int_added key f start e at m v xs lt is before new i im = elim (same_or_other i at) [
+  | inl q ↦ rw (q, get_or-set_same)
+      (omega (arith, additive, new, before i im, ap (λ z. get_or xs z (pos 0)) q, int_sum_at-more_yes key at f e (sym is), ap start q, ap (λ z. int_sum_at key z f e) q))
+  | inr d ↦ rw get_or-set_other (omega (arith, additive, before i im, int_sum_at-more_no key i f e (λ s. d (sym s ∙ sym is))))
+]
+
+pub int_added_first : (key : ℕ → ℕ) (f : ℕ → ℤ) (e at m : ℕ) (v : ℤ) (xs : List ℤ) → at < length xs → at ≡ key e → ((i : ℕ) → i < m → get_or xs i (pos 0) ≡ int_sum_at key i f e)
+    → v ≡ get_or xs at (pos 0) +ℤ f e → (i : ℕ) → i < m → get_or (set xs at v) i (pos 0) ≡ int_sum_at key i f (e + 1)
+int_added_first key f e at m v xs lt is before new i im =
+    omega (arith, additive, int_added key f (λ _. pos 0) e at m v xs lt is (λ j jm. omega (arith, additive, before j jm)) new i im)
+
+pub int_added_size : (at b s : ℕ) (v x : ℤ) (xs : List ℤ) → at < length xs → ((i : ℕ) → unsigned_abs (get_or xs i (pos 0)) ≤ b) → v ≡ get_or xs at (pos 0) +ℤ x → unsigned_abs x ≤ s
+    → (i : ℕ) → unsigned_abs (get_or (set xs at v) i (pos 0)) ≤ b + s
+int_added_size at b s v x xs lt before new small i = elim (same_or_other i at) [
+  | inl q ↦ rw (q, get_or-set_same) (omega (arith, ints, before at))
+  | inr d ↦ rw get_or-set_other (omega (arith, before i))
+]
+
+-- a number that is not too large, as the code reads it
+pub read_wide : (x : ℤ) (a : ℕ) → unsigned_abs x ≤ a → a ≤ 2 ^ 126 → to_z w128 (of_z w128 x) ≡ x
+read_wide x a h k = omega (arith, ints)
+
+-- the code's sum of two numbers that are not too large
+pub wide_sum : (t p : ℤ) (a : ℕ) → unsigned_abs t ≤ a → a ≤ 2 ^ 126 → unsigned_abs p ≤ 2 ^ 122 → to_z w128 (of_z w128 (to_z w128 (of_z w128 t) +ℤ to_z w128 (of_z w128 p))) ≡ t +ℤ p
+wide_sum t p a h s k = omega (arith, ints)
+
+pub wide_fits : (t p : ℤ) (a : ℕ) → unsigned_abs t ≤ a → a ≤ 2 ^ 126 → unsigned_abs p ≤ 2 ^ 122 → FitsSigned w128 (to_z w128 (of_z w128 t) +ℤ to_z w128 (of_z w128 p))
+wide_fits t p a h s k = omega (arith, ints)
+
+-- how large a number is for so many units
+pub term_size : (t q : ℤ) (m a b : ℕ) → t ≡ q *ℤ pos m → unsigned_abs q ≤ a → m ≤ b → unsigned_abs t ≤ a * b
+term_size t q m a b e h k = rw e (abs-mul-le q (pos m) a b h k)

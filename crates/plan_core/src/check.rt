@@ -1,0 +1,267 @@
+//! The check of a written plan: its form, its flows and its qualities, in this order.
+
+ghost use Rattle.std.specs.Prelude.{◌≡◌, ℕ, ◌*◌, ◌<◌, ◌≤◌, ◌^◌, ◌↔◌, [], get_or, pos, unsigned_abs, IfOk, IfErr, IfSome, IsTrue};
+ghost use Rattle.pool_model.specs.Network.{net_of, IsLimited, IsWithin};
+ghost use Rattle.plan_core.specs.Shown.{written_of};
+ghost use Rattle.plan_core.specs.Checks.{IsShaped, Breaks, Keeps, KeepsEach, IsFirstOf, IsFirstQuality, IsFirstFault, IsCostOf};
+ghost use Rattle.plan_core.specs.Weighed.{ArePoolOutflows, AreSourceOutflows, AreProductInflows, HasRoom, IsAbove, IsBelow, IsFirstBelow};
+
+use crate::cost::cost;
+use crate::fault::PlanFault;
+use crate::plan::{Cost, WrittenPlan};
+use crate::qualities::{MAX_QUALITIES, qualities, weighted};
+use crate::sums::{
+    MAX_POOLS, MAX_PRODUCTS, MAX_SOURCES, pool_outflows, product_inflows, source_outflows,
+    weight_sums,
+};
+use blend_network::Network;
+
+/// The greatest base and the greatest flow base of a plan.
+const MAX_BASE: u32 = 1_048_576;
+
+const MAX_FLOW_BASE: u32 = 65_536;
+
+/// What the plan costs, or the first rule that it breaks. It goes over the arcs once for each quality, and takes no memory.
+pub fn check_plan(net: &Network, plan: &WrittenPlan) -> Result<Cost, PlanFault>
+    ensures ok { IfOk result (IsCostOf (net_of net.now) (written_of plan.now)) }
+    ensures fault { IfErr result (IsFirstFault (net_of net.now) (written_of plan.now)) }
+{
+    check_shape(net, plan)?;
+    check_weight_sums(net, plan)?;
+    let through = pool_outflows(net, plan);
+    let outflows = source_outflows(net, plan, &through);
+    let inflows = product_inflows(net, plan);
+    check_sources(net, plan, &outflows)?;
+    check_pools(net, plan, &through)?;
+    check_maxima(net, plan, &inflows)?;
+    check_minima(net, plan, &inflows)?;
+    check_qualities(net, plan, &inflows)?;
+    Ok(cost(net, plan, &outflows, &inflows))
+}
+
+/// Shape, exactly where the plan's bases or lengths are wrong.
+fn check_shape(net: &Network, plan: &WrittenPlan) -> Result<(), PlanFault>
+    ensures shaped { IfOk result (λ _. IsShaped (net_of net.now) (written_of plan.now)) }
+    ensures shape { IfErr result (λ f. f ≡ PlanFault.Shape) }
+    ensures unshaped { IfErr result (λ _. ¬ IsShaped (net_of net.now) (written_of plan.now)) }
+    ensures limited { IsLimited (net_of net.now) }
+{
+    let [_, _, _, _, feeds, outs, directs] = net.counts();
+    let bases = is_base(plan.base, MAX_BASE) && is_base(plan.flow_base, MAX_FLOW_BASE);
+    let lengths = plan.weights.len() == feeds as usize
+        && plan.outflows.len() == outs as usize
+        && plan.direct.len() == directs as usize;
+    if bases && lengths {
+        Ok(())
+    } else {
+        Err(PlanFault::Shape)
+    }
+}
+
+fn is_base(base: u32, most: u32) -> bool
+    ensures { IsTrue result ↔ ((1 ≤ base) × (base ≤ most)) }
+{
+    1 <= base && base <= most
+}
+
+/// WeightSum, exactly where a pool's weights don't sum to the base.
+fn check_weight_sums(net: &Network, plan: &WrittenPlan) -> Result<(), PlanFault>
+    requires { IsShaped (net_of net.now) (written_of plan.now) }
+    ensures keeps { IfOk result (λ _. Keeps (net_of net.now) (written_of plan.now) (λ l. PlanFault.WeightSum l)) }
+    ensures first { IfErr result (IsFirstOf (net_of net.now) (written_of plan.now) (λ l. PlanFault.WeightSum l)) }
+{
+    let [_, pools, _, _, _, _, _] = net.counts();
+    let sums = weight_sums(net, plan);
+    for pool in 0..pools {
+        if sums[pool as usize] != u64::from(plan.base) {
+            return Err(PlanFault::WeightSum(pool));
+        }
+    }
+    Ok(())
+}
+
+/// SourceOver, exactly where a source sends out more than its maximum.
+fn check_sources(
+    net: &Network,
+    plan: &WrittenPlan,
+    outflows: &[u128; MAX_SOURCES],
+) -> Result<(), PlanFault>
+    requires { AreSourceOutflows (net_of net.now) (written_of plan.now) outflows.now }
+    ensures keeps { IfOk result (λ _. Keeps (net_of net.now) (written_of plan.now) (λ i. PlanFault.SourceOver i)) }
+    ensures first { IfErr result (IsFirstOf (net_of net.now) (written_of plan.now) (λ i. PlanFault.SourceOver i)) }
+{
+    let [sources, _, _, _, _, _, _] = net.counts();
+    let denominator = plan.denominator();
+    for source in 0..sources {
+        if room(denominator, net.source_max(source)) < outflows[source as usize] {
+            return Err(PlanFault::SourceOver(source));
+        }
+    }
+    Ok(())
+}
+
+/// PoolOver, exactly where more flows through a pool than its maximum.
+fn check_pools(
+    net: &Network,
+    plan: &WrittenPlan,
+    through: &[u128; MAX_POOLS],
+) -> Result<(), PlanFault>
+    requires shaped { IsShaped (net_of net.now) (written_of plan.now) }
+    requires through { ArePoolOutflows (net_of net.now) (written_of plan.now) through.now }
+    ensures keeps { IfOk result (λ _. Keeps (net_of net.now) (written_of plan.now) (λ l. PlanFault.PoolOver l)) }
+    ensures first { IfErr result (IsFirstOf (net_of net.now) (written_of plan.now) (λ l. PlanFault.PoolOver l)) }
+{
+    let [_, pools, _, _, _, _, _] = net.counts();
+    for pool in 0..pools {
+        if room(u64::from(plan.flow_base), net.pool_max(pool)) < through[pool as usize] {
+            return Err(PlanFault::PoolOver(pool));
+        }
+    }
+    Ok(())
+}
+
+/// ProductOver, exactly where more flows into a product than its maximum.
+fn check_maxima(
+    net: &Network,
+    plan: &WrittenPlan,
+    inflows: &[u128; MAX_PRODUCTS],
+) -> Result<(), PlanFault>
+    requires { AreProductInflows (net_of net.now) (written_of plan.now) inflows.now }
+    ensures keeps { IfOk result (λ _. Keeps (net_of net.now) (written_of plan.now) (λ j. PlanFault.ProductOver j)) }
+    ensures first { IfErr result (IsFirstOf (net_of net.now) (written_of plan.now) (λ j. PlanFault.ProductOver j)) }
+{
+    let [_, _, products, _, _, _, _] = net.counts();
+    let denominator = plan.denominator();
+    for product in 0..products {
+        if room(denominator, net.product_max(product)) < inflows[product as usize] {
+            return Err(PlanFault::ProductOver(product));
+        }
+    }
+    Ok(())
+}
+
+/// ProductUnder, exactly where less flows into a product than its minimum.
+fn check_minima(
+    net: &Network,
+    plan: &WrittenPlan,
+    inflows: &[u128; MAX_PRODUCTS],
+) -> Result<(), PlanFault>
+    requires { AreProductInflows (net_of net.now) (written_of plan.now) inflows.now }
+    ensures keeps { IfOk result (λ _. Keeps (net_of net.now) (written_of plan.now) (λ j. PlanFault.ProductUnder j)) }
+    ensures first { IfErr result (IsFirstOf (net_of net.now) (written_of plan.now) (λ j. PlanFault.ProductUnder j)) }
+{
+    let [_, _, products, _, _, _, _] = net.counts();
+    let denominator = plan.denominator();
+    for product in 0..products {
+        if inflows[product as usize] < room(denominator, net.product_min(product)) {
+            return Err(PlanFault::ProductUnder(product));
+        }
+    }
+    Ok(())
+}
+
+/// A number of millionths, over a denominator.
+fn room(denominator: u64, millionths: i64) -> u128
+    ensures { result ≡ denominator * unsigned_abs millionths }
+{
+    u128::from(denominator) * u128::from(millionths.unsigned_abs())
+}
+
+/// QualityOver, exactly where a product's mean of a quality is above its most; and else QualityUnder, exactly where one is
+/// below its least.
+fn check_qualities(
+    net: &Network,
+    plan: &WrittenPlan,
+    inflows: &[u128; MAX_PRODUCTS],
+) -> Result<(), PlanFault>
+    requires shaped { IsShaped (net_of net.now) (written_of plan.now) }
+    requires inflows { AreProductInflows (net_of net.now) (written_of plan.now) inflows.now }
+    requires room { HasRoom (net_of net.now) (written_of plan.now) }
+    ensures keeps_most { IfOk result (λ _. KeepsEach (net_of net.now) (written_of plan.now) (λ j k. PlanFault.QualityOver j k)) }
+    ensures keeps_least { IfOk result (λ _. KeepsEach (net_of net.now) (written_of plan.now) (λ j k. PlanFault.QualityUnder j k)) }
+    ensures first { IfErr result (IsFirstQuality (net_of net.now) (written_of plan.now)) }
+{
+    let [_, _, products, _, _, _, _] = net.counts();
+    let sums = qualities(net, plan);
+    for product in 0..products {
+        if let Some(quality) = first_above(net, product, inflows[product as usize], &sums) {
+            return Err(PlanFault::QualityOver(product, quality));
+        }
+    }
+    for product in 0..products {
+        if let Some(quality) = first_below(net, product, inflows[product as usize], &sums) {
+            return Err(PlanFault::QualityUnder(product, quality));
+        }
+    }
+    Ok(())
+}
+
+/// The first quality whose mean is above the product's most.
+fn first_above(
+    net: &Network,
+    product: u32,
+    inflow: u128,
+    sums: &[[i128; MAX_PRODUCTS]; MAX_QUALITIES],
+) -> Option<u32>
+    requires product { product < (net_of net.now).products }
+    requires inflow { inflow ≤ 2 ^ 76 }
+    ensures { IsFirstBelow (λ k. IsAbove ((net_of net.now).most product k) inflow (get_or (get_or sums.now k []) product (pos 0))) (net_of net.now).qualities result }
+{
+    let [_, _, _, qualities, _, _, _] = net.counts();
+    for quality in 0..qualities {
+        if is_above(
+            net.product_most(product, quality),
+            inflow,
+            sums[quality as usize][product as usize],
+        ) {
+            return Some(quality);
+        }
+    }
+    None
+}
+
+/// The first quality whose mean is below the product's least.
+fn first_below(
+    net: &Network,
+    product: u32,
+    inflow: u128,
+    sums: &[[i128; MAX_PRODUCTS]; MAX_QUALITIES],
+) -> Option<u32>
+    requires product { product < (net_of net.now).products }
+    requires inflow { inflow ≤ 2 ^ 76 }
+    ensures { IsFirstBelow (λ k. IsBelow ((net_of net.now).least product k) inflow (get_or (get_or sums.now k []) product (pos 0))) (net_of net.now).qualities result }
+{
+    let [_, _, _, qualities, _, _, _] = net.counts();
+    for quality in 0..qualities {
+        if is_below(
+            net.product_least(product, quality),
+            inflow,
+            sums[quality as usize][product as usize],
+        ) {
+            return Some(quality);
+        }
+    }
+    None
+}
+
+fn is_above(most: Option<i64>, inflow: u128, sum: i128) -> bool
+    requires inflow { inflow ≤ 2 ^ 76 }
+    requires most { IfSome most (IsWithin (10 ^ 11)) }
+    ensures { IsTrue result ↔ IsAbove most inflow sum }
+{
+    match most {
+        None => false,
+        Some(most) => weighted(i128::from(most), inflow) < sum,
+    }
+}
+
+fn is_below(least: Option<i64>, inflow: u128, sum: i128) -> bool
+    requires inflow { inflow ≤ 2 ^ 76 }
+    requires least { IfSome least (IsWithin (10 ^ 11)) }
+    ensures { IsTrue result ↔ IsBelow least inflow sum }
+{
+    match least {
+        None => false,
+        Some(least) => sum < weighted(i128::from(least), inflow),
+    }
+}

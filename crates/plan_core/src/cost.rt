@@ -1,0 +1,102 @@
+//! What a plan costs, and the order of costs.
+
+ghost use Rattle.std.specs.Prelude.{◌≡◌, ◌<◌, ◌≤◌, ◌*◌, ◌^◌, get_or, pos, ◌*ℤ◌, unsigned_abs};
+ghost use Rattle.std.specs.Ordering.{int_cmp};
+ghost use Rattle.integers.specs.Sums.{int_sum_below, sum_below};
+ghost use Rattle.pool_model.specs.Network.{net_of};
+ghost use Rattle.pool_model.specs.Plan.{plan_of, cost_of};
+ghost use Rattle.plan_core.specs.Shown.{written_of};
+ghost use Rattle.plan_core.specs.Weighed.{AreSourceOutflows, AreProductInflows, HasRoom};
+ghost use Rattle.std.specs.Int.{int_div_euclid, int_rem_euclid};
+
+use crate::plan::{Cost, WrittenPlan};
+use crate::qualities::weighted;
+use crate::sums::{MAX_PRODUCTS, MAX_SOURCES};
+use blend_network::Network;
+use std::cmp::Ordering;
+
+/// Which of two costs is less, as fractions.
+pub fn compare_cost(a: &Cost, b: &Cost) -> Ordering
+    requires a { 0 < a.now.base }
+    requires b { 0 < b.now.base }
+    ensures { result ≡ int_cmp (pos b.now.base *ℤ a.now.num) (pos a.now.base *ℤ b.now.num) }
+{
+    match whole(a).cmp(&whole(b)) {
+        Ordering::Equal => {
+            let left = u128::from(rest(a)) * u128::from(b.base);
+            let right = u128::from(rest(b)) * u128::from(a.base);
+            left.cmp(&right)
+        }
+        unequal => unequal,
+    }
+}
+
+/// The cost in whole picos, rounded down.
+fn whole(cost: &Cost) -> i128
+    requires { 0 < cost.now.base }
+    ensures { result ≡ int_div_euclid cost.now.num (pos cost.now.base) }
+{
+    cost.num.div_euclid(i128::from(cost.base))
+}
+
+/// What is left of the cost above whole picos, over its base.
+fn rest(cost: &Cost) -> u64
+    requires { 0 < cost.now.base }
+    ensures rest { pos result ≡ int_rem_euclid cost.now.num (pos cost.now.base) }
+    ensures size { result < cost.now.base }
+{
+    cost.num.rem_euclid(i128::from(cost.base)) as u64
+}
+
+/// What the plan costs, from what flows out of each source and into each product.
+pub(crate) fn cost(
+    net: &Network,
+    plan: &WrittenPlan,
+    outflows: &[u128; MAX_SOURCES],
+    inflows: &[u128; MAX_PRODUCTS],
+) -> Cost
+    requires outflows { AreSourceOutflows (net_of net.now) (written_of plan.now) outflows.now }
+    requires inflows { AreProductInflows (net_of net.now) (written_of plan.now) inflows.now }
+    requires room { HasRoom (net_of net.now) (written_of plan.now) }
+    ensures num { result.num ≡ cost_of (net_of net.now) (plan_of (net_of net.now) (written_of plan.now)) }
+    ensures base { result.base ≡ plan.now.flow_base * plan.now.base }
+{
+    Cost {
+        num: purchases(net, outflows) - revenue(net, inflows),
+        base: plan.denominator(),
+    }
+}
+
+/// What the purchases cost.
+fn purchases(net: &Network, outflows: &[u128; MAX_SOURCES]) -> i128
+    requires { sum_below (λ i. get_or outflows.now i 0) (net_of net.now).sources ≤ 2 ^ 82 }
+    ensures value { result ≡ int_sum_below (λ i. (net_of net.now).source_cost i *ℤ pos (get_or outflows.now i 0)) (net_of net.now).sources }
+    ensures size { unsigned_abs result ≤ 2 ^ 122 }
+{
+    let [sources, _, _, _, _, _, _] = net.counts();
+    let mut total = 0;
+    for source in 0..sources {
+        total += weighted(
+            i128::from(net.source_cost(source)),
+            outflows[source as usize],
+        );
+    }
+    total
+}
+
+/// What the products bring.
+fn revenue(net: &Network, inflows: &[u128; MAX_PRODUCTS]) -> i128
+    requires { sum_below (λ j. get_or inflows.now j 0) (net_of net.now).products ≤ 2 ^ 82 }
+    ensures value { result ≡ int_sum_below (λ j. (net_of net.now).price j *ℤ pos (get_or inflows.now j 0)) (net_of net.now).products }
+    ensures size { unsigned_abs result ≤ 2 ^ 122 }
+{
+    let [_, _, products, _, _, _, _] = net.counts();
+    let mut total = 0;
+    for product in 0..products {
+        total += weighted(
+            i128::from(net.product_price(product)),
+            inflows[product as usize],
+        );
+    }
+    total
+}

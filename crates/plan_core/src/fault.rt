@@ -1,0 +1,22 @@
+//! The rules that a written plan may break.
+
+/// The first rule that a written plan breaks, by the order below and then by its numbers.
+#[derive(Clone, Copy, Debug, PartialEq, Eq)]
+pub enum PlanFault {
+    /// A base is outside its limits, or a list has another length than the network's arcs.
+    Shape,
+    /// The weights of this pool's feeds don't sum to the base.
+    WeightSum(u32),
+    /// This source sends out more than its maximum.
+    SourceOver(u32),
+    /// More flows through this pool than its maximum.
+    PoolOver(u32),
+    /// More flows into this product than its maximum.
+    ProductOver(u32),
+    /// Less flows into this product than its minimum.
+    ProductUnder(u32),
+    /// This product's mean of this quality is above its most.
+    QualityOver(u32, u32),
+    /// This product's mean of this quality is below its least.
+    QualityUnder(u32, u32),
+}

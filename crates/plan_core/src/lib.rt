@@ -1,0 +1,28 @@
+//! Plans as they are written: their check, their cost, and the starting plans.
+//!
+//! A [`WrittenPlan`] has a weight for each feed, over a base, and a flow for each out and each direct, over a flow base. It
+//! stands for the plan in which each feed takes its weight's part of what its pool sends out. [`check_plan`] gives what that
+//! plan costs where it obeys every rule of the network, and else the first rule that it breaks, as a [`PlanFault`]. Rules
+//! are compared exactly, as whole numbers, with no tolerance. [`compare_cost`] orders costs over different bases.
+//!
+//! [`zero_plan`] and [`simple_plan`] are the starting plans, which no search needs to find; they alone take memory.
+//!
+//! Which plan to write is left to the crates above, and so is the text of a plan.
+#![tactic(auto)]
+
+mod check;
+mod cost;
+mod fault;
+mod flows;
+mod plan;
+mod qualities;
+mod starting;
+mod sums;
+#[cfg(test)]
+mod tests;
+
+pub use check::check_plan;
+pub use cost::compare_cost;
+pub use fault::PlanFault;
+pub use plan::{Cost, Way, WrittenPlan};
+pub use starting::{direct_flow, simple_plan, zero_plan};

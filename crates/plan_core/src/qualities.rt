@@ -1,0 +1,80 @@
+//! The qualities that reach the products, by pool weights. No product over pools is taken.
+
+ghost use Rattle.std.specs.Prelude.{◌≡◌, ℕ, ◌*◌, ◌<◌, ◌≤◌, ◌^◌, get_or, pos, ◌*ℤ◌, unsigned_abs};
+ghost use Rattle.pool_model.specs.Network.{net_of};
+ghost use Rattle.plan_core.specs.Shown.{written_of};
+ghost use Rattle.plan_core.specs.Checks.{IsShaped};
+ghost use Rattle.plan_core.specs.Weighed.{ArePoolQualities, AreProductQualities, AreQualities, HasRoom};
+
+use crate::plan::WrittenPlan;
+use crate::sums::{MAX_POOLS, MAX_PRODUCTS};
+use blend_network::Network;
+
+/// The most qualities that a network has.
+pub(crate) const MAX_QUALITIES: usize = 8;
+
+/// For each quality, and for it each product, how much of it reaches the product, over both bases.
+pub(crate) fn qualities(net: &Network, plan: &WrittenPlan) -> [[i128; MAX_PRODUCTS]; MAX_QUALITIES]
+    requires shaped { IsShaped (net_of net.now) (written_of plan.now) }
+    requires room { HasRoom (net_of net.now) (written_of plan.now) }
+    ensures { AreQualities (net_of net.now) (written_of plan.now) result }
+{
+    let [_, _, _, qualities, _, _, _] = net.counts();
+    let mut columns = [[0; MAX_PRODUCTS]; MAX_QUALITIES];
+    for quality in 0..qualities {
+        columns[quality as usize] = product_qualities(net, plan, quality);
+    }
+    columns
+}
+
+/// How much of a quality reaches each product, over both bases.
+fn product_qualities(net: &Network, plan: &WrittenPlan, quality: u32) -> [i128; MAX_PRODUCTS]
+    requires quality { quality < (net_of net.now).qualities }
+    requires shaped { IsShaped (net_of net.now) (written_of plan.now) }
+    requires room { HasRoom (net_of net.now) (written_of plan.now) }
+    ensures { AreProductQualities (net_of net.now) (written_of plan.now) quality result }
+{
+    let [_, _, _, _, _, outs, directs] = net.counts();
+    let pools = pool_qualities(net, plan, quality);
+    let mut sums = [0; MAX_PRODUCTS];
+    for out in 0..outs {
+        let (pool, product) = net.out(out);
+        sums[product as usize] += weighted(pools[pool as usize], u128::from(plan.outflow(out)));
+    }
+    for direct in 0..directs {
+        let (source, product) = net.direct(direct);
+        sums[product as usize] += weighted(
+            i128::from(net.source_quality(source, quality)),
+            plan.whole_direct(direct),
+        );
+    }
+    sums
+}
+
+/// A quality of each pool by its feeds' weights, over the base.
+fn pool_qualities(net: &Network, plan: &WrittenPlan, quality: u32) -> [i128; MAX_POOLS]
+    requires quality { quality < (net_of net.now).qualities }
+    requires shaped { IsShaped (net_of net.now) (written_of plan.now) }
+    ensures { ArePoolQualities (net_of net.now) (written_of plan.now) quality result }
+{
+    let [_, _, _, _, feeds, _, _] = net.counts();
+    let mut sums = [0; MAX_POOLS];
+    for feed in 0..feeds {
+        let (source, pool) = net.feed(feed);
+        sums[pool as usize] += weighted(
+            i128::from(net.source_quality(source, quality)),
+            u128::from(plan.weight(feed)),
+        );
+    }
+    sums
+}
+
+/// A number for each unit of a flow.
+pub(crate) fn weighted(number: i128, flow: u128) -> i128
+    requires flow { flow < 2 ^ 127 }
+    requires size { unsigned_abs number * flow ≤ 2 ^ 122 }
+    ensures value { result ≡ number *ℤ pos flow }
+    ensures size { unsigned_abs result ≡ unsigned_abs number * flow }
+{
+    number * flow as i128
+}
