@@ -1,0 +1,4 @@
+pub mod WordLists
+pub mod Least
+pub mod Solutions
+pub mod Refusals

@@ -1,0 +1,23 @@
+//! The top call: what the program does, over any shelf of files and any sink.
+//!
+//! `run` takes the words of the command line, a shelf that files are read from and a sink for what is printed, and answers
+//! a status. Its contract is the promise of the whole program: what the sink took is the text of a certificate whose plan
+//! obeys the network of the named file exactly, whose bound holds for every plan of any denominator, and whose gap is
+//! their exact difference; and it says when each other status comes. The words of that contract are in
+//! `specs/Running.antt` and `specs/Solution.antt`.
+//!
+//! The layer above may use `run`, `Status::code` and `write_message`; it brings the real files and streams. What a file
+//! says is left to `network_json`, and the text of a certificate to `cert_format`.
+#![tactic(auto)]
+
+mod command;
+mod solution;
+mod starting;
+mod status;
+mod words;
+
+pub use command::run;
+pub use status::{Status, write_message};
+
+#[cfg(test)]
+mod tests;
