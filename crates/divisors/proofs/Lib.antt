@@ -1,0 +1,2 @@
+pub mod Divides
+pub mod Twos

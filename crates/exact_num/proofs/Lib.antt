@@ -1,0 +1,8 @@
+pub mod Halving
+pub mod Signs
+pub mod Laws
+pub mod Results
+pub mod Cancelling
+pub mod Adding
+pub mod Ordered
+pub mod Operations

@@ -1,0 +1,47 @@
+-- The answers of a call, carried from one form of a fraction to another.
+use Rattle.std.proofs.Common.{◌≡◌, ◌<◌, Result, Ok, Err, IfOk, IfErr, OnOk, IsOk, refl, subst, sym}
+use Rattle.exact_num.specs.Fraction.{Fraction, IsSame, IsInRange, IsLowest, LeavesRange}
+use Rattle.exact_num.specs.Shown.{fraction_of}
+use Rattle.exact_num.specs.declared.frac.Frac.{Frac}
+use Rattle.exact_num.specs.declared.frac.FracFault.{FracFault}
+use Rattle.exact_num.specs.declared.frac.FracFault.TheVariants as faults
+use Rattle.exact_num.proofs.Laws.{IsSame-trans, LeavesRange-same, lowest_unique}
+
+pub given_as : (r : Result Frac FracFault) (x z : Fraction) → IsSame x z → IfOk r (λ f. fraction_of f ≡ x) → IfOk r (λ f. IsSame (fraction_of f) z)
+given_as (Ok f) x z s h = subst (λ y. IsSame y z) (sym h) s
+given_as (Err e) x z s h = h
+
+pub refused_as : (r : Result Frac FracFault) (x z : Fraction) → 0 < z.den → IsSame z x → IfErr r (λ e. (e ≡ faults.Wide) × LeavesRange x) → IfErr r (λ e. (e ≡ faults.Wide) × LeavesRange z)
+refused_as (Ok f) x z p s h = h
+refused_as (Err e) x z p s h = (h.0, LeavesRange-same x z p s h.1)
+
+pub same_as : (r : Result Frac FracFault) (x z : Fraction) → 0 < x.den → IsSame x z → IfOk r (λ f. IsSame (fraction_of f) x) → IfOk r (λ f. IsSame (fraction_of f) z)
+same_as (Ok f) x z p s h = IsSame-trans (fraction_of f) x z p h s
+same_as (Err e) x z p s h = h
+
+-- what is in the range is not refused
+pub not_refused : (r : Result Frac FracFault) (x z : Fraction) → x ≡ z → IsInRange z → (P : FracFault → Type 0) → IfErr r (λ e. (e ≡ faults.Wide) × LeavesRange x) → IfErr r P
+not_refused (Ok f) x z s range P h = h
+not_refused (Err e) x z s range P h = absurd (h.1 z range (subst (λ y. IsSame z y) (sym s) refl))
+
+pub on_ok : (r : Result Frac FracFault) (P : Type 0) → P → OnOk r P
+on_ok (Ok f) P h = h
+on_ok (Err e) P h = tt
+
+-- ---- for callers
+
+-- a `Frac` is in the range, and in lowest terms
+pub Frac-in_range : (f : Frac) → IsInRange (fraction_of f)
+Frac-in_range f = record { num = f.short_num; den = f.short_den; positive = f.positive }
+
+pub Frac-lowest : (f : Frac) → IsLowest (fraction_of f)
+Frac-lowest f = f.lowest
+
+-- the same fractions have the same numbers
+pub Frac-unique : (f g : Frac) → IsSame (fraction_of f) (fraction_of g) → (f.num ≡ g.num) × (f.den ≡ g.den)
+Frac-unique f g h = lowest_unique (fraction_of f) (fraction_of g) f.lowest g.lowest f.positive g.positive h
+
+-- an answer that is refused only where x leaves the range is given where some fraction in the range is the same as x
+pub answered : (r : Result Frac FracFault) (x y : Fraction) → IsInRange y → IsSame y x → IfErr r (λ e. (e ≡ faults.Wide) × LeavesRange x) → IsOk r
+answered (Ok f) x y range same h = refl
+answered (Err e) x y range same h = absurd (h.1 y range same)

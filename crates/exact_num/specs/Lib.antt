@@ -1,0 +1,3 @@
+pub mod Fraction
+pub mod Shown
+pub mod Signed

@@ -1,0 +1,7 @@
+-- What a `Frac` stands for.
+use Rattle.exact_num.specs.Fraction.{Fraction}
+use Rattle.exact_num.specs.declared.frac.Frac.{Frac}
+
+-- its numbers, which are in lowest terms
+abbrev pub fraction_of : Frac → Fraction
+fraction_of f = record { num = f.num; den = f.den }
