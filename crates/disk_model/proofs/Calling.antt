@@ -1,0 +1,84 @@
+-- What the calls of a disk leave, in the words of lists.
+use Rattle.std.proofs.Common.{◌≡◌, ℕ, ◌+◌, ◌≤◌, min, List, ◌∷◌, ◌++◌, length, get_or, take, drop, Option, Some, None, IfSome, option_map, refl, sym, ◌∙◌, ap, subst, arith, length-take, length-drop}
+use Rattle.std.proofs.lemmas.List.{take-append-drop, take_all, drop_all, drop_more, append-nil}
+use Rattle.disk_model.specs.Disks.{written, Torn, Shortened, Follows, Among, Only, Reaches, IsOneOf}
+
+-- ---- one image
+
+-- the front of a file that a write starts within stays
+pub torn-front : (at n : ℕ) (old new : List ℕ) → Torn at n old new → at ≤ length old → take at new ≡ take at old
+torn-front at n old new torn within = let same : min at (length old) ≡ at = omega arith in ap (λ (k : ℕ). take k new) (sym same) ∙ torn.before
+
+-- a write within a file keeps its length
+pub torn-length : (at n : ℕ) (old new : List ℕ) → Torn at n old new → at + n ≤ length old → length new ≡ length old
+torn-length at n old new torn within = omega (arith, torn.no_shorter, torn.no_longer)
+
+-- behind the end the file stays, with any bytes behind it
+pub torn_behind : (at n : ℕ) (file c : List ℕ) → at ≡ length file → Torn at n file c → (rest : List ℕ) × (length rest ≤ n) × (c ≡ file ++ rest)
+torn_behind at n file c is torn = (
+  drop at c,
+  omega (arith, length-drop at c, torn.no_longer),
+  sym (take-append-drop at c) ∙ ap (λ (l : List ℕ). l ++ drop at c) (torn-front at n file c torn (omega arith) ∙ take_all at file (omega arith)),
+)
+
+-- a write of one byte within the file leaves the rest
+pub torn_byte : (at : ℕ) (file c : List ℕ) → at + 1 ≤ length file → Torn at 1 file c → (byte : ℕ) × (c ≡ take at file ++ byte ∷ drop (at + 1) file)
+torn_byte at file c within torn = (
+  get_or c at 0,
+  sym (take-append-drop at c)
+      ∙ ap (λ (l : List ℕ). l ++ drop at c) (torn-front at 1 file c torn (omega arith))
+      ∙ ap (λ (l : List ℕ). take at file ++ l) (drop_more c at 0 (omega (arith, torn.no_shorter)) ∙ ap (λ (l : List ℕ). get_or c at 0 ∷ l) torn.after),
+)
+
+-- a cut leaves a front
+pub cut_front : (to : ℕ) (file c : List ℕ) → to ≤ length file → Shortened to file c → (n : ℕ) × (to ≤ n) × (n ≤ length file) × (c ≡ take n file)
+cut_front to file c within cut = (length c, omega (arith, cut.no_shorter), omega (arith, length-take (length c) file, ap length cut.front), sym cut.front)
+
+-- bytes written behind the end
+pub written-behind : (at : ℕ) (file bytes : List ℕ) → at ≡ length file → written file at bytes ≡ file ++ bytes
+written-behind at file bytes is =
+    ap (λ (l : List ℕ). l ++ bytes ++ drop (at + length bytes) file) (take_all at file (omega arith))
+    ∙ ap (λ (l : List ℕ). file ++ bytes ++ l) (drop_all (at + length bytes) file (omega arith))
+    ∙ append-nil (file ++ bytes)
+
+-- ---- each image
+
+pub among-all : (old since P : List ℕ → Type 0) → Among old since → ((c : List ℕ) → old c → P c) → (c : List ℕ) → since c → P c
+among-all old since P crash here c left = here c (crash c left)
+
+-- each image that comes by a step from one that has Q
+pub follows-all : (step : List ℕ → List ℕ → Type 0) (old since Q P : List ℕ → Type 0) → Follows step old since → ((c : List ℕ) → old c → Q c) → ((i c : List ℕ) → Q i → step i c → P c) → (c : List ℕ) → since c → P c
+follows-all step old since Q P crash had here c left = let from = crash c left in here from.0 c (had from.0 from.1) from.2
+
+-- each image that comes by a step from the only one
+pub only-all : (step : List ℕ → List ℕ → Type 0) (old since P : List ℕ → Type 0) (file : List ℕ) → Follows step old since → Only file old → ((c : List ℕ) → step file c → P c) → (c : List ℕ) → since c → P c
+only-all step old since P file crash only here = follows-all step old since (λ i. i ≡ file) P crash only (λ i c is by. here c (subst (λ (w : List ℕ). step w c) is by))
+
+pub behind-all : (old since P : List ℕ → Type 0) (file : List ℕ) (at n : ℕ) → Follows (Torn at n) old since → Only file old → at ≡ length file → ((rest : List ℕ) → length rest ≤ n → P (file ++ rest)) → (c : List ℕ) → since c → P c
+behind-all old since P file at n crash only is here = only-all (Torn at n) old since P file crash only (λ c torn. let parts = torn_behind at n file c is torn in subst P (sym parts.2) (here parts.0 parts.1))
+
+pub byte-all : (old since P : List ℕ → Type 0) (file : List ℕ) (at : ℕ) → Follows (Torn at 1) old since → Only file old → at + 1 ≤ length file → ((byte : ℕ) → P (take at file ++ byte ∷ drop (at + 1) file)) → (c : List ℕ) → since c → P c
+byte-all old since P file at crash only within here = only-all (Torn at 1) old since P file crash only (λ c torn. let parts = torn_byte at file c within torn in subst P (sym parts.1) (here parts.0))
+
+pub cut-all : (old since P : List ℕ → Type 0) (file : List ℕ) (to : ℕ) → Follows (Shortened to) old since → Only file old → to ≤ length file → ((n : ℕ) → to ≤ n → n ≤ length file → P (take n file)) → (c : List ℕ) → since c → P c
+cut-all old since P file to crash only within here = only-all (Shortened to) old since P file crash only (λ c cut. let parts = cut_front to file c within cut in subst P (sym parts.3) (here parts.0 parts.1 parts.2))
+
+-- ---- what a read gives
+
+-- where a place is reached the file is known
+pub reaches-file : (reads : Option (List ℕ)) (place : ℕ) → Reaches reads place → (file : List ℕ) × (reads ≡ Some file) × (place ≤ length file)
+reaches-file None place reached = absurd reached
+reaches-file (Some file) place reached = (file, refl, reached)
+
+-- what an attach gives is known
+pub one_of-file : (reads : Option (List ℕ)) (images : List ℕ → Type 0) → IsOneOf reads images → (file : List ℕ) × (reads ≡ Some file) × images file
+one_of-file None images is = absurd is
+one_of-file (Some file) images is = (file, refl, is)
+
+-- a clause on the file, at the file
+pub at-file : (reads : Option (List ℕ)) (file : List ℕ) (P : List ℕ → Type 0) → reads ≡ Some file → IfSome reads P → P file
+at-file reads file P is clause = subst (λ (o : Option (List ℕ)). IfSome o P) is clause
+
+-- what a write or a cut makes of the file
+pub changed-file : (change : List ℕ → List ℕ) (before after : Option (List ℕ)) (file : List ℕ) → before ≡ Some file → after ≡ option_map change before → after ≡ Some (change file)
+changed-file change before after file is by = by ∙ ap (option_map change) is

@@ -1,0 +1,5 @@
+pub mod Moments
+pub mod Calling
+mod Landing
+mod Calls
+mod Replay

@@ -1,0 +1,35 @@
+use Rattle.std.proofs.Common.{◌≡◌, ◌≤◌, ℕ, List, [], ◌∷◌, ◌++◌, length, Option, IfSome, inl, inr, refl, subst, arith}
+use Rattle.std.proofs.lemmas.List.{append-nil}
+use Rattle.disk_model.specs.Disks.{Only, IsSameOrLonger}
+use Rattle.disk_model.proofs.Moments.{started, goes_on-kept, goes_on-behind, now-has}
+use Rattle.disk_model.proofs.append.append_byte.Goals as goal
+
+-- at most one byte behind the file
+one_more : (file rest : List ℕ) → length rest ≤ 1 → IsSameOrLonger file (file ++ rest)
+one_more file [] le = inl (append-nil file)
+one_more file (byte ∷ []) le = inr (byte, refl)
+one_more file (byte ∷ next ∷ rest) le = absurd (omega arith)
+
+pub returns-in_err-write_at-clause-any_moment : goal.returns-in_err-write_at-clause-any_moment
+returns-in_err-write_at-clause-any_moment g c = λ file is only.
+    let disk = c.args.disk.now in
+    let measured = c.len.new.self in
+    let P : List ℕ → Type 0 = IsSameOrLonger file in
+    let at_end : c.in_ok-end.end ≡ length file = subst (λ (o : Option (List ℕ)). IfSome o (λ f. c.in_ok-end.end ≡ length f)) is c.in_ok-end.ensures.length in
+    let still : Only file (g.D.Disk.may_leave measured) = λ k now. only k (c.len.ensures.crash k (g.met.D.Disk.counts_now measured (g.D.Disk.moment disk) k c.len.ensures.time.later now)) in
+    let at_start = started g.D.Disk.moment g.D.Disk.left_since disk P (λ k left. inl (only k (g.met.D.Disk.only_now disk k left))) in
+    let first = goes_on-kept g.D.Disk.moment g.D.Disk.left_since g.D.Disk.may_leave disk disk measured P at_start c.len.ensures.time c.len.ensures.crash (λ k now. inl (only k now)) in
+    goes_on-behind g.D.Disk.moment g.D.Disk.left_since g.D.Disk.may_leave disk measured c.write_at.new.self P file c.in_ok-end.end 1 first c.write_at.ensures.time c.write_at.ensures.crash still at_end (one_more file)
+
+pub returns-clause-any_moment : goal.returns-clause-any_moment
+returns-clause-any_moment g c = λ file is only.
+    let disk = c.args.disk.now in
+    let measured = c.len.new.self in
+    let P : List ℕ → Type 0 = IsSameOrLonger file in
+    let at_end : c.in_ok-end.end ≡ length file = subst (λ (o : Option (List ℕ)). IfSome o (λ f. c.in_ok-end.end ≡ length f)) is c.in_ok-end.ensures.length in
+    let still : Only file (g.D.Disk.may_leave measured) = λ k now. only k (c.len.ensures.crash k (g.met.D.Disk.counts_now measured (g.D.Disk.moment disk) k c.len.ensures.time.later now)) in
+    let at_start = started g.D.Disk.moment g.D.Disk.left_since disk P (λ k left. inl (only k (g.met.D.Disk.only_now disk k left))) in
+    let first = goes_on-kept g.D.Disk.moment g.D.Disk.left_since g.D.Disk.may_leave disk disk measured P at_start c.len.ensures.time c.len.ensures.crash (λ k now. inl (only k now)) in
+    let wrote = goes_on-behind g.D.Disk.moment g.D.Disk.left_since g.D.Disk.may_leave disk measured c.write_at.new.self P file c.in_ok-end.end 1 first c.write_at.ensures.time c.write_at.ensures.crash still at_end (one_more file) in
+    goes_on-kept g.D.Disk.moment g.D.Disk.left_since g.D.Disk.may_leave disk c.write_at.new.self c.sync.new.self P wrote c.sync.ensures.time c.sync.ensures.crash
+    (now-has g.D.Disk.moment g.D.Disk.left_since g.D.Disk.may_leave g.met.D.Disk.counts_now disk c.write_at.new.self P wrote)

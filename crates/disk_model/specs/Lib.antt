@@ -1,0 +1,4 @@
+pub mod Disks
+pub mod Steps
+pub mod Images
+pub mod MemDisks

@@ -1,0 +1,357 @@
+//! A disk in memory.
+
+ghost use Rattle.std.specs.Prelude.{◌≡◌, ◌+◌, ◌-◌, ◌^◌, ◌<◌, ◌≤◌, ◌⊎◌, [], ◌∷◌, ◌++◌, None, true, false, min, length, take, drop, Contains, IfOk, IfSome, OnOk, OnErr, IsErr, option_map, Some};
+ghost use Rattle.edge_io.specs.Counts.{Grows, Rose};
+ghost use Rattle.disk_model.specs.Disks.{written, Torn, Shortened, Follows, Among, Only, Reaches, IsOneOf, Elapses};
+ghost use Rattle.disk_model.specs.Steps.{held, file_after, after_step, Lands};
+ghost use Rattle.disk_model.specs.Images.{reads-held, counts-now, only-now};
+
+use crate::disk::{Disk, DiskFailed, MAX_LENGTH};
+use crate::step::{Step, WHOLLY};
+use edge_io::Memory;
+use std::alloc::{AllocError, Global};
+
+/// A disk of one file in memory, which every name attaches. It keeps each step that the file has gone, and so answers for
+/// every moment.
+#[derive(Debug, Drop)]
+pub struct MemDisk {
+    alloc: Global,
+    start: Vec<u8>,
+    steps: Vec<Step>,
+    changed: Option<Vec<u8>>,
+    attached: bool,
+    failing: Vec<u64>,
+    calls: u64,
+    faults: u64,
+    ghost follows: { held start.items changed ≡ file_after steps.items start.items },
+}
+
+impl MemDisk {
+    ghost use Rattle.disk_model.specs.MemDisks.{bytes_of, reads_of, moment_of, ImageOf, SinceOf, IsImageAt, synced_at, file_at, failing_of, calls_of, faults_of};
+
+    /// A file with these bytes, all of them on the disk. Nothing is attached yet.
+    pub fn new(alloc: Global, bytes: Vec<u8>) -> MemDisk
+        ensures file { bytes_of result ≡ bytes.items }
+        ensures durable { Only bytes.items (ImageOf result) }
+        ensures unknown { reads_of result ≡ None }
+        ensures first { moment_of result ≡ 0 }
+        ensures sound { faults_of result ≡ 0 }
+        ensures told { failing_of result ≡ [] }
+    {
+        MemDisk::failing(alloc, bytes, Vec::new(alloc))
+    }
+
+    /// The same, where the calls of the numbers in `failing`, from 0, fail.
+    pub(crate) fn failing(alloc: Global, bytes: Vec<u8>, failing: Vec<u64>) -> MemDisk
+        ensures file { bytes_of result ≡ bytes.items }
+        ensures durable { Only bytes.items (ImageOf result) }
+        ensures unknown { reads_of result ≡ None }
+        ensures first { moment_of result ≡ 0 }
+        ensures sound { faults_of result ≡ 0 }
+        ensures told { failing_of result ≡ failing.items }
+        ensures no_call { calls_of result ≡ 0 }
+    {
+        MemDisk {
+            alloc,
+            start: bytes,
+            steps: Vec::new(alloc),
+            changed: None,
+            attached: false,
+            failing,
+            calls: 0,
+            faults: 0,
+        }
+    }
+
+    /// The bytes of the file.
+    fn bytes(&self) -> &[u8]
+        ensures { result.now ≡ bytes_of self.now }
+    {
+        match &self.changed {
+            Some(changed) => changed,
+            None => &self.start,
+        }
+    }
+
+    /// One image of a moment; a moment after now counts as now. Choice 0 is the file of the last sync before it, choice 1
+    /// the file that a read gave then, and the later choices go through the ways in which the steps since that sync may
+    /// land: not at all, wholly, a front of the bytes of a write, such a front with other bytes in the rest of the range,
+    /// and each length that a cut may leave.
+    pub fn image(&self, moment: u64, choice: u64) -> Result<Vec<u8>, Memory>
+        ensures image { IfOk result (λ v. IsImageAt self.now moment v.items) }
+        ensures synced { choice ≡ 0 → IfOk result (λ v. v.items ≡ synced_at self.now moment) }
+        ensures written { choice ≡ 1 → IfOk result (λ v. v.items ≡ file_at self.now moment) }
+    {
+        let now = (moment as usize).min(self.steps.len());
+        let mut file = Vec::from_slice(self.alloc, &self.start)?;
+        let mut image = Vec::from_slice(self.alloc, &self.start)?;
+        let mut rest = choice;
+        for step in &self.steps[..now] {
+            match step {
+                Step::Sync => {
+                    image = Vec::from_slice(self.alloc, &file)?;
+                    rest = choice;
+                }
+                _ => {
+                    let way = choose(choice, &mut rest, step.ways(file.len()));
+                    image = step.land(self.alloc, &image, way)?;
+                    file = step.land(self.alloc, &file, WHOLLY)?;
+                }
+            }
+        }
+        Ok(image)
+    }
+
+    /// The moment now.
+    pub fn moment(&self) -> u64
+        ensures { result ≡ moment_of self.now }
+    {
+        self.steps.len() as u64
+    }
+
+    /// Counts a call, which fails where it was told to.
+    fn begin(&mut self) -> Result<(), DiskFailed>
+        ensures told { Contains self.old.failing.items self.old.calls → IsErr result }
+        ensures only { OnErr result (Contains self.old.failing.items self.old.calls) }
+        ensures counted { OnErr result (Rose self.old.faults self.new.faults) }
+        ensures grows { Grows self.old.faults self.new.faults }
+        ensures unknown { OnErr result (self.new.attached ≡ false) }
+        ensures same { OnOk result (self.new.attached ≡ self.old.attached) }
+        ensures next { self.new.calls ≡ min (self.old.calls + 1) (2 ^ 64 - 1) }
+        ensures rest { self.new ≡ record self.old {
+          calls = self.new.calls;
+          faults = self.new.faults;
+          attached = self.new.attached;
+        } }
+    {
+        let call = self.calls;
+        self.calls = call.saturating_add(1);
+        if self.failing.contains(&call) {
+            return Err(self.fail());
+        }
+        Ok(())
+    }
+
+    /// Counts a failure: what reads give is not known from now on.
+    fn fail(&mut self) -> DiskFailed
+        ensures counted { Rose self.old.faults self.new.faults }
+        ensures grows { Grows self.old.faults self.new.faults }
+        ensures rest { self.new ≡ record self.old { faults = self.new.faults; attached = false } }
+    {
+        self.faults = self.faults.saturating_add(1);
+        self.attached = false;
+        DiskFailed
+    }
+
+    /// Goes a step.
+    fn go(&mut self, step: Step) -> Result<(), AllocError>
+        ensures bytes { OnOk result (bytes_of self.new ≡ after_step step (bytes_of self.old)) }
+        ensures crash { Follows (Lands step) (ImageOf self.old) (SinceOf self.new (moment_of self.old)) }
+        ensures time { Elapses (moment_of self.old) (moment_of self.new) (SinceOf self.old) (SinceOf self.new) }
+        ensures durable { OnOk result (step ≡ Step.Sync → Only (bytes_of self.old) (ImageOf self.new)) }
+        ensures unchanged { OnErr result (bytes_of self.new ≡ bytes_of self.old) }
+        ensures next_moment { OnOk result (moment_of self.new ≡ moment_of self.old + 1) }
+        ensures same_attached { self.new.attached ≡ self.old.attached }
+        ensures same_failing { self.new.failing ≡ self.old.failing }
+        ensures same_calls { self.new.calls ≡ self.old.calls }
+        ensures same_faults { self.new.faults ≡ self.old.faults }
+    {
+        let next = step.land(self.alloc, self.bytes(), WHOLLY)?;
+        self.steps.push(step)?;
+        self.changed = Some(next);
+        Ok(())
+    }
+}
+
+impl Disk for MemDisk {
+    ghost use Rattle.disk_model.specs.MemDisks.{bytes_of, reads_of, moment_of, ImageOf, SinceOf, failing_of, calls_of, faults_of};
+
+    ghost tells = { λ _. true };
+
+    ghost admits = { λ _ _. true };
+
+    ghost faults = { faults_of };
+
+    ghost reads = { reads_of };
+
+    ghost moment = { moment_of };
+
+    ghost may_leave = { ImageOf };
+
+    ghost left_since = { SinceOf };
+
+    ghost reads_image = { λ d file is. reads-held d.attached (held d.start.items d.changed) d.start.items d.steps.items file d.follows is };
+
+    ghost counts_now = { λ d t c le now. counts-now d.start.items d.steps.items t c le now };
+
+    ghost only_now = { λ d c left. only-now d.start.items d.steps.items c left };
+
+    fn attach(&mut self, _name: &str) -> Result<(), DiskFailed>
+        // What every disk does.
+        ensures open { OnOk result (IsOneOf (reads_of self.new) (ImageOf self.old)) }
+        ensures crash { Among (ImageOf self.old) (SinceOf self.new (moment_of self.old)) }
+        ensures time { Elapses (moment_of self.old) (moment_of self.new) (SinceOf self.old) (SinceOf self.new) }
+        ensures failed { OnErr result (Rose (faults_of self.old) (faults_of self.new)) }
+        ensures unknown { OnErr result (reads_of self.new ≡ None) }
+        ensures faults_grow { Grows (faults_of self.old) (faults_of self.new) }
+
+        // What this one gives, and when it fails.
+        ensures whole { OnOk result (reads_of self.new ≡ Some (bytes_of self.old)) }
+        ensures same_moment { moment_of self.new ≡ moment_of self.old }
+        ensures same_bytes { bytes_of self.new ≡ bytes_of self.old }
+        ensures told { Contains (failing_of self.old) (calls_of self.old) → IsErr result }
+        ensures only { OnErr result (Contains (failing_of self.old) (calls_of self.old) ⊎ (2 ^ 62 < length (bytes_of self.old))) }
+        ensures next { calls_of self.new ≡ min (calls_of self.old + 1) (2 ^ 64 - 1) }
+        ensures same_failing { failing_of self.new ≡ failing_of self.old }
+    {
+        self.begin()?;
+        if self.bytes().len() as u64 > MAX_LENGTH {
+            return Err(self.fail());
+        }
+        self.attached = true;
+        Ok(())
+    }
+
+    fn len(&mut self) -> Result<u64, DiskFailed>
+        // What every disk does.
+        ensures length { IfOk result (λ n. IfSome (reads_of self.old) (λ file. n ≡ length file)) }
+        ensures short { IfOk result (λ n. n ≤ 2 ^ 62) }
+        ensures same { OnOk result (reads_of self.new ≡ reads_of self.old) }
+        ensures crash { Among (ImageOf self.old) (SinceOf self.new (moment_of self.old)) }
+        ensures time { Elapses (moment_of self.old) (moment_of self.new) (SinceOf self.old) (SinceOf self.new) }
+        ensures failed { OnErr result (Rose (faults_of self.old) (faults_of self.new)) }
+        ensures unknown { OnErr result (reads_of self.new ≡ None) }
+        ensures faults_grow { Grows (faults_of self.old) (faults_of self.new) }
+
+        // What this one gives, and when it fails.
+        ensures same_moment { moment_of self.new ≡ moment_of self.old }
+        ensures same_bytes { bytes_of self.new ≡ bytes_of self.old }
+        ensures told { Contains (failing_of self.old) (calls_of self.old) → IsErr result }
+        ensures only { OnErr result (Contains (failing_of self.old) (calls_of self.old) ⊎ (2 ^ 62 < length (bytes_of self.old))) }
+        ensures next { calls_of self.new ≡ min (calls_of self.old + 1) (2 ^ 64 - 1) }
+        ensures same_failing { failing_of self.new ≡ failing_of self.old }
+    {
+        self.begin()?;
+        let length = self.bytes().len() as u64;
+        if length > MAX_LENGTH {
+            return Err(self.fail());
+        }
+        Ok(length)
+    }
+
+    fn read_at(&mut self, at: u64, into: &mut [u8]) -> Result<(), DiskFailed>
+        requires { Reaches (reads_of self.old) (at + length into.old) }
+        // What every disk does.
+        ensures bytes { OnOk result (IfSome (reads_of self.old) (λ file. into.new ≡ take (length into.old) (drop at file))) }
+        ensures same { OnOk result (reads_of self.new ≡ reads_of self.old) }
+        ensures crash { Among (ImageOf self.old) (SinceOf self.new (moment_of self.old)) }
+        ensures time { Elapses (moment_of self.old) (moment_of self.new) (SinceOf self.old) (SinceOf self.new) }
+        ensures failed { OnErr result (Rose (faults_of self.old) (faults_of self.new)) }
+        ensures unknown { OnErr result (reads_of self.new ≡ None) }
+        ensures faults_grow { Grows (faults_of self.old) (faults_of self.new) }
+
+        // What this one gives, and when it fails.
+        ensures same_moment { moment_of self.new ≡ moment_of self.old }
+        ensures same_bytes { bytes_of self.new ≡ bytes_of self.old }
+        ensures told { Contains (failing_of self.old) (calls_of self.old) → IsErr result }
+        ensures only { OnErr result (Contains (failing_of self.old) (calls_of self.old)) }
+        ensures next { calls_of self.new ≡ min (calls_of self.old + 1) (2 ^ 64 - 1) }
+        ensures same_failing { failing_of self.new ≡ failing_of self.old }
+    {
+        self.begin()?;
+        let start = at as usize;
+        into.copy_from_slice(&self.bytes()[start..start + into.len()]);
+        Ok(())
+    }
+
+    fn write_at(&mut self, at: u64, bytes: &[u8]) -> Result<(), DiskFailed>
+        requires { Reaches (reads_of self.old) at }
+        // What every disk does.
+        ensures written { OnOk result (reads_of self.new ≡ option_map (λ file. written file at bytes.now) (reads_of self.old)) }
+        ensures short { OnOk result (at + length bytes.now ≤ 2 ^ 62) }
+        ensures crash { Follows (Torn at (length bytes.now)) (ImageOf self.old) (SinceOf self.new (moment_of self.old)) }
+        ensures time { Elapses (moment_of self.old) (moment_of self.new) (SinceOf self.old) (SinceOf self.new) }
+        ensures failed { OnErr result (Rose (faults_of self.old) (faults_of self.new)) }
+        ensures unknown { OnErr result (reads_of self.new ≡ None) }
+        ensures faults_grow { Grows (faults_of self.old) (faults_of self.new) }
+
+        // What this one gives, and when it fails.
+        ensures next_moment { OnOk result (moment_of self.new ≡ moment_of self.old + 1) }
+        ensures told { Contains (failing_of self.old) (calls_of self.old) → IsErr result }
+        ensures next { calls_of self.new ≡ min (calls_of self.old + 1) (2 ^ 64 - 1) }
+        ensures same_failing { failing_of self.new ≡ failing_of self.old }
+    {
+        let begun = self.begin();
+        if at.saturating_add(bytes.len() as u64) > MAX_LENGTH {
+            return Err(self.fail());
+        }
+        let Ok(kept) = Vec::from_slice(self.alloc, bytes) else {
+            return Err(self.fail());
+        };
+        if self.go(Step::Write(at as usize, kept)).is_err() {
+            return Err(self.fail());
+        }
+        begun
+    }
+
+    fn cut(&mut self, to: u64) -> Result<(), DiskFailed>
+        requires { Reaches (reads_of self.old) to }
+        // What every disk does.
+        ensures cut { OnOk result (reads_of self.new ≡ option_map (λ file. take to file) (reads_of self.old)) }
+        ensures crash { Follows (Shortened to) (ImageOf self.old) (SinceOf self.new (moment_of self.old)) }
+        ensures time { Elapses (moment_of self.old) (moment_of self.new) (SinceOf self.old) (SinceOf self.new) }
+        ensures failed { OnErr result (Rose (faults_of self.old) (faults_of self.new)) }
+        ensures unknown { OnErr result (reads_of self.new ≡ None) }
+        ensures faults_grow { Grows (faults_of self.old) (faults_of self.new) }
+
+        // What this one gives, and when it fails.
+        ensures next_moment { OnOk result (moment_of self.new ≡ moment_of self.old + 1) }
+        ensures told { Contains (failing_of self.old) (calls_of self.old) → IsErr result }
+        ensures next { calls_of self.new ≡ min (calls_of self.old + 1) (2 ^ 64 - 1) }
+        ensures same_failing { failing_of self.new ≡ failing_of self.old }
+    {
+        let begun = self.begin();
+        if self.go(Step::Cut(to as usize)).is_err() {
+            return Err(self.fail());
+        }
+        begun
+    }
+
+    fn sync(&mut self) -> Result<(), DiskFailed>
+        // What every disk does.
+        ensures durable { OnOk result (IfSome (reads_of self.old) (λ file. Only file (ImageOf self.new))) }
+        ensures same { OnOk result (reads_of self.new ≡ reads_of self.old) }
+        ensures crash { Among (ImageOf self.old) (SinceOf self.new (moment_of self.old)) }
+        ensures time { Elapses (moment_of self.old) (moment_of self.new) (SinceOf self.old) (SinceOf self.new) }
+        ensures failed { OnErr result (Rose (faults_of self.old) (faults_of self.new)) }
+        ensures unknown { OnErr result (reads_of self.new ≡ None) }
+        ensures faults_grow { Grows (faults_of self.old) (faults_of self.new) }
+
+        // What this one gives, and when it fails.
+        ensures next_moment { OnOk result (moment_of self.new ≡ moment_of self.old + 1) }
+        ensures same_bytes { bytes_of self.new ≡ bytes_of self.old }
+        ensures told { Contains (failing_of self.old) (calls_of self.old) → IsErr result }
+        ensures next { calls_of self.new ≡ min (calls_of self.old + 1) (2 ^ 64 - 1) }
+        ensures same_failing { failing_of self.new ≡ failing_of self.old }
+    {
+        self.begin()?;
+        if self.go(Step::Sync).is_err() {
+            return Err(self.fail());
+        }
+        Ok(())
+    }
+}
+
+/// How the next step lands in an image of that choice; `rest` is what is left of the choice.
+fn choose(choice: u64, rest: &mut u64, ways: u64) -> u64
+    requires { 0 < ways }
+    ensures none { choice ≡ 0 → result ≡ 0 }
+    ensures whole { choice ≡ 1 → result ≡ 1 }
+{
+    if choice <= WHOLLY {
+        return choice;
+    }
+    let way = *rest % ways;
+    *rest /= ways;
+    way
+}
