@@ -4,9 +4,9 @@ use Rattle.std.specs.Int.{◌∣◌, IsGcd}
 use Rattle.std.proofs.Math.Nat.{div-mul_cancel, dvd-mul_left_of_dvd, mul_comm}
 use Rattle.std.proofs.lemmas.Nat.Gcd.{dvd_trans, same_from_IsGcd}
 use Rattle.std.proofs.lemmas.Int.{unsigned_abs-mul}
-use Rattle.divisors.specs.Divisors.{IsCoprime}
+use Rattle.integers.specs.Divisors.{IsCoprime}
 use Rattle.integers.proofs.Ring.{additive, sorted}
-use Rattle.divisors.proofs.Divides.{IsCoprime-swap, IsCoprime-dvd, IsCoprime-mul, IsCoprime-quotients, IsGcd-coprime_factor, dvd-coprime, dvd-sum_rest, positive-gcd}
+use Rattle.integers.proofs.Divides.{IsCoprime-swap, IsCoprime-dvd, IsCoprime-mul, IsCoprime-quotients, IsGcd-coprime_factor, dvd-coprime, dvd-sum_rest, positive-gcd}
 use Rattle.exact_num.specs.Fraction.{Fraction, IsShortOver, IsShortSum}
 use Rattle.exact_num.proofs.Cancelling.{quotient-dvd}
 

@@ -2,8 +2,8 @@
 use Rattle.std.proofs.Common.{◌≡◌, ℕ, zero, suc, ◌*◌, ◌/◌, ◌<◌, Bool, ℤ, pos, ◌*ℤ◌, unsigned_abs, refl, subst, sym, ap, arith, ◌∙◌}
 use Rattle.std.specs.Int.{◌∣◌, IsGcd}
 use Rattle.std.proofs.Math.Nat.{div-mul_cancel, dvd-mul_right, mul_assoc, mul_comm, mul_left_comm}
-use Rattle.divisors.specs.Divisors.{IsCoprime}
-use Rattle.divisors.proofs.Divides.{IsCoprime-swap, IsCoprime-dvd, IsCoprime-mul, IsCoprime-quotients, positive-gcd}
+use Rattle.integers.specs.Divisors.{IsCoprime}
+use Rattle.integers.proofs.Divides.{IsCoprime-swap, IsCoprime-dvd, IsCoprime-mul, IsCoprime-quotients, positive-gcd}
 use Rattle.exact_num.specs.Fraction.{Fraction, IsSame, product_of}
 use Rattle.exact_num.specs.Signed.{signed, signed_fraction}
 use Rattle.exact_num.proofs.Signs.{signed-mul, positive-quotient}

@@ -2,7 +2,7 @@
 use Rattle.std.proofs.Common.{◌≡◌, ℕ, ◌-◌, ◌/◌, ◌%◌, ◌^◌, ◌≤◌, ◌<◌, subst}
 use Rattle.std.specs.Int.{IsGcd, Width, trailing_zeros}
 use Rattle.std.proofs.lemmas.Nat.Gcd.{IsGcd-swap, IsGcd-from_sub}
-use Rattle.divisors.proofs.Twos.{without_zeros, IsGcd-halved}
+use Rattle.integers.proofs.Twos.{without_zeros, IsGcd-halved}
 use mir.Val.{bits}
 
 -- x is odd, and so is y without its trailing zeros

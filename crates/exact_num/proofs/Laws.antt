@@ -4,10 +4,10 @@ use Rattle.std.specs.Int.{◌∣◌}
 use Rattle.std.proofs.Math.Nat.{dvd-mul_right, dvd-mul_left, mul_comm}
 use Rattle.std.proofs.lemmas.Nat.Gcd.{le_of_dvd}
 use Rattle.std.proofs.lemmas.Int.{ints, unsigned_abs-mul}
-use Rattle.divisors.specs.Divisors.{IsCoprime}
+use Rattle.integers.specs.Divisors.{IsCoprime}
 use Rattle.integers.proofs.Ring.{sorted, mul_comm_ℤ}
 use Rattle.integers.proofs.Order.{same-cancel}
-use Rattle.divisors.proofs.Divides.{IsCoprime-swap, dvd-coprime}
+use Rattle.integers.proofs.Divides.{IsCoprime-swap, dvd-coprime}
 use Rattle.exact_num.specs.Fraction.{Fraction, IsSame, IsLowest, IsShort, LeavesRange}
 
 pub IsSame-refl : (x : Fraction) → IsSame x x

@@ -7,7 +7,7 @@ use mir.Syntax.{w128}
 use Rattle.std.proofs.Math.Nat.{div-mul_cancel}
 use Rattle.integers.proofs.Ring.{neg-mul}
 use Rattle.exact_num.specs.Fraction.{Fraction, IsSame, LeavesRange}
-use Rattle.divisors.specs.Divisors.{IsCoprime}
+use Rattle.integers.specs.Divisors.{IsCoprime}
 use Rattle.exact_num.specs.Signed.{signed, signed_fraction}
 use Rattle.exact_num.proofs.Laws.{LeavesRange-lowest}
 

@@ -3,7 +3,7 @@ use Rattle.std.specs.Prelude.{◌≡◌, ℕ, ◌*◌, ◌/◌, ◌^◌, ◌<◌
 use Rattle.std.specs.declared.cmp.Ordering.{Ordering}
 use Rattle.std.specs.Ordering.{int_cmp}
 use Rattle.std.specs.Int.{IsGcd}
-use Rattle.divisors.specs.Divisors.{IsCoprime}
+use Rattle.integers.specs.Divisors.{IsCoprime}
 
 -- a numerator over a denominator
 pub record Fraction : Type 0 where

@@ -1,7 +1,7 @@
 //! A fraction in lowest terms.
 
 ghost use Rattle.std.specs.Prelude.{◌≡◌, ◌≢◌, ◌+◌, ◌*◌, ◌/◌, ◌<◌, ◌^◌, ◌↔◌, ℕ, pos, ◌+ℤ◌, ◌*ℤ◌, ◌<ℤ◌, ◌≤ℤ◌, unsigned_abs, IfOk, IfErr, OnOk, IsErrOf};
-ghost use Rattle.divisors.specs.Divisors.{IsCoprime};
+ghost use Rattle.integers.specs.Divisors.{IsCoprime};
 
 mod arithmetic;
 mod making;

@@ -136,3 +136,37 @@ abs-int_sum_at key k f g n h = abs-int_sum_below_to (λ i. if key i == k then f 
     inside : (b : Bool) (x : ℤ) (y : ℕ) → unsigned_abs x ≤ y → unsigned_abs (if b then x else pos 0) ≤ (if b then y else 0)
     inside true x y h = h
     inside false x y h = omega arith
+
+-- ---- sums of naturals over keys
+pub sum_below-add : (f g : ℕ → ℕ) (n : ℕ) → sum_below (λ i. f i + g i) n ≡ sum_below f n + sum_below g n
+sum_below-add f g zero = refl
+sum_below-add f g (suc n) = omega (arith, sum_below-add f g n)
+
+one_natural_key : (k x m : ℕ) → k < m → sum_below (λ i. if k == i then x else 0) m ≡ x
+one_natural_key k x zero h = absurd (omega arith)
+one_natural_key k x (suc m) h = elim (same_or_other k m) [
+  | inl e ↦ omega (arith, chosen k m x 0 e, sum_below-nothing (λ i. if k == i then x else 0) m (λ i lt. passed k i x 0 (omega arith)))
+  | inr d ↦ omega (arith, passed k m x 0 d, one_natural_key k x m (omega arith))
+]
+
+-- a sum over the keys is a sum over all
+pub sum_keys : (key f : ℕ → ℕ) (m n : ℕ) → ((i : ℕ) → i < n → key i < m) → sum_below (λ k. sum_at key k f n) m ≡ sum_below f n
+sum_keys key f m zero h = sum_below-nothing (λ k. 0) m (λ k lt. refl)
+sum_keys key f m (suc n) h =
+    omega (
+      arith,
+      sum_below-add (λ k. sum_at key k f n) (λ k. if key n == k then f n else 0) m,
+      sum_keys key f m n (λ i lt. h i (omega arith)),
+      one_natural_key (key n) (f n) m (h n (omega arith)),
+    )
+
+pub sum_at-same_key : (key : ℕ → ℕ) (k : ℕ) (f g : ℕ → ℕ) (n : ℕ) → ((i : ℕ) → i < n → key i ≡ k → f i ≡ g i) → sum_at key k f n ≡ sum_at key k g n
+sum_at-same_key key k f g n h = sum_below-same (λ i. if key i == k then f i else 0) (λ i. if key i == k then g i else 0) n (λ i lt. at i lt (same_or_other (key i) k))
+  where
+    at : (i : ℕ) → i < n → (key i ≡ k) ⊎ (key i ≢ k) → (if key i == k then f i else 0) ≡ (if key i == k then g i else 0)
+    at i lt (inl e) = omega (arith, chosen (key i) k (f i) 0 e, chosen (key i) k (g i) 0 e, h i lt e)
+    at i lt (inr d) = omega (arith, passed (key i) k (f i) 0 d, passed (key i) k (g i) 0 d)
+
+pub sum_below-most : (f : ℕ → ℕ) (b n : ℕ) → ((i : ℕ) → i < n → f i ≤ b) → sum_below f n ≤ n * b
+sum_below-most f b zero h = omega arith
+sum_below-most f b (suc n) h = omega (arith, sum_below-most f b n (λ i lt. h i (omega arith)), h n (omega arith))

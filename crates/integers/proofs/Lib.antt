@@ -4,3 +4,9 @@ pub mod ByIndex
 pub mod ByList
 pub mod AtKey
 pub mod ByNode
+pub mod Divides
+pub mod Twos
+pub mod Grids
+pub mod Means
+pub mod Elements
+pub mod Pairs

@@ -1,8 +1,8 @@
 -- Order on ℤ with products, least and greatest of products over an interval, absolute values.
-use Rattle.std.proofs.Common.{◌≡◌, ℕ, zero, suc, ◌+◌, ◌*◌, ◌≤◌, ◌<◌, max, ℤ, pos, negsuc, ◌+ℤ◌, ◌-ℤ◌, ◌*ℤ◌, neg_ℤ, ◌≤ℤ◌, ◌<ℤ◌, unsigned_abs, arith, refl}
+use Rattle.std.proofs.Common.{◌≡◌, ℕ, zero, suc, ◌+◌, ◌*◌, ◌≤◌, ◌<◌, ◌⊎◌, inl, inr, min, max, ap, ℤ, pos, negsuc, ◌+ℤ◌, ◌-ℤ◌, ◌*ℤ◌, neg_ℤ, ◌≤ℤ◌, ◌<ℤ◌, unsigned_abs, arith, refl}
 use Rattle.std.proofs.Math.Nat.{mul-le-mul, div-mul-le_self, lt-div-mul-add}
 use Rattle.std.proofs.lemmas.Int.{ints, clamps, by_lt_z, unsigned_abs-mul}
-use Rattle.std.specs.Int.{int_min, int_div_euclid}
+use Rattle.std.specs.Int.{int_min, int_max, int_div_euclid}
 use Rattle.integers.proofs.Ring.{linear, sorted, additive, mul_comm_ℤ, neg-mul}
 
 pub nonneg-mul : (a b : ℤ) → pos 0 ≤ℤ a → pos 0 ≤ℤ b → pos 0 ≤ℤ (a *ℤ b)
@@ -40,6 +40,12 @@ pub le-cancel : (m a b : ℤ) → pos 0 <ℤ m → (m *ℤ a) ≤ℤ (m *ℤ b) 
 le-cancel m a b p h = by_lt_z b a
     (λ w. let bad : pos 0 <ℤ (m *ℤ (a -ℤ b)) = pos-mul m (a -ℤ b) p (omega (arith, additive)) in absurd (omega (arith, additive, rw mul_out at bad)))
     (λ w. w)
+
+pub lt-mul : (m a b : ℤ) → pos 0 <ℤ m → a <ℤ b → (m *ℤ a) <ℤ (m *ℤ b)
+lt-mul m a b p h = by_lt_z (m *ℤ a) (m *ℤ b) (λ l. l) (λ g. absurd (let back = le-cancel m b a p g in omega (arith, additive)))
+
+pub lt-cancel : (m a b : ℤ) → pos 0 <ℤ m → (m *ℤ a) <ℤ (m *ℤ b) → a <ℤ b
+lt-cancel m a b p h = by_lt_z a b (λ l. l) (λ g. absurd (let back = le-mul m b a (omega (arith, additive)) g in omega (arith, additive)))
 
 pub same-cancel : (m a b : ℤ) → pos 0 <ℤ m → m *ℤ a ≡ m *ℤ b → a ≡ b
 same-cancel m a b p e =
@@ -131,3 +137,43 @@ four_products-over d e pL p pH yL y yH hd he a b c f =
 
     le-mul_right : (r a b : ℤ) → pos 0 ≤ℤ r → a ≤ℤ b → (a *ℤ r) ≤ℤ (b *ℤ r)
     le-mul_right r a b h k = omega (arith, additive, le-mul r a b h k, mul_comm_ℤ r a, mul_comm_ℤ r b)
+
+-- ---- products with a lesser or a greatest
+-- the lesser of two numbers, times a number
+pub le-mul_min : (x base a b : ℕ) → x ≤ base * a → x ≤ base * b → x ≤ base * min a b
+le-mul_min x base a b h k = elim (either a b) [
+  | inl e ↦ rw e h
+  | inr e ↦ rw e k
+]
+  where
+    either : (a b : ℕ) → (min a b ≡ a) ⊎ (min a b ≡ b)
+    either a b = grind arith
+
+pub le-mul_pos : (k : ℕ) (a b : ℤ) → a ≤ℤ b → (a *ℤ pos k) ≤ℤ (b *ℤ pos k)
+le-mul_pos k a b h = omega (arith, additive, le-mul (pos k) a b (omega (arith, additive)) h, mul_comm_ℤ a (pos k), mul_comm_ℤ b (pos k))
+
+-- the lesser of two numbers, times a number
+pub le-mul_int_min : (v d a b : ℤ) → v ≤ℤ (a *ℤ d) → v ≤ℤ (b *ℤ d) → v ≤ℤ (int_min a b *ℤ d)
+le-mul_int_min v d a b h k = by_lt_z a b
+    (λ lt. let e : int_min a b ≡ a = omega (arith, additive, clamps) in omega (arith, additive, ap (λ z. z *ℤ d) e))
+    (λ le. let e : int_min a b ≡ b = omega (arith, additive, clamps) in omega (arith, additive, ap (λ z. z *ℤ d) e))
+
+-- a product of two numbers in intervals, p over d and y over e, is at most the greatest of the four products of the ends
+pub four_products-over_high : (d e pL p pH yL y yH : ℤ) → pos 0 ≤ℤ d → pos 0 ≤ℤ e → (pL *ℤ d) ≤ℤ p → p ≤ℤ (pH *ℤ d) → (yL *ℤ e) ≤ℤ y → y ≤ℤ (yH *ℤ e)
+    → (p *ℤ y) ≤ℤ (int_max (int_max (pL *ℤ yL) (pL *ℤ yH)) (int_max (pH *ℤ yL) (pH *ℤ yH)) *ℤ (d *ℤ e))
+four_products-over_high d e pL p pH yL y yH hd he a b c f =
+    let greatest = int_max (int_max (pL *ℤ yL) (pL *ℤ yH)) (int_max (pH *ℤ yL) (pH *ℤ yH)) in
+    let turned = int_min (int_min (neg_ℤ pH *ℤ yL) (neg_ℤ pH *ℤ yH)) (int_min (neg_ℤ pL *ℤ yL) (neg_ℤ pL *ℤ yH)) in
+    let same : turned ≡ neg_ℤ greatest = omega (arith, additive, clamps, neg-mul pH yL, neg-mul pH yH, neg-mul pL yL, neg-mul pL yH) in
+    omega (
+      arith,
+      additive,
+      four_products-over d e (neg_ℤ pH) (neg_ℤ p) (neg_ℤ pL) yL y yH hd he (omega (arith, additive, neg-mul pH d)) (omega (arith, additive, neg-mul pL d)) c f,
+      ap (λ z. z *ℤ (d *ℤ e)) same,
+      neg-mul greatest (d *ℤ e),
+      neg-mul p y,
+    )
+
+-- signed numbers that are equal where they count the same
+pub same_pos : (a b : ℕ) → pos a ≡ pos b → a ≡ b
+same_pos a b e = cc

@@ -2,7 +2,7 @@
 
 ghost use Rattle.std.specs.Prelude.{◌≡◌, ◌≢◌, ◌+◌, ◌*◌, ◌<◌, ◌^◌, ◌↔◌, ℕ, pos, ◌+ℤ◌, ◌*ℤ◌, unsigned_abs, IfOk, IfErr, OnOk, IsErrOf};
 ghost use Rattle.std.specs.Int.{IsGcd};
-ghost use Rattle.divisors.specs.Divisors.{IsCoprime};
+ghost use Rattle.integers.specs.Divisors.{IsCoprime};
 ghost use Rattle.exact_num.specs.Fraction.{IsSame, IsShort, IsShortSum, LeavesRange, sum_of, negative_of, difference_of, product_of, inverse_of, quotient_of};
 ghost use Rattle.exact_num.specs.Signed.{signed, signed_fraction};
 ghost use Rattle.exact_num.specs.Shown.{fraction_of};

@@ -2,7 +2,7 @@
 
 ghost use Rattle.std.specs.Prelude.{◌≡◌, ◌*◌, ◌<◌, ◌^◌, ◌↔◌, pos, unsigned_abs, IfOk, IfErr, IsErrOf};
 ghost use Rattle.std.specs.Int.{IsGcd};
-ghost use Rattle.divisors.specs.Divisors.{IsCoprime};
+ghost use Rattle.integers.specs.Divisors.{IsCoprime};
 ghost use Rattle.exact_num.specs.Fraction.{IsSame, LeavesRange, ratio_of};
 ghost use Rattle.exact_num.specs.Signed.{signed_fraction};
 ghost use Rattle.exact_num.specs.Shown.{fraction_of};

@@ -1,5 +1,5 @@
 use Rattle.std.specs.Int.{w128}
-use Rattle.divisors.proofs.Twos.{without_zeros, IsGcd-without_zeros}
+use Rattle.integers.proofs.Twos.{without_zeros, IsGcd-without_zeros}
 use Rattle.exact_num.proofs.gcd.halved_gcd.Goals as goal
 
 pub odd_gcd-requires : goal.odd_gcd-requires

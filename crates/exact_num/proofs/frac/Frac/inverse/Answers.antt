@@ -1,6 +1,6 @@
 use Rattle.std.proofs.Common.{◌≡◌, ◌∙◌, unsigned_abs, FitsSigned, arith, rules, ap, to_z}
 use Rattle.std.proofs.lemmas.Int.{ints, to_z-of_z}
-use Rattle.divisors.proofs.Divides.{IsCoprime-swap}
+use Rattle.integers.proofs.Divides.{IsCoprime-swap}
 use Rattle.exact_num.proofs.Signs.{positive-size}
 use Rattle.exact_num.proofs.frac.Frac.inverse.Goals as goal
 use Rattle.exact_num.proofs.frac.Frac.inverse.Goals.{then-self-lt0, else-self-lt0}

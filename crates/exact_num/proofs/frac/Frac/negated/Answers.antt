@@ -1,6 +1,6 @@
 use Rattle.std.proofs.Common.{◌≡◌, pos, ◌-ℤ◌, unsigned_abs, FitsSigned, arith, rules, subst, sym, to_z, of_z}
 use Rattle.std.proofs.lemmas.Int.{ints}
-use Rattle.divisors.specs.Divisors.{IsCoprime}
+use Rattle.integers.specs.Divisors.{IsCoprime}
 use Rattle.exact_num.proofs.frac.Frac.negated.Goals as goal
 use mir.Syntax.{w128}
 

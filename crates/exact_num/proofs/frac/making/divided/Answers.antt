@@ -1,5 +1,5 @@
 use Rattle.std.proofs.Common.{◌/◌, sym}
-use Rattle.divisors.proofs.Divides.{IsCoprime-quotients, positive-gcd}
+use Rattle.integers.proofs.Divides.{IsCoprime-quotients, positive-gcd}
 use Rattle.exact_num.specs.Signed.{signed_fraction}
 use Rattle.exact_num.proofs.Signs.{signed_fraction-divided, positive-quotient}
 use Rattle.exact_num.proofs.Results.{given_as, refused_as}

@@ -1,7 +1,7 @@
 use Rattle.std.proofs.Common.{◌≡◌, arith, refl, subst, sym, ap, unsigned_abs, to_z, ◌∙◌}
 use mir.Syntax.{w128}
 use Rattle.std.proofs.lemmas.Int.{ints}
-use Rattle.divisors.specs.Divisors.{IsCoprime}
+use Rattle.integers.specs.Divisors.{IsCoprime}
 use Rattle.exact_num.proofs.Signs.{LeavesRange-signed}
 use Rattle.exact_num.proofs.frac.making.pack.Goals as goal
 use Rattle.exact_num.proofs.frac.making.pack.Goals.{then-num-gt-MOST-via-then-num-gt-MOST, then-num-gt-MOST-via-else-num-gt-MOST+then-den-gt-MOST, then-negative, else-negative}

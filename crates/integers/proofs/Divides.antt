@@ -2,7 +2,7 @@
 use Rattle.std.proofs.Common.{◌≡◌, ℕ, zero, suc, ◌+◌, ◌*◌, ◌/◌, ◌%◌, ◌≤◌, ◌<◌, ◌⊎◌, inl, inr, ℤ, pos, negsuc, ◌+ℤ◌, unsigned_abs, ap, sym, subst, refl, arith}
 use Rattle.std.specs.Int.{◌∣◌, IsGcd}
 use Rattle.std.proofs.lemmas.Int.{ints, by_lt_z}
-use Rattle.divisors.specs.Divisors.{IsCoprime}
+use Rattle.integers.specs.Divisors.{IsCoprime}
 use Rattle.std.proofs.Math.Nat.{dvd-add, dvd-mul_left, dvd-mul_right, dvd-add_iff_right, dvd-mod_iff, one-dvd, mul-dvd-mul_right, div-mul_cancel, one-mul, dvd-mul_right_of_dvd, eq-zero_of_zero-dvd, zero-mul}
 use Rattle.std.proofs.lemmas.Nat.Gcd.{dvd_refl, dvd_trans, le_of_dvd, IsGcd-from_zero, same_from_IsGcd}
 

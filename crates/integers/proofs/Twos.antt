@@ -4,8 +4,8 @@ use Rattle.std.specs.Int.{◌∣◌, IsGcd, Width, bit_at, trailing_zeros}
 use Rattle.std.proofs.Math.Nat.{mul-dvd-mul_left, one-dvd, mul_comm, mul-div_cancel', mul-dvd-mul_right, eq-zero_of_zero-dvd, eq-one_of_dvd-one}
 use Rattle.std.proofs.lemmas.Nat.Gcd.{le_of_dvd, mod-eq-zero_of_dvd}
 use Rattle.std.proofs.lemmas.Nat.Bits.{bit_at-trailing_zeros, bit_at-suc, bit_at_lowest}
-use Rattle.divisors.specs.Divisors.{IsCoprime}
-use Rattle.divisors.proofs.Divides.{IsCoprime-mul, IsGcd-coprime_factor, dvd-scaled}
+use Rattle.integers.specs.Divisors.{IsCoprime}
+use Rattle.integers.proofs.Divides.{IsCoprime-mul, IsGcd-coprime_factor, dvd-scaled}
 use mir.Val.{bits}
 
 -- an odd number has no divisor in common with 2
