@@ -31,7 +31,7 @@ Reaches-lesser_right None y a h = h
 Reaches-lesser_right (Some c) None a h = absurd h
 Reaches-lesser_right (Some c) (Some d) a h = omega (arith, additive, clamps)
 
-Reaches-least_below : (f : ℕ → Option ℤ) (n i : ℕ) (a : ℤ) → i < n → Reaches (f i) a → Reaches (least_below f n) a
+pub Reaches-least_below : (f : ℕ → Option ℤ) (n i : ℕ) (a : ℤ) → i < n → Reaches (f i) a → Reaches (least_below f n) a
 Reaches-least_below f zero i a h r = absurd (omega arith)
 Reaches-least_below f (suc n) i a h r = elim (same_or_other i n) [
   | inl e ↦ Reaches-lesser_right (least_below f n) (f n) a (subst (λ (j : ℕ). Reaches (f j) a) e r)

@@ -1,5 +1,5 @@
 -- A network: its lists in file order, and the same by number, as plans speak of it.
-use Rattle.std.specs.Prelude.{◌≡◌, ℕ, ◌^◌, ◌<◌, ◌≤◌, List, [], ◌∷◌, length, get_or, Option, Some, None, ℤ, pos, neg_ℤ, ◌≤ℤ◌}
+use Rattle.std.specs.Prelude.{◌≡◌, ℕ, ◌+◌, ◌^◌, ◌<◌, ◌≤◌, List, [], ◌∷◌, length, get_or, Option, Some, None, ℤ, pos, neg_ℤ, ◌≤ℤ◌}
 
 -- a source: millionths of money a unit, millionths of flow at the most, millionths of each quality
 pub record Source : Type 0 where
@@ -112,7 +112,16 @@ counts_of n = n.sources ∷ n.pools ∷ n.products ∷ n.qualities ∷ n.feeds �
 abbrev pub IsWithin : ℕ → ℤ → Type 0
 IsWithin size z = (neg_ℤ (pos size) ≤ℤ z) × (z ≤ℤ pos size)
 
--- The counts, numbers and ends of a network that is read stay within these limits.
+-- every pool has a feed
+abbrev pub HasFeeds : Net → Type 0
+HasFeeds n = (l : ℕ) → l < n.pools → (e : ℕ) × (e < n.feeds) × (n.feed_pool e ≡ l)
+
+-- every pool has an out
+abbrev pub HasOuts : Net → Type 0
+HasOuts n = (l : ℕ) → l < n.pools → (o : ℕ) × (o < n.outs) × (n.out_pool o ≡ l)
+
+-- The counts, numbers and ends of a network that is read stay within these limits. Every pool has a feed and an out, and
+-- no least quality is above the most.
 pub record IsLimited (n : Net) : Type 0 where
   pub sources : n.sources ≤ 64
   pub pools : n.pools ≤ 16
@@ -121,6 +130,7 @@ pub record IsLimited (n : Net) : Type 0 where
   pub feeds : n.feeds ≤ 256
   pub outs : n.outs ≤ 256
   pub directs : n.directs ≤ 256
+  pub arcs : n.feeds + n.outs + n.directs ≤ 256
   pub feed_sources : (e : ℕ) → e < n.feeds → n.feed_source e < n.sources
   pub feed_pools : (e : ℕ) → e < n.feeds → n.feed_pool e < n.pools
   pub out_pools : (o : ℕ) → o < n.outs → n.out_pool o < n.pools
@@ -136,3 +146,6 @@ pub record IsLimited (n : Net) : Type 0 where
   pub product_maxima : (j : ℕ) → j < n.products → n.product_max j ≤ 10 ^ 12
   pub least_limits : (j k : ℕ) (u : ℤ) → j < n.products → k < n.qualities → n.least j k ≡ Some u → IsWithin (10 ^ 11) u
   pub most_limits : (j k : ℕ) (u : ℤ) → j < n.products → k < n.qualities → n.most j k ≡ Some u → IsWithin (10 ^ 11) u
+  pub limits_in_order : (j k : ℕ) (a b : ℤ) → j < n.products → k < n.qualities → n.least j k ≡ Some a → n.most j k ≡ Some b → a ≤ℤ b
+  pub fed : HasFeeds n
+  pub drained : HasOuts n

@@ -1,5 +1,5 @@
 -- The paths of a network: a feed and an out of one pool.
-use Rattle.std.specs.Prelude.{ℕ, zero, suc, List, [], ◌∷◌, ◌++◌, map, if◌then◌else◌, ◌==◌}
+use Rattle.std.specs.Prelude.{◌≡◌, ℕ, zero, suc, ◌<◌, ◌⊎◌, List, [], ◌∷◌, ◌++◌, get_or, map, if◌then◌else◌, ◌==◌}
 use Rattle.std.specs.List.{flat_map}
 use Rattle.pool_model.specs.Network.{Net}
 
@@ -28,3 +28,13 @@ paths_below n (suc l) = paths_below n l ++ pool_paths n l
 -- ordered by pool, then by feed, then by out
 abbrev pub paths_of : Net → List Path
 paths_of n = paths_below n n.pools
+
+-- the path of a number
+abbrev pub path_at : Net → ℕ → Path
+path_at n a = get_or (paths_of n) a record { feed = 0; out = 0 }
+
+-- by pool, then by feed, then by out
+abbrev pub ComesBefore : Net → Path → Path → Type 0
+ComesBefore n p q =
+    (n.feed_pool p.feed < n.feed_pool q.feed)
+    ⊎ ((n.feed_pool p.feed ≡ n.feed_pool q.feed) × ((p.feed < q.feed) ⊎ ((p.feed ≡ q.feed) × (p.out < q.out))))

@@ -10,10 +10,6 @@ abbrev pub tabulate : {X : Type 0} → (ℕ → X) → ℕ → List X
 tabulate f zero = []
 tabulate f (suc n) = tabulate f n ++ f n ∷ []
 
--- every pool has a feed
-abbrev pub HasFeeds : Net → Type 0
-HasFeeds n = (l : ℕ) → l < n.pools → (e : ℕ) × (e < n.feeds) × (n.feed_pool e ≡ l)
-
 -- no product must take anything
 abbrev pub HasNoMinima : Net → Type 0
 HasNoMinima n = (j : ℕ) → j < n.products → n.product_min j ≡ 0

@@ -4,7 +4,7 @@
 //! - `specs/`: `Rows` and `Naming` (what a file says, and the network that it stands for), `Network` (a network by list and
 //!   by number, and its limits), `Plan` (when a plan obeys and what it costs; written plans), `Starting` (the plans that the
 //!   solver tries first, and the reach bound), `Claim` (what a certificate says of every plan). `Worked` has examples.
-//! - The laws: `reach_bound_law`, `starting_plans_law`, and the worked plans and bounds. A proof cites the lemmas behind
+//! - The laws: `reach_bound_law`, `paths_law`, `starting_plans_law`, and the worked plans and bounds. A proof cites the lemmas behind
 //!   them, in `proofs/`.
 //! - The plain program: `obeys` and `cost` on a `PlainNetwork` and a `PlainPlan`. It multiplies out over all pools, as the
 //!   definitions do, so that tests of cleverer code have something to compare with. It takes no memory, and answers `None`
@@ -23,7 +23,7 @@ mod plain_rules;
 #[cfg(test)]
 mod tests;
 
-pub use laws::{reach_bound_law, starting_plans_law, worked_bounds, worked_plans};
+pub use laws::{paths_law, reach_bound_law, starting_plans_law, worked_bounds, worked_plans};
 pub use plain_cost::cost;
 pub use plain_network::{PlainArc, PlainNetwork, PlainPlan, PlainProduct, PlainSource};
 pub use plain_rules::obeys;

@@ -1,6 +1,6 @@
 use Rattle.std.proofs.Common.{refl, pos, [], ◌∷◌}
 use Rattle.pool_model.specs.Network.{net_of}
-use Rattle.pool_model.specs.Starting.{simple_plan, straight, zero_plan}
+use Rattle.pool_model.specs.Starting.{simple_plan, straight, through, zero_plan}
 use Rattle.pool_model.specs.Worked.{haverly, net_in, nothing, one_source, plan_in, two_feeds, two_products, wastewater, written}
 use Rattle.pool_model.proofs.Decision.{obeys, breaks}
 use Rattle.pool_model.proofs.laws.worked_plans.Goals as goal
@@ -64,6 +64,14 @@ returns-clause-cheaper_haverly_cost c = refl
 pub returns-clause-two_feeds_zero : goal.returns-clause-two_feeds_zero
 unfolding net_of
 returns-clause-two_feeds_zero c = obeys (net_in two_feeds) (plan_in two_feeds (zero_plan (net_in two_feeds))) refl
+
+pub returns-clause-two_feeds_full : goal.returns-clause-two_feeds_full
+unfolding net_of
+returns-clause-two_feeds_full c = obeys (net_in two_feeds) (plan_in two_feeds (simple_plan (net_in two_feeds) (through 0 0))) refl
+
+pub returns-clause-two_feeds_full_cost : goal.returns-clause-two_feeds_full_cost
+unfolding net_of
+returns-clause-two_feeds_full_cost c = refl
 
 pub returns-clause-two_products_obeys : goal.returns-clause-two_products_obeys
 unfolding net_of
