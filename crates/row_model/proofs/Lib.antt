@@ -1,0 +1,19 @@
+-- Lemmas behind the laws.
+pub mod Shares
+pub mod PathSums
+pub mod Numbering
+pub mod RootBox
+pub mod Halves
+pub mod VariableEnds
+pub mod PointCost
+pub mod RowSums
+pub mod NetworkRows
+pub mod EnvelopeLaw
+pub mod QRows
+pub mod PqRows
+pub mod PRows
+pub mod CatalogueRows
+pub mod Duality
+pub mod TreeLaw
+pub mod TreeBound
+pub mod EntryLaw

@@ -1,0 +1,9 @@
+pub mod Boxes
+pub mod Variables
+pub mod Envelopes
+pub mod Catalogue
+pub mod Lift
+pub mod Multipliers
+pub mod Trees
+pub mod Entries
+pub mod WorkedTree
