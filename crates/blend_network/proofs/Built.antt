@@ -6,11 +6,13 @@ use Rattle.std.proofs.lemmas.Int.{ints}
 use Rattle.pool_model.specs.Rows.{Rows, IsRectangular}
 use Rattle.pool_model.specs.Naming.{source_names, pool_names, product_names, source_of, pool_of, product_of, stand_in, network_of}
 use Rattle.pool_model.specs.Network.{Source, Pool, Product, Network, net_of, IsWithin, no_source, no_pool, no_product}
-use Rattle.blend_network.specs.Faults.{IsUpTo, no_source_row, no_pool_row, no_product_row}
-use Rattle.blend_network.specs.Checks.{IsReady}
+use Rattle.blend_network.specs.Faults.{row_count, row_limit, IsUpTo, no_source_row, no_pool_row, no_product_row}
+use Rattle.blend_network.specs.Checks.{IsChecked}
 use Rattle.blend_network.specs.Shown.{shown_path, IsBuilt}
+use Rattle.blend_network.specs.declared.network.Kind.{Kind}
+use Rattle.blend_network.specs.declared.network.Kind.TheVariants as kind
 use Rattle.blend_network.specs.declared.network.arcs.Arcs.{Arcs}
-use Rattle.blend_network.proofs.Joined.{length-arcs, arcs-between}
+use Rattle.blend_network.proofs.Joined.{arcs-between, few_arcs, one_of}
 
 -- what holds of each mapped row holds of each row
 pub all_rows : {X Y : Type 0} (P : Y → Type 0) (f : X → Y) (d : Y) (xs : List X) → ((n : ℕ) → n < length (map f xs) → P (get_or (map f xs) n d)) → All (λ x. P (f x)) xs
@@ -30,9 +32,9 @@ amount_within size z h = omega (arith, ints, h.0, h.1)
 amounts_in_order : (a b : ℤ) → pos 0 ≤ℤ a → a ≤ℤ b → unsigned_abs a ≤ unsigned_abs b
 amounts_in_order a b h k = omega (arith, ints)
 
-pub built : (r : Rows) (arcs : Arcs) → IsRectangular r → IsReady r arcs → IsUpTo (10 ^ 14) (stand_in r) → IsBuilt (network_of r) (map shown_path arcs.paths.items)
+pub built : (r : Rows) (arcs : Arcs) → IsRectangular r → IsChecked r arcs → IsUpTo (10 ^ 14) (stand_in r) → IsBuilt (network_of r) (map shown_path arcs.paths.items)
 unfolding net_of
-built r arcs rect ready up =
+built r arcs rect checked up =
     let st = stand_in r in
     let here_s : (i : ℕ) → i < length (map (source_of (stand_in r)) r.sources) → i < length r.sources = λ i h. omega (arith, length-map r.sources (source_of (stand_in r)), h) in
     let here_l : (l : ℕ) → l < length (map (pool_of (stand_in r)) r.pools) → l < length r.pools = λ l h. omega (arith, length-map r.pools (pool_of (stand_in r)), h) in
@@ -43,23 +45,27 @@ built r arcs rect ready up =
     = λ l h. sym (get_or-map (pool_of (stand_in r)) r.pools l no_pool_row no_pool (here_l l h)) in
     let at_p : (j : ℕ) → j < length (map product_of r.products) → product_of (get_or r.products j no_product_row) ≡ get_or (map product_of r.products) j no_product
     = λ j h. sym (get_or-map product_of r.products j no_product_row no_product (here_p j h)) in
-    let s_in = λ (i : ℕ) (h : i < length (map (source_of (stand_in r)) r.sources)). ready.ranges.sources i (here_s i h) in
-    let p_in = λ (j : ℕ) (h : j < length (map product_of r.products)). ready.ranges.products j (here_p j h) in
+    let s_in = λ (i : ℕ) (h : i < length (map (source_of (stand_in r)) r.sources)). checked.ranges.sources i (here_s i h) in
+    let p_in = λ (j : ℕ) (h : j < length (map product_of r.products)). checked.ranges.products j (here_p j h) in
     let ls = length-map r.sources (source_of (stand_in r)) in
     let ll = length-map r.pools (pool_of (stand_in r)) in
     let lp = length-map r.products product_of in
     let ns = length-map r.sources (λ s. s.name) in
     let nl = length-map r.pools (λ p. p.name) in
     let np = length-map r.products (λ p. p.name) in
+    let few : (kind : Kind) → row_count r kind ≤ row_limit kind = λ kind. omega (arith, checked.faultless.counts kind) in
+    let sums = few_arcs r (record { sources = checked.faultless.distinct kind.Source; pools = checked.faultless.distinct kind.Pool; products = checked.faultless.distinct kind.Product }) in
     record {
+      made = record { rows = r; rectangular = rect; faultless = checked.faultless; named = refl };
       limited = record {
-        sources = omega (arith, ls, ready.counts.sources);
-        pools = omega (arith, ll, ready.counts.pools);
-        products = omega (arith, lp, ready.counts.products);
-        qualities = ready.counts.qualities;
-        feeds = omega (arith, length-arcs (source_names r) (pool_names r) r, ready.counts.arcs);
-        outs = omega (arith, length-arcs (pool_names r) (product_names r) r, ready.counts.arcs);
-        directs = omega (arith, length-arcs (source_names r) (product_names r) r, ready.counts.arcs);
+        sources = omega (arith, ls, few kind.Source);
+        pools = omega (arith, ll, few kind.Pool);
+        products = omega (arith, lp, few kind.Product);
+        qualities = omega (arith, few kind.Quality);
+        feeds = omega (arith, sums, few kind.Arc);
+        outs = omega (arith, sums, few kind.Arc);
+        directs = omega (arith, sums, few kind.Arc);
+        arcs = omega (arith, sums, few kind.Arc);
         feed_sources = λ e h. omega (arith, (arcs-between (source_names r) (pool_names r) r e h).from, ls, ns);
         feed_pools = λ e h. omega (arith, (arcs-between (source_names r) (pool_names r) r e h).to, ll, nl);
         out_pools = λ e h. omega (arith, (arcs-between (pool_names r) (product_names r) r e h).from, ll, nl);
@@ -70,17 +76,20 @@ built r arcs rect ready up =
         source_maxima = λ i h. subst (λ (s : Source). s.max ≤ 10 ^ 14) (at_s i h) (supply_within (get_or r.sources i no_source_row).max (stand_in r) (s_in i h).max up);
         source_qualities = λ i k h m. subst (λ (s : Source). IsWithin (10 ^ 11) (get_or s.quality k (pos 0))) (at_s i h)
             ((s_in i h).quality k (pos 0) (omega (arith, rect.sources i no_source_row (here_s i h), m)));
-        pool_maxima = λ l h. subst (λ (p : Pool). p.max ≤ 10 ^ 14) (at_l l h) (supply_within (get_or r.pools l no_pool_row).max (stand_in r) (ready.ranges.pools l (here_l l h)).max up);
+        pool_maxima = λ l h. subst (λ (p : Pool). p.max ≤ 10 ^ 14) (at_l l h) (supply_within (get_or r.pools l no_pool_row).max (stand_in r) (checked.ranges.pools l (here_l l h)).max up);
         prices = λ j h. subst (λ (p : Product). IsWithin (10 ^ 12) p.price) (at_p j h) (p_in j h).price;
         product_minima = λ j h. subst (λ (p : Product). p.min ≤ p.max) (at_p j h)
-            (amounts_in_order (get_or r.products j no_product_row).min (get_or r.products j no_product_row).max (p_in j h).min.0 (ready.ranges.orderly j (here_p j h)).amount);
+            (amounts_in_order (get_or r.products j no_product_row).min (get_or r.products j no_product_row).max (p_in j h).min.0 (checked.ranges.orderly j (here_p j h)).amount);
         product_maxima = λ j h. subst (λ (p : Product). p.max ≤ 10 ^ 12) (at_p j h) (amount_within (10 ^ 12) (get_or r.products j no_product_row).max (p_in j h).max);
         least_limits = λ j k u h m is. (p_in j h).least k None (omega (arith, rect.least j no_product_row (here_p j h), m)) u (ap (λ (p : Product). get_or p.least k None) (at_p j h) ∙ is);
         most_limits = λ j k u h m is. (p_in j h).most k None (omega (arith, rect.most j no_product_row (here_p j h), m)) u (ap (λ (p : Product). get_or p.most k None) (at_p j h) ∙ is);
+        limits_in_order = λ j k a b h m low high. (checked.ranges.orderly j (here_p j h)).limits k a b (ap (λ (p : Product). get_or p.least k None) (at_p j h) ∙ low) (ap (λ (p : Product). get_or p.most k None) (at_p j h) ∙ high);
+        fed = λ l h. one_of (λ a. a.to) l (network_of r).feeds (λ all. checked.faultless.inputs l (here_l l h, all));
+        drained = λ l h. one_of (λ a. a.from) l (network_of r).outs (λ all. checked.faultless.outputs l (here_l l h, all));
       };
       quality = λ i h. subst (λ (s : Source). length s.quality ≡ length r.qualities) (at_s i h) (rect.sources i no_source_row (here_s i h));
       least = λ j h. subst (λ (p : Product). length p.least ≡ length r.qualities) (at_p j h) (rect.least j no_product_row (here_p j h));
       most = λ j h. subst (λ (p : Product). length p.most ≡ length r.qualities) (at_p j h) (rect.most j no_product_row (here_p j h));
-      paths = ready.found.paths;
-      few = omega (arith, ap length ready.found.paths, ready.paths);
+      paths = checked.found.paths;
+      few = omega (arith, ap length checked.found.paths, checked.faultless.paths);
     }

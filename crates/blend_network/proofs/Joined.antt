@@ -1,6 +1,8 @@
 -- The arcs of a network, from the nodes at their ends.
-use Rattle.std.proofs.Common.{◌≡◌, ℕ, zero, suc, ◌<◌, ◌≤◌, List, [], ◌∷◌, length, map, get_or, Option, None, Some, option_map, refl, sym, ap, ◌∙◌, arith}
+use Rattle.std.proofs.Common.{◌≡◌, ◌≢◌, ℕ, zero, suc, ◌+◌, ◌<◌, ◌≤◌, ◌⊎◌, inl, inr, List, [], ◌∷◌, ◌++◌, length, map, get_or, All, Option, None, Some, option_map, refl, sym, ap, ◌∙◌, arith}
 use Rattle.std.specs.List.{filter_map, cons_option}
+use Rattle.std.proofs.lemmas.List.Elements.{All-nil, All-cons, Contains-append_right}
+use Rattle.integers.proofs.AtKey.{same_or_other}
 use Rattle.pool_model.specs.Rows.{Rows}
 use Rattle.pool_model.specs.Naming.{number_of, source_names, pool_names, product_names, arc_between, arcs_between}
 use Rattle.pool_model.specs.Network.{Arc, no_arc}
@@ -9,7 +11,7 @@ use Rattle.blend_network.specs.declared.network.arcs.Ends.{Ends}
 use Rattle.blend_network.specs.Nodes.{known, nodes_of, node_of, join, pool_number, product_number, feed_between, out_between, direct_between}
 use Rattle.blend_network.specs.Checks.{IsDistinct, AreEndsOf}
 use Rattle.blend_network.specs.Shown.{shown_arc, kept_arc}
-use Rattle.blend_network.proofs.Lookups.{source_number_is, pool_number_is, product_number_is, number_of_some}
+use Rattle.blend_network.proofs.Lookups.{source_number_is, pool_number_is, product_number_is, number_of_some, found_contains, apart}
 
 -- ---- filter_map
 
@@ -71,6 +73,64 @@ length-filter_map h (x ∷ xs) = step_length (h x) (filter_map h xs) (length xs)
 
 pub length-arcs : (froms tos : List (List ℕ)) (r : Rows) → length (arcs_between froms tos r) ≤ length r.arcs
 length-arcs froms tos r = length-filter_map (arc_between froms tos) r.arcs
+
+three_step : {Z : Type 0} (a b c : Option Z) (xs ys zs : List Z) (n : ℕ) → ((y z : Z) → a ≡ Some y → b ≡ Some z → ⊥) → ((y z : Z) → a ≡ Some y → c ≡ Some z → ⊥) → ((y z : Z) → b ≡ Some y → c ≡ Some z → ⊥)
+    → length xs + length ys + length zs ≤ n → length (cons_option a xs) + length (cons_option b ys) + length (cons_option c zs) ≤ suc n
+three_step None None None xs ys zs n ab ac bc h = omega arith
+three_step None None (Some z) xs ys zs n ab ac bc h = omega arith
+three_step None (Some y) None xs ys zs n ab ac bc h = omega arith
+three_step None (Some y) (Some z) xs ys zs n ab ac bc h = absurd (bc y z refl refl)
+three_step (Some x) None None xs ys zs n ab ac bc h = omega arith
+three_step (Some x) None (Some z) xs ys zs n ab ac bc h = absurd (ac x z refl refl)
+three_step (Some x) (Some y) c xs ys zs n ab ac bc h = absurd (ab x y refl refl)
+
+-- three lists of which each element goes to one at the most
+length-three : {X Z : Type 0} (f g h : X → Option Z) (xs : List X) → ((x : X) (y z : Z) → f x ≡ Some y → g x ≡ Some z → ⊥) → ((x : X) (y z : Z) → f x ≡ Some y → h x ≡ Some z → ⊥)
+    → ((x : X) (y z : Z) → g x ≡ Some y → h x ≡ Some z → ⊥) → length (filter_map f xs) + length (filter_map g xs) + length (filter_map h xs) ≤ length xs
+length-three f g h [] ab ac bc = omega arith
+length-three f g h (x ∷ xs) ab ac bc =
+    three_step (f x) (g x) (h x) (filter_map f xs) (filter_map g xs) (filter_map h xs) (length xs) (ab x) (ac x) (bc x) (length-three f g h xs ab ac bc)
+
+joined_from : (a b : Option ℕ) (c : Arc) → join a b ≡ Some c → (i : ℕ) × (a ≡ Some i)
+joined_from (Some i) b c e = (i, refl)
+joined_from None b c e = cc
+
+joined_to : (a b : Option ℕ) (c : Arc) → join a b ≡ Some c → (j : ℕ) × (b ≡ Some j)
+joined_to (Some i) (Some j) c e = (j, refl)
+joined_to (Some i) None c e = cc
+joined_to None b c e = cc
+
+-- no name is that of a source and of a pool, or of a pool and of a product
+source_or_pool : (r : Rows) (name : List ℕ) (i l : ℕ) → IsDistinct r → number_of name (source_names r) ≡ Some i → number_of name (pool_names r) ≡ Some l → ⊥
+source_or_pool r name i l d is at = apart (source_names r) (pool_names r) name l d.pools (found_contains name (source_names r) i is) at
+
+pool_or_product : (r : Rows) (name : List ℕ) (l j : ℕ) → IsDistinct r → number_of name (pool_names r) ≡ Some l → number_of name (product_names r) ≡ Some j → ⊥
+pool_or_product r name l j d is at =
+    apart (source_names r ++ pool_names r) (product_names r) name j d.products
+    (Contains-append_right (source_names r) (pool_names r) name (found_contains name (pool_names r) l is)) at
+
+pub few_arcs : (r : Rows) → IsDistinct r
+    → length (arcs_between (source_names r) (pool_names r) r) + length (arcs_between (pool_names r) (product_names r) r) + length (arcs_between (source_names r) (product_names r) r) ≤ length r.arcs
+few_arcs r d =
+    let s = source_names r in
+    let p = pool_names r in
+    let x = product_names r in
+    length-three (arc_between s p) (arc_between p x) (arc_between s x) r.arcs
+    (λ a y z f o. let i = joined_from (number_of a.0 s) (number_of a.1 p) y f in let l = joined_from (number_of a.0 p) (number_of a.1 x) z o in source_or_pool r a.0 i.0 l.0 d i.1 l.1)
+    (λ a y z f o. let l = joined_to (number_of a.0 s) (number_of a.1 p) y f in let j = joined_to (number_of a.0 s) (number_of a.1 x) z o in pool_or_product r a.1 l.0 j.0 d l.1 j.1)
+    (λ a y z f o. let l = joined_from (number_of a.0 p) (number_of a.1 x) y f in let i = joined_from (number_of a.0 s) (number_of a.1 x) z o in source_or_pool r a.0 i.0 l.0 d i.1 l.1)
+
+-- an arc at an end of which a node stands, where not all arcs pass the node by
+one_by : (key : Arc → ℕ) (l : ℕ) (x : Arc) (xs : List Arc) → ((key x ≡ l) ⊎ (key x ≢ l)) → ¬ All (λ a. ¬ (key a ≡ l)) (x ∷ xs)
+    → (¬ All (λ a. ¬ (key a ≡ l)) xs → (e : ℕ) × (e < length xs) × (key (get_or xs e no_arc) ≡ l)) → (e : ℕ) × (e < length (x ∷ xs)) × (key (get_or (x ∷ xs) e no_arc) ≡ l)
+one_by key l x xs (inl e) h rest = (0, omega arith, e)
+one_by key l x xs (inr d) h rest =
+    let found = rest (λ all. h (All-cons (λ a. ¬ (key a ≡ l)) x xs d all)) in
+    (suc found.0, omega (arith, found.1), found.2)
+
+pub one_of : (key : Arc → ℕ) (l : ℕ) (xs : List Arc) → ¬ All (λ a. ¬ (key a ≡ l)) xs → (e : ℕ) × (e < length xs) × (key (get_or xs e no_arc) ≡ l)
+one_of key l [] h = absurd (h (All-nil (λ a. ¬ (key a ≡ l))))
+one_of key l (x ∷ xs) h = one_by key l x xs (same_or_other (key x) l) h (λ more. one_of key l xs more)
 
 -- both ends of an arc are there
 pub record IsBetween (froms tos : List (List ℕ)) (a : Arc) : Type 0 where

@@ -2,8 +2,15 @@ pub mod Mapped
 pub mod Margins
 pub mod NameTables
 pub mod Lookups
-pub mod Firsts
+pub mod Order
+pub mod Refusals
+pub mod ArcRefusals
 pub mod Joined
 pub mod Built
-pub mod Faultless
+pub mod Conditions
 pub mod PathLists
+pub mod CanonicalNames
+pub mod CanonicalArcs
+pub mod CanonicalRows
+pub mod CanonicalFaults
+pub mod CanonicalSizes

@@ -116,7 +116,7 @@ found_contains name names i is =
     subst (λ x. Contains names x) found.here (Contains-get_or names i [] found.within)
 
 -- a name that is among the first is not among those that repeat none
-apart : (before names : List (List ℕ)) (name : List ℕ) (j : ℕ) → ((n : ℕ) → ¬ IsRepeatAt before names n) → Contains before name → number_of name names ≡ Some j → ⊥
+pub apart : (before names : List (List ℕ)) (name : List ℕ) (j : ℕ) → ((n : ℕ) → ¬ IsRepeatAt before names n) → Contains before name → number_of name names ≡ Some j → ⊥
 apart before names name j fresh there is =
     let found = number_of_some name names j is in
     fresh j (found.within, Contains-append_left before (take j names) (get_or names j []) (subst (λ x. Contains before x) (sym found.here) there))

@@ -1,14 +1,15 @@
 -- What the checks of a file's rows find out, as the assembly of the network takes it.
-use Rattle.std.specs.Prelude.{◌≡◌, ℕ, ◌<◌, ◌≤◌, List, [], ◌++◌, length, map, take, get_or, Contains, Bool, IsTrue, All}
+use Rattle.std.specs.Prelude.{◌≡◌, ℕ, ◌<◌, ◌≤◌, List, [], ◌++◌, length, map, take, get_or, Contains, Bool, IsTrue, Some}
 use Rattle.pool_model.specs.Rows.{Rows}
 use Rattle.pool_model.specs.Naming.{source_names, pool_names, product_names, network_of}
 use Rattle.pool_model.specs.Network.{net_of}
 use Rattle.pool_model.specs.Paths.{paths_of}
-use Rattle.blend_network.specs.Faults.{IsName, IsRepeatAt, IsSourceInRange, IsPoolInRange, IsProductInRange, IsOrderly, no_source_row, no_pool_row, no_product_row, IsFaultless}
+use Rattle.blend_network.specs.Faults.{IsFirst, IsRepeatAt, IsSourceInRange, IsPoolInRange, IsProductInRange, IsOrderly, no_source_row, no_pool_row, no_product_row, IsFaultless}
+use Rattle.blend_network.specs.declared.network.build.NetFault.{NetFault}
 use Rattle.blend_network.specs.declared.network.arcs.Ends.{Ends}
 use Rattle.blend_network.specs.declared.network.arcs.Arcs.{Arcs}
 use Rattle.blend_network.specs.declared.network.arcs.Node.TheVariants.{Source}
-use Rattle.blend_network.specs.Nodes.{known, nodes_of, is_backward, is_between_pools}
+use Rattle.blend_network.specs.Nodes.{known, nodes_of}
 use Rattle.blend_network.specs.Shown.{shown_arc, shown_path}
 
 -- no list is longer than it may be
@@ -18,13 +19,6 @@ pub record IsCounted (r : Rows) : Type 0 where
   pub products : length r.products ≤ 64
   pub qualities : length r.qualities ≤ 8
   pub arcs : length r.arcs ≤ 256
-
--- each name follows the rule
-pub record IsNamed (r : Rows) : Type 0 where
-  pub sources : (n : ℕ) → n < length r.sources → IsName (get_or (source_names r) n [])
-  pub pools : (n : ℕ) → n < length r.pools → IsName (get_or (pool_names r) n [])
-  pub products : (n : ℕ) → n < length r.products → IsName (get_or (product_names r) n [])
-  pub qualities : (n : ℕ) → n < length r.qualities → IsName (get_or r.qualities n [])
 
 -- no two nodes have one name
 pub record IsDistinct (r : Rows) : Type 0 where
@@ -55,26 +49,11 @@ IsRepeatedEnds ends n = (n < length ends) × Contains (take n ends) (get_or ends
 abbrev pub IsMarked : (Ends → Bool) → List Ends → ℕ → Type 0
 IsMarked test ends n = (n < length ends) × IsTrue (test (get_or ends n no_ends))
 
--- each arc goes from a source or a pool to a pool or a product, not from pool to pool, and stands once
-pub record AreForward (ends : List Ends) : Type 0 where
-  pub forward : (n : ℕ) → ¬ IsMarked is_backward ends n
-  pub single : (n : ℕ) → ¬ IsMarked is_between_pools ends n
-  pub once : (n : ℕ) → ¬ IsRepeatedEnds ends n
-
--- the ends of the arcs, where names and arcs are as they must be
-pub record IsJoined (r : Rows) (ends : List Ends) : Type 0 where
-  pub counts : IsCounted r
-  pub names : IsNamed r
-  pub distinct : IsDistinct r
-  pub qualities : (n : ℕ) → ¬ IsRepeatAt [] r.qualities n
-  pub found : AreEndsOf r ends
-  pub forward : AreForward ends
-
--- each of this many pools has a feed and an out, and there are no more paths than there may be
-pub record AreUsed (pools : ℕ) (arcs : Arcs) : Type 0 where
-  pub inputs : (l : ℕ) → l < pools → ¬ All (λ a. ¬ a.to ≡ l) arcs.feeds.items
-  pub outputs : (l : ℕ) → l < pools → ¬ All (λ a. ¬ a.from ≡ l) arcs.outs.items
-  pub paths : length arcs.paths.items ≤ 512
+-- the fault with the first number of which a fact holds
+pub record IsFirstOf (fault : ℕ → NetFault) (P : ℕ → Type 0) (told : NetFault) : Type 0 where
+  pub number : ℕ
+  pub named : told ≡ fault number
+  pub first : IsFirst P (Some number)
 
 -- these are the arcs of the rows by kind, and the paths
 pub record AreArcsOf (r : Rows) (arcs : Arcs) : Type 0 where
@@ -83,13 +62,8 @@ pub record AreArcsOf (r : Rows) (arcs : Arcs) : Type 0 where
   pub directs : map shown_arc arcs.directs.items ≡ (network_of r).directs
   pub paths : map shown_path arcs.paths.items ≡ paths_of (net_of (network_of r))
 
--- what the assembly of a network takes
-pub record IsReady (r : Rows) (arcs : Arcs) : Type 0 where
-  pub counts : IsCounted r
-  pub ranges : IsInRange r
-  pub found : AreArcsOf r arcs
-  pub paths : length (paths_of (net_of (network_of r))) ≤ 512
-
+-- rows with no reason to refuse them, and their arcs: what the assembly of a network takes
 pub record IsChecked (r : Rows) (arcs : Arcs) : Type 0 where
   pub faultless : IsFaultless r
-  pub ready : IsReady r arcs
+  pub ranges : IsInRange r
+  pub found : AreArcsOf r arcs

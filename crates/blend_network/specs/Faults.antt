@@ -13,11 +13,6 @@ abbrev pub IsFirst : (ℕ → Type 0) → Option ℕ → Type 0
 IsFirst P None = (n : ℕ) → ¬ P n
 IsFirst P (Some n) = P n × ((m : ℕ) → m < n → ¬ P m)
 
--- the first number below a count of which a fact does not hold, if there is one
-abbrev pub IsFirstBad : (ℕ → Type 0) → ℕ → Option ℕ → Type 0
-IsFirstBad P count None = (n : ℕ) → n < count → P n
-IsFirstBad P count (Some n) = (n < count) × ¬ P n × ((m : ℕ) → m < n → P m)
-
 -- ---- lists
 
 abbrev pub row_count : Rows → Kind → ℕ

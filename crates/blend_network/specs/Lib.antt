@@ -2,6 +2,9 @@ pub mod Parts
 pub mod Shown
 pub mod Kinds
 pub mod Faults
+pub mod FirstFault
+pub mod Made
+pub mod Canonical
 pub mod Reach
 pub mod Names
 pub mod Nodes

@@ -1,7 +1,6 @@
 -- Names, and the tables that find them.
-use Rattle.std.specs.Prelude.{◌≡◌, ℕ, List, [], ◌∷◌, ◌++◌, map, Contains, Bool, true, false, Option, Some, None}
+use Rattle.std.specs.Prelude.{◌≡◌, ℕ, List, [], ◌∷◌, ◌++◌, map, Contains, Bool, true, false}
 use Rattle.std.specs.Borrow.{Bor}
-use Rattle.blend_network.specs.Faults.{IsFirst, IsRepeatAt}
 use Rattle.indexmap.specs.IndexSet.{IndexSet}
 use Rattle.std.specs.declared.hash.FoldHasher.{FoldHasher}
 use Rattle.std.specs.declared.hash.BuildHasherDefault.{BuildHasherDefault}
@@ -14,8 +13,3 @@ names_in s = map (λ k. k.now) s.keys
 abbrev pub AddsName : List (List ℕ) → List (List ℕ) → List ℕ → Bool → Type 0
 AddsName old new name true = (¬ Contains old name) × (new ≡ old ++ name ∷ [])
 AddsName old new name false = Contains old name × (new ≡ old)
-
--- a list of names was added, up to the first that was there already
-abbrev pub AddsNames : List (List ℕ) → List (List ℕ) → List (List ℕ) → Option ℕ → Type 0
-AddsNames old new names None = ((n : ℕ) → ¬ IsRepeatAt old names n) × (new ≡ old ++ names)
-AddsNames old new names (Some n) = IsFirst (IsRepeatAt old names) (Some n)

@@ -4,6 +4,7 @@ use Rattle.pool_model.specs.Network as model
 use Rattle.pool_model.specs.Network.{Net, net_of, IsLimited, no_source, no_product, no_arc}
 use Rattle.pool_model.specs.Paths as paths
 use Rattle.pool_model.specs.Paths.{numbers_at, paths_of}
+use Rattle.blend_network.specs.Made.{IsMade}
 use Rattle.blend_network.specs.declared.network.Source.{Source}
 use Rattle.blend_network.specs.declared.network.Pool.{Pool}
 use Rattle.blend_network.specs.declared.network.Product.{Product}
@@ -64,8 +65,10 @@ paths_behind outs feed pool count = map (λ o. record { feed = feed; out = o }) 
 abbrev pub no_path : paths.Path
 no_path = record { feed = 0; out = 0 }
 
--- Every network is within the limits, has one place per quality in each of its lists of qualities, and keeps its paths.
+-- Every network was made from rows, is within the limits, has one place per quality in each of its lists of qualities,
+-- and keeps its paths.
 pub record IsBuilt (n : model.Network) (kept : List paths.Path) : Type 0 where
+  pub made : IsMade n
   pub limited : IsLimited (net_of n)
   pub quality : (i : ℕ) → i < length n.sources → length (get_or n.sources i no_source).quality ≡ length n.qualities
   pub least : (j : ℕ) → j < length n.products → length (get_or n.products j no_product).least ≡ length n.qualities

@@ -3,6 +3,7 @@
 ghost use Rattle.std.specs.Prelude.{◌≡◌, ◌<◌, ◌≤◌, ◌*◌, ◌^◌, [], length, get_or, pos, ◌≤ℤ◌, neg_ℤ};
 ghost use Rattle.pool_model.specs.Network.{net_of, counts_of, IsLimited};
 ghost use Rattle.pool_model.specs.Paths.{paths_of};
+ghost use Rattle.blend_network.specs.Made.{IsMade};
 ghost use Rattle.blend_network.specs.Shown.{no_path};
 ghost use Rattle.blend_network.specs.Kinds.{names_of};
 
@@ -119,6 +120,7 @@ impl Network {
     pub fn counts(&self) -> [u32; 7]
         ensures counts { result ≡ counts_of (net_of self.now) }
         ensures limited { IsLimited (net_of self.now) }
+        ensures made { IsMade self.now }
     {
         [
             self.sources.len() as u32,

@@ -1,18 +1,18 @@
 //! The arcs of a file, with the names of their ends looked up.
 
-ghost use Rattle.std.specs.Prelude.{◌≡◌, ◌<◌, ◌≤◌, map, length, IfOk, IfSome, ◌↔◌, IsTrue, Contains};
+ghost use Rattle.std.specs.Prelude.{◌≡◌, ◌≢◌, ℕ, ◌<◌, ◌≤◌, map, length, IfOk, OnOk, IfErr, ◌↔◌, IsTrue, Contains};
 ghost use Rattle.std.specs.List.{filter_map};
 ghost use Rattle.blend_network.specs.Parts.{rows_of, arc_ends};
 ghost use Rattle.blend_network.specs.Shown.{kept_arc};
 ghost use Rattle.std.specs.Option.{option_map};
 ghost use Rattle.blend_network.specs.Names.{names_in};
-ghost use Rattle.blend_network.specs.Faults.{node_names, IsFirst};
-ghost use Rattle.blend_network.specs.Checks.{IsMarked, IsRepeatedEnds, IsJoined, AreArcsOf};
-ghost use Rattle.blend_network.specs.Nodes.{node_of, nodes_of, known, node_by_place, feed_between, out_between, direct_between, is_backward, is_between_pools};
+ghost use Rattle.blend_network.specs.Faults.{node_names, IsUnknownName};
+ghost use Rattle.blend_network.specs.Checks.{IsCounted, IsDistinct, AreEndsOf, IsMarked, IsRepeatedEnds, IsFirstOf, AreArcsOf};
+ghost use Rattle.blend_network.specs.Nodes.{node_of, known, node_by_place, feed_between, out_between, direct_between, is_backward, is_between_pools};
 
 use super::names::find_name;
 use super::paths::paths_from;
-use super::{Arc, Path};
+use super::{Arc, NetFault, Path};
 use crate::parts::Parts;
 use indexmap::IndexSet;
 use std::alloc::{AllocError, Global};
@@ -46,27 +46,28 @@ impl Ends {
     }
 }
 
-/// The ends of each arc. None where an end names no node.
+/// The ends of each arc. Refuses the first arc with an end that names no node.
 pub(super) fn ends_of(
     alloc: Global,
     parts: &Parts,
     names: &IndexSet<&str>,
-) -> Result<Option<Vec<Ends>>, AllocError>
+) -> Result<Vec<Ends>, NetFault>
+    requires counted { IsCounted (rows_of parts.now) }
     requires names { names_in names.now ≡ node_names (rows_of parts.now) }
-    requires count { length (node_names (rows_of parts.now)) ≤ 256 }
-    ensures { IfOk result (λ found. IfSome found (λ ends. map known ends.items ≡ map (nodes_of (rows_of parts.now)) (rows_of parts.now).arcs)) }
+    ensures ends { IfOk result (λ ends. AreEndsOf (rows_of parts.now) ends.items) }
+    ensures first { IfErr result (λ fault. fault ≢ NetFault.Memory → IsFirstOf NetFault.UnknownName (IsUnknownName (rows_of parts.now)) fault) }
 {
     let mut ends = Vec::new(alloc);
-    for arc in &parts.arcs {
-        match (
+    for (n, arc) in parts.arcs.iter().enumerate() {
+        let (Some(from), Some(to)) = (
             find_node(parts, names, arc.0.as_str()),
             find_node(parts, names, arc.1.as_str()),
-        ) {
-            (Some(from), Some(to)) => ends.push(Ends { from, to })?,
-            _ => return Ok(None),
-        }
+        ) else {
+            return Err(NetFault::UnknownName(n as u32));
+        };
+        ends.push(Ends { from, to })?;
     }
-    Ok(Some(ends))
+    Ok(ends)
 }
 
 /// The node that has this name.
@@ -107,7 +108,9 @@ pub(super) struct Arcs {
 
 /// The arcs of the rows, whose ends are these.
 pub(super) fn arcs_from(alloc: Global, parts: &Parts, ends: &[Ends]) -> Result<Arcs, AllocError>
-    requires { IsJoined (rows_of parts.now) ends.now }
+    requires counted { IsCounted (rows_of parts.now) }
+    requires distinct { IsDistinct (rows_of parts.now) }
+    requires found { AreEndsOf (rows_of parts.now) ends.now }
     ensures { IfOk result (AreArcsOf (rows_of parts.now)) }
 {
     let feeds = feeds_of(alloc, ends)?;
@@ -176,43 +179,46 @@ fn direct_from(ends: Ends) -> Option<Arc>
     }
 }
 
-/// The first arc that starts at a product or ends at a source.
-pub(super) fn first_backward(ends: &[Ends]) -> Option<u32>
+/// Refuses the first arc that starts at a product or ends at a source.
+pub(super) fn check_forward(ends: &[Ends]) -> Result<(), NetFault>
     requires { length ends.now ≤ 256 }
-    ensures { IsFirst (IsMarked is_backward ends.now) result }
+    ensures none { OnOk result ((n : ℕ) → ¬ IsMarked is_backward ends.now n) }
+    ensures first { IfErr result (IsFirstOf NetFault.ArcBackwards (IsMarked is_backward ends.now)) }
 {
     for n in 0..ends.len() {
         if ends[n].is_backward() {
-            return Some(n as u32);
+            return Err(NetFault::ArcBackwards(n as u32));
         }
     }
-    None
+    Ok(())
 }
 
-/// The first arc from a pool to a pool.
-pub(super) fn first_between_pools(ends: &[Ends]) -> Option<u32>
+/// Refuses the first arc from a pool to a pool.
+pub(super) fn check_layers(ends: &[Ends]) -> Result<(), NetFault>
     requires { length ends.now ≤ 256 }
-    ensures { IsFirst (IsMarked is_between_pools ends.now) result }
+    ensures none { OnOk result ((n : ℕ) → ¬ IsMarked is_between_pools ends.now n) }
+    ensures first { IfErr result (IsFirstOf NetFault.PoolToPool (IsMarked is_between_pools ends.now)) }
 {
     for n in 0..ends.len() {
         if ends[n].is_between_pools() {
-            return Some(n as u32);
+            return Err(NetFault::PoolToPool(n as u32));
         }
     }
-    None
+    Ok(())
 }
 
-/// The first arc with the same two ends as an earlier one.
-pub(super) fn first_repeat(ends: &[Ends]) -> Option<u32>
+/// Refuses the first arc with the same two ends as an earlier one.
+pub(super) fn check_repeats(ends: &[Ends]) -> Result<(), NetFault>
     requires { length ends.now ≤ 256 }
-    ensures { IsFirst (IsRepeatedEnds ends.now) result }
+    ensures none { OnOk result ((n : ℕ) → ¬ IsRepeatedEnds ends.now n) }
+    ensures first { IfErr result (IsFirstOf NetFault.DuplicateArc (IsRepeatedEnds ends.now)) }
 {
     for n in 0..ends.len() {
         if is_among(&ends[..n], ends[n]) {
-            return Some(n as u32);
+            return Err(NetFault::DuplicateArc(n as u32));
         }
     }
-    None
+    Ok(())
 }
 
 fn is_among(ends: &[Ends], pair: Ends) -> bool

@@ -1,167 +1,179 @@
-//! Whether the rows of a file are those of a network.
+//! The first fault of the rows of a file, or their arcs, where there is none.
 
-ghost use Rattle.std.specs.Prelude.{◌≡◌, ◌↔◌, ℕ, [], ◌<◌, length, ◌≤◌, IsTrue, IfOk, IfSome};
+ghost use Rattle.std.specs.Prelude.{◌≡◌, ℕ, [], ◌<◌, ◌≤◌, length, IfOk, OnOk, IfErr};
 ghost use Rattle.blend_network.specs.Parts.{rows_of};
 ghost use Rattle.blend_network.specs.Names.{names_in};
-ghost use Rattle.blend_network.specs.Faults.{IsFirst, IsFaultless, IsRepeatAt, node_names};
-ghost use Rattle.blend_network.specs.Checks.{IsCounted, IsNamed, IsDistinct, IsInRange, AreEndsOf, AreForward, AreUsed, IsJoined, IsChecked};
+ghost use Rattle.blend_network.specs.Faults.{row_limit, node_names, IsDuplicateName};
+ghost use Rattle.blend_network.specs.FirstFault.{IsFirstFault, LacksEarlier};
+ghost use Rattle.blend_network.specs.Checks.{IsCounted, IsDistinct, IsInRange, AreEndsOf, AreArcsOf, IsChecked};
 
-use super::NetFault;
-use super::arcs::{
-    Arcs, Ends, arcs_from, ends_of, first_backward, first_between_pools, first_repeat,
-};
-use super::names::{add_names, first_bad_name};
-use super::pools::{first_without_input, first_without_output};
-use super::ranges::{first_disorderly, first_pool_out, first_product_out, first_source_out};
+use super::arcs::{Arcs, Ends, arcs_from, check_forward, check_layers, check_repeats, ends_of};
+use super::names::{add_names, check_names_of};
+use super::paths::check_paths;
+use super::pools::{check_inputs, check_outputs};
+use super::ranges::{check_limits, check_pools, check_products, check_sources};
+use super::{Kind, NetFault};
 use crate::parts::Parts;
 use indexmap::IndexSet;
-use std::alloc::{AllocError, Global};
+use std::alloc::Global;
 
-/// The most paths that a network may have.
-const MAX_PATHS: usize = 512;
+/// The most sources that a network may have.
+const MAX_SOURCES: usize = 64;
 
-/// The arcs by kind, where the rows are those of a network.
+/// The most pools that a network may have.
+const MAX_POOLS: usize = 16;
+
+/// The most products that a network may have.
+const MAX_PRODUCTS: usize = 64;
+
+/// The most qualities that a network may have.
+const MAX_QUALITIES: usize = 8;
+
+/// The most arcs that a network may have.
+const MAX_ARCS: usize = 256;
+
+/// The arcs by kind, or the first fault of the rows.
 pub(super) fn checked_arcs(alloc: Global, parts: &Parts) -> Result<Arcs, NetFault>
-    ensures { IfOk result (λ arcs. IsChecked (rows_of parts.now) arcs) }
+    ensures checked { IfOk result (IsChecked (rows_of parts.now)) }
+    ensures fault { IfErr result (IsFirstFault (rows_of parts.now)) }
 {
-    let ends = checked_ends(alloc, parts)?;
-    if !has_good_numbers(parts) {
-        return Err(NetFault::NotYet);
-    }
-    let arcs = arcs_from(alloc, parts, &ends)?;
-    if !are_used(parts.pools.len() as u32, &arcs) {
-        return Err(NetFault::NotYet);
-    }
+    check_counts(parts)?;
+    check_names(parts)?;
+    let names = node_table(alloc, parts)?;
+    check_qualities(alloc, parts)?;
+    let ends = known_ends(alloc, parts, &names)?;
+    let arcs = used_arcs(alloc, parts, &ends)?;
+    check_numbers(parts)?;
     Ok(arcs)
 }
 
-/// The ends of the arcs, where names and arcs are as they must be.
-fn checked_ends(alloc: Global, parts: &Parts) -> Result<Vec<Ends>, NetFault>
-    ensures { IfOk result (λ ends. IsJoined (rows_of parts.now) ends.items) }
+/// Refuses the first list that is longer than it may be.
+fn check_counts(parts: &Parts) -> Result<(), NetFault>
+    ensures counted { OnOk result (IsCounted (rows_of parts.now)) }
+    ensures clear { OnOk result (LacksEarlier (rows_of parts.now) (NetFault.BadName Kind.Source 0)) }
+    ensures fault { IfErr result (IsFirstFault (rows_of parts.now)) }
 {
-    if !has_small_lists(parts) {
-        return Err(NetFault::NotYet);
+    check_count(Kind::Source, parts.sources.len())?;
+    check_count(Kind::Pool, parts.pools.len())?;
+    check_count(Kind::Product, parts.products.len())?;
+    check_count(Kind::Quality, parts.qualities.len())?;
+    check_count(Kind::Arc, parts.arcs.len())?;
+    Ok(())
+}
+
+/// Refuses more rows of the kind than there may be.
+fn check_count(kind: Kind, count: usize) -> Result<(), NetFault>
+    ensures few { OnOk result (count ≤ row_limit kind) }
+    ensures many { IfErr result (λ fault. (fault ≡ NetFault.TooMany kind) × (row_limit kind < count)) }
+{
+    if count > most_rows(kind) {
+        return Err(NetFault::TooMany(kind));
     }
-    if !has_good_names(parts) || !has_distinct_qualities(alloc, parts)? {
-        return Err(NetFault::NotYet);
+    Ok(())
+}
+
+/// How many rows of the kind there may be.
+fn most_rows(kind: Kind) -> usize
+    ensures { result ≡ row_limit kind }
+{
+    match kind {
+        Kind::Source => MAX_SOURCES,
+        Kind::Pool => MAX_POOLS,
+        Kind::Product => MAX_PRODUCTS,
+        Kind::Quality => MAX_QUALITIES,
+        Kind::Arc => MAX_ARCS,
     }
-    let Some(ends) = known_ends(alloc, parts)? else {
-        return Err(NetFault::NotYet);
-    };
-    if !are_forward(&ends) {
-        return Err(NetFault::NotYet);
-    }
+}
+
+/// Refuses the first name that breaks the rule.
+fn check_names(parts: &Parts) -> Result<(), NetFault>
+    requires counted { IsCounted (rows_of parts.now) }
+    requires clear { LacksEarlier (rows_of parts.now) (NetFault.BadName Kind.Source 0) }
+    ensures clear { OnOk result (LacksEarlier (rows_of parts.now) (NetFault.DuplicateName Kind.Source 0)) }
+    ensures fault { IfErr result (IsFirstFault (rows_of parts.now)) }
+{
+    check_names_of(Kind::Source, &parts.sources)?;
+    check_names_of(Kind::Pool, &parts.pools)?;
+    check_names_of(Kind::Product, &parts.products)?;
+    check_names_of(Kind::Quality, &parts.qualities)?;
+    Ok(())
+}
+
+/// A table of the names of the sources, then the pools, then the products. Refuses the first that stood before.
+fn node_table<'a>(alloc: Global, parts: &'a Parts) -> Result<IndexSet<&'a str>, NetFault>
+    requires counted { IsCounted (rows_of parts.now) }
+    requires clear { LacksEarlier (rows_of parts.now) (NetFault.DuplicateName Kind.Source 0) }
+    ensures names { IfOk result (λ names. names_in names ≡ node_names (rows_of parts.now)) }
+    ensures distinct { OnOk result (IsDistinct (rows_of parts.now)) }
+    ensures fault { IfErr result (IsFirstFault (rows_of parts.now)) }
+{
+    let mut names = IndexSet::new(alloc);
+    add_names(&mut names, Kind::Source, &parts.sources)?;
+    add_names(&mut names, Kind::Pool, &parts.pools)?;
+    add_names(&mut names, Kind::Product, &parts.products)?;
+    Ok(names)
+}
+
+/// Refuses the first quality with the name of an earlier one.
+fn check_qualities(alloc: Global, parts: &Parts) -> Result<(), NetFault>
+    requires counted { IsCounted (rows_of parts.now) }
+    requires clear { LacksEarlier (rows_of parts.now) (NetFault.DuplicateName Kind.Source 0) }
+    requires distinct { IsDistinct (rows_of parts.now) }
+    ensures clear { OnOk result (LacksEarlier (rows_of parts.now) (NetFault.UnknownName 0)) }
+    ensures fault { IfErr result (IsFirstFault (rows_of parts.now)) }
+{
+    let mut names = IndexSet::new(alloc);
+    add_names(&mut names, Kind::Quality, &parts.qualities)?;
+    Ok(())
+}
+
+/// The ends of the arcs. Refuses the first end that names no node, then the first arc that goes the wrong way, from pool
+/// to pool, or where an earlier one goes.
+fn known_ends(alloc: Global, parts: &Parts, names: &IndexSet<&str>) -> Result<Vec<Ends>, NetFault>
+    requires counted { IsCounted (rows_of parts.now) }
+    requires names { names_in names.now ≡ node_names (rows_of parts.now) }
+    requires distinct { IsDistinct (rows_of parts.now) }
+    requires clear { LacksEarlier (rows_of parts.now) (NetFault.UnknownName 0) }
+    ensures ends { IfOk result (λ ends. AreEndsOf (rows_of parts.now) ends.items) }
+    ensures clear { OnOk result (LacksEarlier (rows_of parts.now) (NetFault.PoolWithoutInput 0)) }
+    ensures fault { IfErr result (IsFirstFault (rows_of parts.now)) }
+{
+    let ends = ends_of(alloc, parts, names)?;
+    check_forward(&ends)?;
+    check_layers(&ends)?;
+    check_repeats(&ends)?;
     Ok(ends)
 }
 
-/// Whether each arc goes from a source or a pool to a pool or a product, not from pool to pool, and stands once.
-fn are_forward(ends: &[Ends]) -> bool
-    requires { length ends.now ≤ 256 }
-    ensures { IsTrue result → AreForward ends.now }
+/// The arcs by kind, and the paths. Refuses the first pool that lacks a feed, then the first that lacks an out, then too
+/// many paths.
+fn used_arcs(alloc: Global, parts: &Parts, ends: &[Ends]) -> Result<Arcs, NetFault>
+    requires counted { IsCounted (rows_of parts.now) }
+    requires distinct { IsDistinct (rows_of parts.now) }
+    requires found { AreEndsOf (rows_of parts.now) ends.now }
+    requires clear { LacksEarlier (rows_of parts.now) (NetFault.PoolWithoutInput 0) }
+    ensures found { IfOk result (AreArcsOf (rows_of parts.now)) }
+    ensures clear { OnOk result (LacksEarlier (rows_of parts.now) (NetFault.OutOfRange Kind.Source 0)) }
+    ensures fault { IfErr result (IsFirstFault (rows_of parts.now)) }
 {
-    if first_backward(ends).is_some() {
-        return false;
-    }
-    if first_between_pools(ends).is_some() {
-        return false;
-    }
-    first_repeat(ends).is_none()
+    let arcs = arcs_from(alloc, parts, ends)?;
+    check_inputs(parts.pools.len() as u32, &arcs.feeds)?;
+    check_outputs(parts.pools.len() as u32, &arcs.outs)?;
+    check_paths(&arcs.paths)?;
+    Ok(arcs)
 }
 
-/// Whether each of this many pools has a feed and an out, and there are no more paths than there may be.
-fn are_used(pools: u32, arcs: &Arcs) -> bool
-    ensures { IsTrue result → AreUsed pools arcs.now }
+/// Refuses the first row with a number outside its range, then the first product with limits that are not in order.
+fn check_numbers(parts: &Parts) -> Result<(), NetFault>
+    requires counted { IsCounted (rows_of parts.now) }
+    requires clear { LacksEarlier (rows_of parts.now) (NetFault.OutOfRange Kind.Source 0) }
+    ensures ranges { OnOk result (IsInRange (rows_of parts.now)) }
+    ensures clear { OnOk result (LacksEarlier (rows_of parts.now) NetFault.Memory) }
+    ensures fault { IfErr result (IsFirstFault (rows_of parts.now)) }
 {
-    if first_without_input(pools, &arcs.feeds).is_some() {
-        return false;
-    }
-    if first_without_output(pools, &arcs.outs).is_some() {
-        return false;
-    }
-    arcs.paths.len() <= MAX_PATHS
-}
-
-/// Whether no list is longer than it may be.
-fn has_small_lists(parts: &Parts) -> bool
-    ensures { IsTrue result → IsCounted (rows_of parts.now) }
-{
-    parts.sources.len() <= 64
-        && parts.pools.len() <= 16
-        && parts.products.len() <= 64
-        && parts.qualities.len() <= 8
-        && parts.arcs.len() <= 256
-}
-
-/// Whether each name follows the rule.
-fn has_good_names(parts: &Parts) -> bool
-    requires { IsCounted (rows_of parts.now) }
-    ensures { IsTrue result → IsNamed (rows_of parts.now) }
-{
-    if first_bad_name(&parts.sources).is_some() {
-        return false;
-    }
-    if first_bad_name(&parts.pools).is_some() {
-        return false;
-    }
-    if first_bad_name(&parts.products).is_some() {
-        return false;
-    }
-    first_bad_name(&parts.qualities).is_none()
-}
-
-/// Whether each number is in its range, and limits are in order.
-fn has_good_numbers(parts: &Parts) -> bool
-    requires { IsCounted (rows_of parts.now) }
-    ensures { IsTrue result → IsInRange (rows_of parts.now) }
-{
-    if first_source_out(&parts.sources).is_some() {
-        return false;
-    }
-    if first_pool_out(&parts.pools).is_some() {
-        return false;
-    }
-    if first_product_out(&parts.products).is_some() {
-        return false;
-    }
-    first_disorderly(&parts.products).is_none()
-}
-
-/// Whether no quality has the name of an earlier one.
-fn has_distinct_qualities(alloc: Global, parts: &Parts) -> Result<bool, AllocError>
-    requires { IsCounted (rows_of parts.now) }
-    ensures { IfOk result (λ distinct. IsTrue distinct → (n : ℕ) → ¬ IsRepeatAt [] (rows_of parts.now).qualities n) }
-{
-    let mut names = IndexSet::new(alloc);
-    Ok(add_names(&mut names, &parts.qualities)?.is_none())
-}
-
-/// The ends of the arcs, where the nodes have distinct names and each end names one.
-fn known_ends(alloc: Global, parts: &Parts) -> Result<Option<Vec<Ends>>, AllocError>
-    requires { IsCounted (rows_of parts.now) }
-    ensures distinct { IfOk result (λ found. IfSome found (λ _. IsDistinct (rows_of parts.now))) }
-    ensures ends { IfOk result (λ found. IfSome found (λ ends. AreEndsOf (rows_of parts.now) ends.items)) }
-{
-    let Some(names) = node_table(alloc, parts)? else {
-        return Ok(None);
-    };
-    ends_of(alloc, parts, &names)
-}
-
-/// A table of the names of the sources, then the pools, then the products, where they are distinct.
-fn node_table<'a>(alloc: Global, parts: &'a Parts) -> Result<Option<IndexSet<&'a str>>, AllocError>
-    requires { IsCounted (rows_of parts.now) }
-    ensures distinct { IfOk result (λ found. IfSome found (λ _. IsDistinct (rows_of parts.now))) }
-    ensures names { IfOk result (λ found. IfSome found (λ names. names_in names ≡ node_names (rows_of parts.now))) }
-{
-    let mut names = IndexSet::new(alloc);
-    if let Some(_n) = add_names(&mut names, &parts.sources)? {
-        return Ok(None);
-    }
-    if let Some(_n) = add_names(&mut names, &parts.pools)? {
-        return Ok(None);
-    }
-    if let Some(_n) = add_names(&mut names, &parts.products)? {
-        return Ok(None);
-    }
-    Ok(Some(names))
+    check_sources(&parts.sources)?;
+    check_pools(&parts.pools)?;
+    check_products(&parts.products)?;
+    check_limits(&parts.products)?;
+    Ok(())
 }

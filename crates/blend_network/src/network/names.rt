@@ -1,10 +1,12 @@
 //! Names: which are allowed, and tables that find them.
 
-ghost use Rattle.std.specs.Prelude.{◌≡◌, ◌↔◌, ℕ, ◌<◌, ◌≤◌, List, [], ◌++◌, map, length, get_or, string_bytes, IsTrue, IfOk, All};
+ghost use Rattle.std.specs.Prelude.{◌≡◌, ◌≢◌, ◌↔◌, ℕ, ◌<◌, ◌≤◌, List, [], ◌++◌, map, length, get_or, string_bytes, IsTrue, IfOk, OnOk, IfErr, All};
 ghost use Rattle.pool_model.specs.Naming.{number_of};
-ghost use Rattle.blend_network.specs.Names.{names_in, AddsName, AddsNames};
-ghost use Rattle.blend_network.specs.Faults.{IsFirstBad, IsName};
+ghost use Rattle.blend_network.specs.Names.{names_in, AddsName};
+ghost use Rattle.blend_network.specs.Faults.{IsName, IsBadAt, IsRepeatAt};
+ghost use Rattle.blend_network.specs.Checks.{IsFirstOf};
 
+use super::{Kind, NetFault};
 use crate::parts::{PoolRow, ProductRow, SourceRow};
 use indexmap::IndexSet;
 use std::alloc::AllocError;
@@ -63,33 +65,37 @@ fn has_plain_bytes(bytes: &[u8]) -> bool
     bytes.iter().all(|b| 32 <= *b && *b <= 126)
 }
 
-/// The first of the rows whose name breaks the rule.
-pub(super) fn first_bad_name<T: Named>(rows: &[T]) -> Option<u32>
+/// Refuses the first of the rows of this kind whose name breaks the rule.
+pub(super) fn check_names_of<T: Named>(kind: Kind, rows: &[T]) -> Result<(), NetFault>
     requires { length rows.now ≤ 256 }
-    ensures { IsFirstBad (λ n. IsName (get_or (map T.name_of rows.now) n [])) (length rows.now) result }
+    ensures named { OnOk result ((n : ℕ) → n < length rows.now → IsName (get_or (map T.name_of rows.now) n [])) }
+    ensures first { IfErr result (IsFirstOf (NetFault.BadName kind) (IsBadAt (map T.name_of rows.now))) }
 {
     for (n, row) in rows.iter().enumerate() {
         if !is_name(row.name()) {
-            return Some(n as u32);
+            return Err(NetFault::BadName(kind, n as u32));
         }
     }
-    None
+    Ok(())
 }
 
-/// Adds the names of the rows to the table, up to the first that is there already, and answers that one.
+/// Adds the names of the rows of this kind to the table, and refuses the first that is there already.
 pub(super) fn add_names<'a, T: Named>(
     names: &mut IndexSet<&'a str>,
+    kind: Kind,
     rows: &'a [T],
-) -> Result<Option<u32>, AllocError>
+) -> Result<(), NetFault>
     requires { length rows.now ≤ 256 }
-    ensures { IfOk result (λ repeat. AddsNames (names_in names.old) (names_in names.new) (map T.name_of rows.now) repeat) }
+    ensures fresh { OnOk result ((n : ℕ) → ¬ IsRepeatAt (names_in names.old) (map T.name_of rows.now) n) }
+    ensures added { OnOk result (names_in names.new ≡ names_in names.old ++ map T.name_of rows.now) }
+    ensures first { IfErr result (λ fault. fault ≢ NetFault.Memory → IsFirstOf (NetFault.DuplicateName kind) (IsRepeatAt (names_in names.old) (map T.name_of rows.now)) fault) }
 {
     for (n, row) in rows.iter().enumerate() {
         if !add_name(names, row.name())? {
-            return Ok(Some(n as u32));
+            return Err(NetFault::DuplicateName(kind, n as u32));
         }
     }
-    Ok(None)
+    Ok(())
 }
 
 /// Adds the name to the table, and says whether it was new.

@@ -1,11 +1,25 @@
 //! The paths of a network: each goes from a source through a pool to a product.
 
-ghost use Rattle.std.specs.Prelude.{◌≡◌, ℕ, ◌≤◌, ◌++◌, map, length, IfOk};
+ghost use Rattle.std.specs.Prelude.{◌≡◌, ℕ, ◌<◌, ◌≤◌, ◌++◌, map, length, IfOk, OnOk, IfErr};
 ghost use Rattle.pool_model.specs.Paths.{pool_paths, paths_of};
 ghost use Rattle.blend_network.specs.Shown.{shown_arc, shown_path, joined_net, paths_behind};
 
-use super::{Arc, Path};
+use super::{Arc, NetFault, Path};
 use std::alloc::{AllocError, Global};
+
+/// The most paths that a network may have.
+const MAX_PATHS: usize = 512;
+
+/// Refuses more paths than there may be.
+pub(super) fn check_paths(paths: &[Path]) -> Result<(), NetFault>
+    ensures few { OnOk result (length paths.now ≤ 512) }
+    ensures many { IfErr result (λ fault. (fault ≡ NetFault.TooManyPaths) × (512 < length paths.now)) }
+{
+    if paths.len() > MAX_PATHS {
+        return Err(NetFault::TooManyPaths);
+    }
+    Ok(())
+}
 
 /// The paths through this many pools: by pool, then by feed, then by out.
 pub(super) fn paths_from(

@@ -1,32 +1,34 @@
 //! Whether each pool of a network has a feed and an out.
 
-ghost use Rattle.std.specs.Prelude.{◌≡◌, ◌↔◌, ◌<◌, IsTrue, All};
-ghost use Rattle.blend_network.specs.Faults.{IsFirst};
+ghost use Rattle.std.specs.Prelude.{◌≡◌, ◌↔◌, ℕ, ◌<◌, OnOk, IfErr, IsTrue, All};
+ghost use Rattle.blend_network.specs.Checks.{IsFirstOf};
 
-use super::Arc;
+use super::{Arc, NetFault};
 
-/// The first of this many pools that no feed goes to.
-pub(super) fn first_without_input(pools: u32, feeds: &[Arc]) -> Option<u32>
-    ensures { IsFirst (λ l. (l < pools) × All (λ a. ¬ a.to ≡ l) feeds.now) result }
+/// Refuses the first of this many pools that no feed goes to.
+pub(super) fn check_inputs(pools: u32, feeds: &[Arc]) -> Result<(), NetFault>
+    ensures none { OnOk result ((l : ℕ) → l < pools → ¬ All (λ a. ¬ a.to ≡ l) feeds.now) }
+    ensures first { IfErr result (IsFirstOf NetFault.PoolWithoutInput (λ l. (l < pools) × All (λ a. ¬ a.to ≡ l) feeds.now)) }
 {
     for pool in 0..pools {
         if lacks_input(pool, feeds) {
-            return Some(pool);
+            return Err(NetFault::PoolWithoutInput(pool));
         }
     }
-    None
+    Ok(())
 }
 
-/// The first of this many pools that no out starts at.
-pub(super) fn first_without_output(pools: u32, outs: &[Arc]) -> Option<u32>
-    ensures { IsFirst (λ l. (l < pools) × All (λ a. ¬ a.from ≡ l) outs.now) result }
+/// Refuses the first of this many pools that no out starts at.
+pub(super) fn check_outputs(pools: u32, outs: &[Arc]) -> Result<(), NetFault>
+    ensures none { OnOk result ((l : ℕ) → l < pools → ¬ All (λ a. ¬ a.from ≡ l) outs.now) }
+    ensures first { IfErr result (IsFirstOf NetFault.PoolWithoutOutput (λ l. (l < pools) × All (λ a. ¬ a.from ≡ l) outs.now)) }
 {
     for pool in 0..pools {
         if lacks_output(pool, outs) {
-            return Some(pool);
+            return Err(NetFault::PoolWithoutOutput(pool));
         }
     }
-    None
+    Ok(())
 }
 
 fn lacks_input(pool: u32, feeds: &[Arc]) -> bool

@@ -1,11 +1,13 @@
 //! Which numbers a row may have.
 
-ghost use Rattle.std.specs.Prelude.{◌≡◌, ◌↔◌, ℕ, ◌<◌, ◌≤◌, ◌^◌, map, length, get_or, IsTrue, All};
+ghost use Rattle.std.specs.Prelude.{◌≡◌, ◌↔◌, ℕ, ◌<◌, ◌≤◌, ◌^◌, map, length, get_or, IsTrue, OnOk, IfErr, All};
 ghost use Rattle.std.specs.Option.{ForSome};
 ghost use Rattle.pool_model.specs.Network.{IsWithin};
 ghost use Rattle.blend_network.specs.Parts.{source_row, pool_row, product_row};
-ghost use Rattle.blend_network.specs.Faults.{IsFirstBad, IsUpTo, IsSourceInRange, IsPoolInRange, IsProductInRange, IsOrderly, AreOrderly, AreLimits, IsInOrder, no_source_row, no_pool_row, no_product_row};
+ghost use Rattle.blend_network.specs.Checks.{IsFirstOf};
+ghost use Rattle.blend_network.specs.Faults.{IsUpTo, IsSourceInRange, IsPoolInRange, IsProductInRange, IsOrderly, IsSourceOutAt, IsPoolOutAt, IsProductOutAt, IsDisorderlyAt, AreOrderly, AreLimits, IsInOrder, no_source_row, no_pool_row, no_product_row};
 
+use super::{Kind, NetFault};
 use crate::parts::{PoolRow, ProductRow, SourceRow};
 
 /// The most that a cost, a price, a product's minimum or its maximum is, in millionths.
@@ -17,56 +19,61 @@ const MAX_SUPPLY: u64 = 100_000_000_000_000;
 /// The most that a quality or a limit on it is, in millionths.
 const MAX_QUALITY: u64 = 100_000_000_000;
 
-/// The first source with a number outside its range.
-pub(super) fn first_source_out(rows: &[SourceRow]) -> Option<u32>
+/// Refuses the first source with a number outside its range.
+pub(super) fn check_sources(rows: &[SourceRow]) -> Result<(), NetFault>
     requires { length rows.now ≤ 256 }
-    ensures { IsFirstBad (λ n. IsSourceInRange (get_or (map source_row rows.now) n no_source_row)) (length rows.now) result }
+    ensures good { OnOk result ((n : ℕ) → n < length rows.now → IsSourceInRange (get_or (map source_row rows.now) n no_source_row)) }
+    ensures first { IfErr result (IsFirstOf (NetFault.OutOfRange Kind.Source) (IsSourceOutAt (map source_row rows.now))) }
 {
     for (n, row) in rows.iter().enumerate() {
         if !is_source_in_range(row) {
-            return Some(n as u32);
+            return Err(NetFault::OutOfRange(Kind::Source, n as u32));
         }
     }
-    None
+    Ok(())
 }
 
-/// The first pool with a number outside its range.
-pub(super) fn first_pool_out(rows: &[PoolRow]) -> Option<u32>
+/// Refuses the first pool with a number outside its range.
+pub(super) fn check_pools(rows: &[PoolRow]) -> Result<(), NetFault>
     requires { length rows.now ≤ 256 }
-    ensures { IsFirstBad (λ n. IsPoolInRange (get_or (map pool_row rows.now) n no_pool_row)) (length rows.now) result }
+    ensures good { OnOk result ((n : ℕ) → n < length rows.now → IsPoolInRange (get_or (map pool_row rows.now) n no_pool_row)) }
+    ensures first { IfErr result (IsFirstOf (NetFault.OutOfRange Kind.Pool) (IsPoolOutAt (map pool_row rows.now))) }
 {
     for (n, row) in rows.iter().enumerate() {
         if !is_pool_in_range(row) {
-            return Some(n as u32);
+            return Err(NetFault::OutOfRange(Kind::Pool, n as u32));
         }
     }
-    None
+    Ok(())
 }
 
-/// The first product with a number outside its range.
-pub(super) fn first_product_out(rows: &[ProductRow]) -> Option<u32>
+/// Refuses the first product with a number outside its range.
+pub(super) fn check_products(rows: &[ProductRow]) -> Result<(), NetFault>
     requires { length rows.now ≤ 256 }
-    ensures { IsFirstBad (λ n. IsProductInRange (get_or (map product_row rows.now) n no_product_row)) (length rows.now) result }
+    ensures good { OnOk result ((n : ℕ) → n < length rows.now → IsProductInRange (get_or (map product_row rows.now) n no_product_row)) }
+    ensures first { IfErr result (IsFirstOf (NetFault.OutOfRange Kind.Product) (IsProductOutAt (map product_row rows.now))) }
 {
     for (n, row) in rows.iter().enumerate() {
         if !is_product_in_range(row) {
-            return Some(n as u32);
+            return Err(NetFault::OutOfRange(Kind::Product, n as u32));
         }
     }
-    None
+    Ok(())
 }
 
-/// The first product whose minimum is above its maximum, or with a least limit above the most limit of the same quality.
-pub(super) fn first_disorderly(rows: &[ProductRow]) -> Option<u32>
+/// Refuses the first product whose minimum is above its maximum, or with a least limit above the most limit of the same
+/// quality.
+pub(super) fn check_limits(rows: &[ProductRow]) -> Result<(), NetFault>
     requires { length rows.now ≤ 256 }
-    ensures { IsFirstBad (λ n. IsOrderly (get_or (map product_row rows.now) n no_product_row)) (length rows.now) result }
+    ensures good { OnOk result ((n : ℕ) → n < length rows.now → IsOrderly (get_or (map product_row rows.now) n no_product_row)) }
+    ensures first { IfErr result (IsFirstOf NetFault.LeastAboveMost (IsDisorderlyAt (map product_row rows.now))) }
 {
     for (n, row) in rows.iter().enumerate() {
         if !is_orderly(row) {
-            return Some(n as u32);
+            return Err(NetFault::LeastAboveMost(n as u32));
         }
     }
-    None
+    Ok(())
 }
 
 fn is_source_in_range(row: &SourceRow) -> bool

@@ -11,13 +11,13 @@ pub paths_from-requires-clause-feeds : goal.paths_from-requires-clause-feeds
 paths_from-requires-clause-feeds c =
     let r = rows_of c.args.parts.now in
     let are = ap (map shown_arc) c.in_ok-feeds.ensures ∙ feeds_are r c.args.ends.now c.requires.distinct c.requires.found in
-    omega (arith, ap length c.deref.ensures.value, length-map c.in_ok-feeds.feeds.items shown_arc, ap length are, length-arcs (source_names r) (pool_names r) r, c.requires.counts.arcs)
+    omega (arith, ap length c.deref.ensures.value, length-map c.in_ok-feeds.feeds.items shown_arc, ap length are, length-arcs (source_names r) (pool_names r) r, c.requires.counted.arcs)
 
 pub paths_from-requires-clause-outs : goal.paths_from-requires-clause-outs
 paths_from-requires-clause-outs c =
     let r = rows_of c.args.parts.now in
     let are = ap (map shown_arc) c.in_ok-outs.ensures ∙ outs_are r c.args.ends.now c.requires.distinct c.requires.found in
-    omega (arith, ap length c.deref-2.ensures.value, length-map c.in_ok-outs.outs.items shown_arc, ap length are, length-arcs (pool_names r) (product_names r) r, c.requires.counts.arcs)
+    omega (arith, ap length c.deref-2.ensures.value, length-map c.in_ok-outs.outs.items shown_arc, ap length are, length-arcs (pool_names r) (product_names r) r, c.requires.counted.arcs)
 
 pub returns : goal.returns
 returns c =

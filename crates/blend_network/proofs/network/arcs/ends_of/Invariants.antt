@@ -3,5 +3,5 @@ use Rattle.blend_network.specs.Parts.{rows_of}
 use Rattle.blend_network.specs.Nodes.{known, nodes_of}
 use Rattle.blend_network.proofs.network.arcs.ends_of.Given as goal
 
-abbrev pub invariant-loop-arc : goal.invariant-loop-arc
-invariant-loop-arc l = map known l.ends.items ≡ take l.arc-index (map (nodes_of (rows_of l.parts)) (rows_of l.parts).arcs)
+abbrev pub invariant-loop-n : goal.invariant-loop-n
+invariant-loop-n l = map known l.ends.items ≡ take l.n (map (nodes_of (rows_of l.parts)) (rows_of l.parts).arcs)

@@ -17,8 +17,13 @@ loop-n-preserved g c =
       fresh = below_more _ _ c.loop-n.invariant.fresh (fresh_more (names_in c.args.names.now) (names_in c.loop-n.names) names c.loop-n.n c.name.result.now c.loop-n.invariant.added at adds.0);
     }
 
-pub returns : goal.returns
-returns g c =
+pub returns-clause-fresh : goal.returns-clause-fresh
+returns-clause-fresh g c =
+    let past : length (map g.T.Named.name_of c.args.rows.now) ≤ c.loop-n.n = omega (arith, length-map c.args.rows.now g.T.Named.name_of) in
+    λ n repeat. c.loop-n.invariant.fresh n (omega (arith, repeat.0)) repeat
+
+pub returns-clause-added : goal.returns-clause-added
+returns-clause-added g c =
     let names = map g.T.Named.name_of c.args.rows.now in
     let past : length (map g.T.Named.name_of c.args.rows.now) ≤ c.loop-n.n = omega (arith, length-map c.args.rows.now g.T.Named.name_of) in
-    (λ n repeat. c.loop-n.invariant.fresh n (omega (arith, repeat.0)) repeat, added_all (names_in c.args.names.now) (names_in c.loop-n.names) names c.loop-n.n c.loop-n.invariant.added past)
+    added_all (names_in c.args.names.now) (names_in c.loop-n.names) names c.loop-n.n c.loop-n.invariant.added past
