@@ -2,4 +2,9 @@ pub mod Lists
 pub mod Each
 pub mod Bytes
 pub mod Widths
+pub mod CanonicalReads
+pub mod WrittenReads
+pub mod CanonicalSteps
+pub mod CanonicalSize
+pub mod CanonicalText
 pub mod Found

@@ -1,4 +1,5 @@
 pub mod Walk
 pub mod Format
 pub mod Reading
+pub mod Canonical
 pub mod NetCause

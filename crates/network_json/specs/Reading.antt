@@ -4,6 +4,7 @@ use Rattle.pool_model.specs.Rows.{Rows}
 use Rattle.pool_model.specs.Network.{Network}
 use Rattle.pool_model.specs.Naming.{network_of}
 use Rattle.blend_network.specs.Faults.{IsFaultless}
+use Rattle.blend_network.specs.FirstFault.{IsFirstFault}
 use Rattle.blend_network.specs.declared.network.build.NetFault.{NetFault}
 use Rattle.blend_network.specs.declared.network.build.NetFault.TheVariants as net
 use Rattle.network_json.specs.declared.fault.ReadNet.{ReadNet}
@@ -17,13 +18,14 @@ pub record ReadAs (bytes : List ℕ) (network : Network) : Type 0 where
   pub faultless : IsFaultless rows
   pub named : network ≡ network_of rows
 
--- rows were read, and this is the reason to refuse them
+-- rows were read, and this is their first fault, which is no want of memory
 pub record IsNetFault (bytes : List ℕ) (fault : NetFault) : Type 0 where
   pub rows : Rows
   pub read : rows_in bytes ≡ Ok rows
   pub cause : fault ≢ net.Memory
+  pub first : IsFirstFault rows fault
 
--- A file is refused for the first fault of its walk, or for the fault of its rows; want of memory says nothing of it.
+-- A file is refused for the first fault of its walk, or for the first fault of its rows; want of memory says nothing of it.
 abbrev pub IsRefusal : List ℕ → ReadNet → Type 0
 IsRefusal bytes Memory = ⊤
 IsRefusal bytes (Net fault) = IsNetFault bytes fault

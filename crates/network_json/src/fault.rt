@@ -69,7 +69,7 @@ pub enum ReadNet {
     NotWhole(Place),
     /// A quantity is a text that stands for none.
     BadQuantity(Place),
-    /// The rows are no network.
+    /// The rows are no network: their first fault.
     Net(NetFault),
     /// Memory ran out.
     Memory,

@@ -1,0 +1,11 @@
+use Rattle.pool_model.specs.Network.{net_of}
+use Rattle.network_json.proofs.CanonicalSteps.{source_named, product_named}
+use Rattle.network_json.proofs.canonical.direct_value.Goals as goal
+
+pub name-requires : goal.name-requires
+unfolding net_of
+name-requires c = rw c.direct-source.ensures.source (source_named c.args.net.now _ (c.counts-counts.ensures.limited.direct_sources c.args.n c.requires))
+
+pub name-requires-2 : goal.name-requires-2
+unfolding net_of
+name-requires-2 c = rw c.direct-source.ensures.product (product_named c.args.net.now _ (c.counts-counts.ensures.limited.direct_products c.args.n c.requires))
