@@ -2,10 +2,9 @@
 use Rattle.std.proofs.Common.{◌≡◌, ℕ, ◌*◌, ◌<◌, ◌≤◌, ◌⊎◌, ◌↔◌, inl, inr, Option, Some, None, ℤ, pos, ◌+ℤ◌, ◌*ℤ◌, ◌<ℤ◌, arith, refl, sym, ap, ◌∙◌}
 use Rattle.std.proofs.Math.Nat.{mul-le-mul, mul-zero}
 use Rattle.std.proofs.Math.IntN.{*ℤ-zero}
-use Rattle.std.proofs.lemmas.Int.{by_lt_z}
 use Rattle.integers.specs.Sums.{product_below, int_sum_at, product_but}
 use Rattle.integers.proofs.Ring.{additive, sorted, mul-add}
-use Rattle.integers.proofs.Order.{le-mul, le-cancel}
+use Rattle.integers.proofs.Order.{lt-mul, lt-cancel}
 use Rattle.integers.proofs.AtKey.{sum_at-mul, int_sum_at-same, int_sum_at-mul, product_but_is, positive-product_below, term-le-sum_at}
 use Rattle.pool_model.specs.Network.{Net}
 use Rattle.pool_model.specs.Plan.{Written, weight, written_out, written_outflow, plan_of, outflow, product_inflow, mix, factor, quality_inflow, quality_room}
@@ -76,12 +75,6 @@ inflow-plan_of n w j k arcs positive =
 
 factors-positive : (n : Net) (w : Written) → pos 0 <ℤ factors n w
 factors-positive n w = let above = positive-product_below (factor n (plan_of n w)) n.pools (λ l. omega arith) in omega (arith, additive, above)
-
-lt-mul : (m a b : ℤ) → pos 0 <ℤ m → a <ℤ b → (m *ℤ a) <ℤ (m *ℤ b)
-lt-mul m a b p h = by_lt_z (m *ℤ a) (m *ℤ b) (λ l. l) (λ g. absurd (let back = le-cancel m b a p g in omega (arith, additive)))
-
-lt-cancel : (m a b : ℤ) → pos 0 <ℤ m → (m *ℤ a) <ℤ (m *ℤ b) → a <ℤ b
-lt-cancel m a b p h = by_lt_z a b (λ l. l) (λ g. absurd (let back = le-mul m b a (omega (arith, additive)) g in omega (arith, additive)))
 
 -- the two sides of a most
 most-plan_of : (n : Net) (w : Written) (j k : ℕ) (u : ℤ) → ((o : ℕ) → o < n.outs → n.out_pool o < n.pools) → 0 < w.base

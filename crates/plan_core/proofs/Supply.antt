@@ -4,7 +4,8 @@ use Rattle.std.proofs.Math.Nat.{mul-le-mul, le_of_mul-le-mul_left}
 use Rattle.std.proofs.lemmas.Int.{ints}
 use Rattle.integers.specs.Sums.{sum_below, sum_at}
 use Rattle.integers.proofs.Order.{abs-mul-le}
-use Rattle.integers.proofs.AtKey.{same_or_other, chosen, passed, sum_below-same, sum_at-mul, term-le-sum_at}
+use Rattle.integers.proofs.AtKey.{same_or_other, sum_below-same, sum_at-mul, term-le-sum_at}
+use Rattle.integers.proofs.ByNode.{sum_below-add, sum_keys, sum_at-same_key, sum_below-most}
 use Rattle.integers.proofs.ByNode.{sum_below-nothing, abs-int_sum_at}
 use Rattle.pool_model.specs.Network.{Net, IsLimited, IsWithin}
 use Rattle.pool_model.specs.Plan.{Written, weight, written_out, written_outflow, plan_of, outflow, pool_inflow, source_outflow, product_inflow}
@@ -12,40 +13,6 @@ use Rattle.plan_core.specs.Checks.{IsShaped, Keeps}
 use Rattle.plan_core.specs.Weighed.{HasRoom}
 use Rattle.plan_core.specs.declared.fault.PlanFault.TheVariants.{WeightSum, ProductOver}
 use Rattle.plan_core.proofs.Blends.{outflow-plan_of}
-
--- ---- sums
-sum_below-add : (f g : ℕ → ℕ) (n : ℕ) → sum_below (λ i. f i + g i) n ≡ sum_below f n + sum_below g n
-sum_below-add f g zero = refl
-sum_below-add f g (suc n) = omega (arith, sum_below-add f g n)
-
-one_key : (k x m : ℕ) → k < m → sum_below (λ i. if k == i then x else 0) m ≡ x
-one_key k x zero h = absurd (omega arith)
-one_key k x (suc m) h = elim (same_or_other k m) [
-  | inl e ↦ omega (arith, chosen k m x 0 e, sum_below-nothing (λ i. if k == i then x else 0) m (λ i lt. passed k i x 0 (omega arith)))
-  | inr d ↦ omega (arith, passed k m x 0 d, one_key k x m (omega arith))
-]
-
--- a sum over the keys is a sum over all
-sum_keys : (key f : ℕ → ℕ) (m n : ℕ) → ((i : ℕ) → i < n → key i < m) → sum_below (λ k. sum_at key k f n) m ≡ sum_below f n
-sum_keys key f m zero h = sum_below-nothing (λ k. 0) m (λ k lt. refl)
-sum_keys key f m (suc n) h =
-    omega (
-      arith,
-      sum_below-add (λ k. sum_at key k f n) (λ k. if key n == k then f n else 0) m,
-      sum_keys key f m n (λ i lt. h i (omega arith)),
-      one_key (key n) (f n) m (h n (omega arith)),
-    )
-
-sum_at-same_key : (key : ℕ → ℕ) (k : ℕ) (f g : ℕ → ℕ) (n : ℕ) → ((i : ℕ) → i < n → key i ≡ k → f i ≡ g i) → sum_at key k f n ≡ sum_at key k g n
-sum_at-same_key key k f g n h = sum_below-same (λ i. if key i == k then f i else 0) (λ i. if key i == k then g i else 0) n (λ i lt. at i lt (same_or_other (key i) k))
-  where
-    at : (i : ℕ) → i < n → (key i ≡ k) ⊎ (key i ≢ k) → (if key i == k then f i else 0) ≡ (if key i == k then g i else 0)
-    at i lt (inl e) = omega (arith, chosen (key i) k (f i) 0 e, chosen (key i) k (g i) 0 e, h i lt e)
-    at i lt (inr d) = omega (arith, passed (key i) k (f i) 0 d, passed (key i) k (g i) 0 d)
-
-sum_below-most : (f : ℕ → ℕ) (b n : ℕ) → ((i : ℕ) → i < n → f i ≤ b) → sum_below f n ≤ n * b
-sum_below-most f b zero h = omega arith
-sum_below-most f b (suc n) h = omega (arith, sum_below-most f b n (λ i lt. h i (omega arith)), h n (omega arith))
 
 pub not_less : (a b : ℕ) → ¬ (a < b) → b ≤ a
 not_less a b h = grind arith

@@ -1,3 +1,4 @@
 pub mod Shown
+pub mod Weights
 pub mod Checks
 pub mod Weighed

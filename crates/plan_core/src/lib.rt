@@ -10,6 +10,8 @@
 //! Which plan to write is left to the crates above, and so is the text of a plan.
 #![tactic(auto)]
 
+#[cfg(test)]
+mod agreement;
 mod check;
 mod cost;
 mod fault;
@@ -25,4 +27,4 @@ pub use check::check_plan;
 pub use cost::compare_cost;
 pub use fault::PlanFault;
 pub use plan::{Cost, Way, WrittenPlan};
-pub use starting::{direct_flow, simple_plan, zero_plan};
+pub use starting::{direct_flow, path_flow, simple_plan, zero_plan};

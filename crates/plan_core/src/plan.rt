@@ -21,6 +21,8 @@ pub struct Cost {
 /// A way from a source to a product.
 #[derive(Clone, Copy, Debug, PartialEq, Eq)]
 pub enum Way {
+    /// A path, by its number.
+    Through(u32),
     /// A direct, by its number.
     Direct(u32),
 }

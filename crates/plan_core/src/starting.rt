@@ -1,9 +1,11 @@
 //! The starting plans: the zero plan, and each way alone.
 
-ghost use Rattle.std.specs.Prelude.{◌≡◌, ℕ, ◌<◌, ◌≤◌, ◌==◌, ◌^◌, ◌&&◌, Option, Some, None, IfOk};
+ghost use Rattle.std.specs.Prelude.{◌≡◌, ℕ, ◌<◌, ◌≤◌, ◌==◌, ◌^◌, ◌&&◌, Option, Some, None, IfOk, length};
 ghost use Rattle.pool_model.specs.Network.{net_of};
-ghost use Rattle.pool_model.specs.Starting.{tabulate, feeds_before, first_weight, zero_plan as zero_written, simple_plan as simple_written, IsWay, suits as suits_lem, is_above, is_below, all_below, direct_flow as direct_flow_lem, alone as alone_lem};
-ghost use Rattle.plan_core.specs.Shown.{written_of, way_of};
+ghost use Rattle.pool_model.specs.Paths.{paths_of, path_at};
+ghost use Rattle.pool_model.specs.Starting.{tabulate, feeds_before, first_weight, zero_plan as zero_written, simple_plan as simple_written, IsWay, through, straight, suits as suits_lem, is_above, is_below, all_below, direct_flow as direct_flow_lem, path_flow as path_flow_lem, alone as alone_lem};
+ghost use Rattle.plan_core.specs.Shown.{written_of, way_of, IsInRange};
+ghost use Rattle.plan_core.specs.Weights.{weight_on};
 
 use crate::plan::{Way, WrittenPlan};
 use blend_network::Network;
@@ -24,13 +26,40 @@ pub fn zero_plan(alloc: Global, net: &Network) -> Result<WrittenPlan, Memory>
     })
 }
 
-/// The simple plan of a way: the zero plan with as much along the way as it carries alone.
+/// The simple plan of a way: the zero plan with as much along the way as it carries alone, and on a path all of the pool's
+/// weight on the path's feed.
 pub fn simple_plan(alloc: Global, net: &Network, way: Way) -> Result<WrittenPlan, Memory>
-    requires { IsWay (net_of net.now) (way_of way) }
-    ensures { IfOk result (λ w. written_of w ≡ simple_written (net_of net.now) (way_of way)) }
+    requires { IsInRange (net_of net.now) way }
+    ensures { IfOk result (λ w. written_of w ≡ simple_written (net_of net.now) (way_of (net_of net.now) way)) }
+{
+    match way {
+        Way::Through(path) => through_plan(alloc, net, path),
+        Way::Direct(direct) => direct_plan(alloc, net, direct),
+    }
+}
+
+/// The simple plan of a path.
+fn through_plan(alloc: Global, net: &Network, path: u32) -> Result<WrittenPlan, Memory>
+    requires { path < length (paths_of (net_of net.now)) }
+    ensures { IfOk result (λ w. written_of w ≡ simple_written (net_of net.now) (through (path_at (net_of net.now) path).feed (path_at (net_of net.now) path).out)) }
 {
     let [_, _, _, _, feeds, outs, directs] = net.counts();
-    let Way::Direct(direct) = way;
+    let (feed, out) = path_ends(net, path);
+    Ok(WrittenPlan {
+        base: 1,
+        flow_base: 1,
+        weights: weights_on(alloc, net, feeds, feed)?,
+        outflows: one_flow(alloc, outs, out, path_flow(net, path))?,
+        direct: no_flows(alloc, directs)?,
+    })
+}
+
+/// The simple plan of a direct.
+fn direct_plan(alloc: Global, net: &Network, direct: u32) -> Result<WrittenPlan, Memory>
+    requires { direct < (net_of net.now).directs }
+    ensures { IfOk result (λ w. written_of w ≡ simple_written (net_of net.now) (straight direct)) }
+{
+    let [_, _, _, _, feeds, outs, directs] = net.counts();
     Ok(WrittenPlan {
         base: 1,
         flow_base: 1,
@@ -38,6 +67,35 @@ pub fn simple_plan(alloc: Global, net: &Network, way: Way) -> Result<WrittenPlan
         outflows: no_flows(alloc, outs)?,
         direct: one_flow(alloc, directs, direct, direct_flow(net, direct))?,
     })
+}
+
+/// How much a path alone carries, in millionths: the least of the maxima along it, or nothing where a quality of the source
+/// breaks a limit of the product.
+pub fn path_flow(net: &Network, path: u32) -> u64
+    requires { path < length (paths_of (net_of net.now)) }
+    ensures flow { result ≡ path_flow_lem (net_of net.now) (path_at (net_of net.now) path).feed (path_at (net_of net.now) path).out }
+    ensures size { result ≤ 10 ^ 12 }
+{
+    let _counts = net.counts();
+    let (feed, out) = path_ends(net, path);
+    let (source, _) = net.feed(feed);
+    let (pool, product) = net.out(out);
+    if suits(net, source, product) {
+        net.source_max(source)
+            .min(net.pool_max(pool).min(net.product_max(product))) as u64
+    } else {
+        0
+    }
+}
+
+/// The feed and the out of a path.
+fn path_ends(net: &Network, path: u32) -> (u32, u32)
+    requires { path < length (paths_of (net_of net.now)) }
+    ensures feed { result.0 ≡ (path_at (net_of net.now) path).feed }
+    ensures out { result.1 ≡ (path_at (net_of net.now) path).out }
+    ensures way { IsWay (net_of net.now) (through result.0 result.1) }
+{
+    net.path(path)
 }
 
 /// How much a direct alone carries, in millionths: the lesser of the maxima at its ends, or nothing where a quality of the
@@ -127,6 +185,35 @@ fn first_weights(alloc: Global, net: &Network, feeds: u32) -> Result<Vec<u32>, M
         weights.push(weight)?;
     }
     Ok(weights)
+}
+
+/// For each feed 1 where it is this one, or the first of another pool, and else 0.
+fn weights_on(alloc: Global, net: &Network, feeds: u32, on: u32) -> Result<Vec<u32>, Memory>
+    requires feeds { feeds ≤ (net_of net.now).feeds }
+    requires on { on < (net_of net.now).feeds }
+    ensures { IfOk result (λ v. v.items ≡ tabulate (weight_on (net_of net.now) on) feeds) }
+{
+    let (_, full) = net.feed(on);
+    let mut weights = Vec::new(alloc);
+    for feed in 0..feeds {
+        weights.push(weight_of(net, feed, on, full))?;
+    }
+    Ok(weights)
+}
+
+/// The weight of a feed, where all weight of one pool stands on one of its feeds.
+fn weight_of(net: &Network, feed: u32, on: u32, full: u32) -> u32
+    requires feed { feed < (net_of net.now).feeds }
+    requires full { full ≡ (net_of net.now).feed_pool on }
+    ensures { result ≡ weight_on (net_of net.now) on feed }
+{
+    let (_, pool) = net.feed(feed);
+    let carries = if pool == full {
+        feed == on
+    } else {
+        is_first_feed(net, feed)
+    };
+    u32::from(carries)
 }
 
 /// Nothing on each of so many arcs.

@@ -10,7 +10,12 @@ use std::alloc::{AllocError, Global};
 use std::cmp::Ordering;
 use std::test::Fail;
 
-fn source(alloc: Global, name: &str, cost: i128, sulfur: i128) -> Result<SourceRow, AllocError>
+pub(crate) fn source(
+    alloc: Global,
+    name: &str,
+    cost: i128,
+    sulfur: i128,
+) -> Result<SourceRow, AllocError>
     ensures { IfOk result (λ s. length s.quality.items ≡ 1) }
 {
     Ok(SourceRow {
@@ -41,7 +46,7 @@ fn product(
     })
 }
 
-fn arc(alloc: Global, from: &str, to: &str) -> Result<(String, String), AllocError> {
+pub(crate) fn arc(alloc: Global, from: &str, to: &str) -> Result<(String, String), AllocError> {
     Ok((String::from_str(alloc, from)?, String::from_str(alloc, to)?))
 }
 
