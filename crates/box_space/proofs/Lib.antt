@@ -1,0 +1,5 @@
+pub mod TermLists
+pub mod WriteSteps
+pub mod Roots
+pub mod CellLimits
+pub mod ViewSteps

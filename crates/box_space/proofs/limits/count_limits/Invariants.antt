@@ -1,0 +1,11 @@
+use Rattle.std.proofs.Common.{◌≡◌, ◌≤◌, length}
+use Rattle.pool_model.specs.Network.{net_of}
+use Rattle.box_space.specs.Limits.{limit_of}
+use Rattle.box_space.proofs.CellLimits.{cell_limits}
+use Rattle.box_space.proofs.limits.count_limits.Given as goal
+
+abbrev pub invariant-loop-cell : goal.invariant-loop-cell
+invariant-loop-cell l = record {
+  count : l.count ≡ length (cell_limits (limit_of (net_of l.net) l.bound) (net_of l.net).qualities l.cell);
+  few : l.count ≤ l.cell;
+}

@@ -1,0 +1,10 @@
+pub mod Lines
+pub mod Numbers
+pub mod Counted
+pub mod Tables
+pub mod Written
+pub mod Forms
+pub mod Limits
+pub mod Variables
+pub mod Views
+pub mod Shown

@@ -1,0 +1,17 @@
+-- Rows as they are written, term by term.
+use Rattle.std.specs.Prelude.{ℕ, zero, suc, ◌+◌, List, [], ◌∷◌, ◌++◌, ◌==◌, if◌then◌else◌, ℤ, unsigned_abs}
+use Rattle.box_space.specs.declared.terms.Term.{Term}
+
+-- terms in a row, and a constant
+pub record Line : Type 0 where
+  pub terms : List Term
+  pub constant : ℤ
+
+-- the term of a variable, where its coefficient is not 0
+abbrev pub term_of : ℕ → ℤ → List Term
+term_of v c = if unsigned_abs c == 0 then [] else record { var = v; coef = c } ∷ []
+
+-- the terms of so many variables from a first one on, by rising number
+abbrev pub terms_from : ℕ → (ℕ → ℤ) → ℕ → List Term
+terms_from first f zero = []
+terms_from first f (suc n) = terms_from first f n ++ term_of (first + n) (f n)

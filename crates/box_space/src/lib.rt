@@ -1,0 +1,38 @@
+//! Boxes of a network's plans, and the plain types of its relaxations: coordinates, splits, rows and multipliers.
+//!
+//! A box has a least and a greatest end for each coordinate of a plan. [`Coord`] names a coordinate, and [`Split`] cuts a box
+//! at one. A [`Proof`] is multipliers on rows, which show a bound on what plans in a box cost.
+//!
+//! Contracts see these types as the data of `row_model`, by `specs/Shown.antt`.
+#![tactic(auto)]
+
+mod arcs;
+mod boxes;
+mod coefs;
+mod coordinates;
+mod counts;
+mod limits;
+mod multipliers;
+mod numbers;
+mod root;
+mod rows;
+mod table;
+mod terms;
+mod variables;
+mod write;
+
+pub use arcs::{direct_ends, feed_ends, out_ends, path_arcs, path_ends};
+pub use boxes::{BoxEnds, BoxView, can_cut, halves};
+pub use coordinates::{Coord, Form, Split, coord_at, coords, of_form};
+pub use counts::{Counts, Firsts, counts_in, firsts_in};
+pub use limits::{Bound, Limit, count_limits, limit_at};
+pub use multipliers::{Part, Proof};
+pub use numbers::{flow_coordinate, mixed_number, quality_coordinate, quality_number};
+pub use root::root_box;
+pub use rows::{LinRow, RowKind};
+pub use table::{
+    DirectTerms, FeedTerms, MixedTerms, MixingTerms, OutTerms, PathTerms, ProportionTerms,
+    QualityTerms, Rate, RowTable,
+};
+pub use terms::Term;
+pub use variables::{Variable, var_cost, var_ends, variable_at, vars};
