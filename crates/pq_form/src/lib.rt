@@ -1,0 +1,88 @@
+//! The rows that form PQ has beside those of form Q (Tawarmalani and Sahinidis 2002): what flows along an out comes along its
+//! paths, and a feed brings no more than its proportion of its pool's maximum.
+//!
+//! [`count`] says how many rows there are, and [`row`] writes one in place of what stood in the row.
+#![tactic(auto)]
+
+ghost use Rattle.std.specs.Prelude.{◌≡◌, ◌<◌, ◌≤◌};
+ghost use Rattle.pool_model.specs.Network.{Net, net_of};
+ghost use Rattle.row_model.specs.Catalogue.{pq_families, row_count, row_in, out_row as out_row_lem, share_row as share_row_lem};
+ghost use Rattle.box_space.specs.Views.{IsView, box_of};
+ghost use Rattle.box_space.specs.Written.{IsLineOf};
+ghost use Rattle.box_space.specs.Tables.{row_of, IsTable};
+
+use blend_network::Network;
+use box_space::{
+    BoxView, DirectTerms, FeedTerms, LinRow, MixingTerms, OutTerms, PathTerms, ProportionTerms,
+    RowKind, RowTable, counts_in, feed_ends,
+};
+
+/// How many parts a proportion is counted in.
+const GRAIN: i128 = 1_048_576;
+
+/// How many rows there are.
+pub fn count(net: &Network) -> u32
+    ensures count { result ≡ row_count (pq_families (net_of net.now)) }
+    ensures small { result ≤ 256 }
+{
+    let counts = counts_in(net);
+    counts.outs + counts.feeds
+}
+
+/// Writes the row of a number: they are the same in every box.
+pub fn row(net: &Network, n: u32, _v: &BoxView, row: &mut LinRow) -> RowKind
+    requires view { IsView (net_of net.now) _v.now }
+    requires among { n < row_count (pq_families (net_of net.now)) }
+    ensures { IsLineOf (net_of net.now) (row_in (pq_families (net_of net.now)) n) row.new result }
+{
+    let table = table_at(net, n);
+    row.write(net, &table)
+}
+
+/// The row of a number: first outs, then feeds.
+fn table_at(net: &Network, n: u32) -> RowTable
+    requires { n < row_count (pq_families (net_of net.now)) }
+    ensures row { row_of (net_of net.now) result ≡ row_in (pq_families (net_of net.now)) n }
+    ensures table { IsTable (net_of net.now) result }
+{
+    let counts = counts_in(net);
+    if n < counts.outs {
+        return out_row(n);
+    }
+    share_row(net, n - counts.outs)
+}
+
+/// What flows along an out comes along its paths.
+fn out_row(out: u32) -> RowTable
+    ensures row { (n : Net) → row_of n result ≡ out_row_lem n out }
+    ensures table { (n : Net) → out < n.outs → IsTable n result }
+{
+    RowTable {
+        kind: RowKind::Equal,
+        feeds: FeedTerms::Nothing,
+        outs: OutTerms::One(out, -1),
+        directs: DirectTerms::Nothing,
+        mixing: MixingTerms::Proportions(PathTerms::By(out, 1), ProportionTerms::Nothing),
+        constant: 0,
+    }
+}
+
+/// A feed brings no more than its proportion of its pool's maximum.
+fn share_row(net: &Network, feed: u32) -> RowTable
+    requires { feed < (net_of net.now).feeds }
+    ensures row { row_of (net_of net.now) result ≡ share_row_lem (net_of net.now) feed }
+    ensures table { IsTable (net_of net.now) result }
+{
+    let (_, pool) = feed_ends(net, feed);
+    RowTable {
+        kind: RowKind::AtLeast,
+        feeds: FeedTerms::Nothing,
+        outs: OutTerms::Nothing,
+        directs: DirectTerms::Nothing,
+        mixing: MixingTerms::Proportions(
+            PathTerms::From(feed, -GRAIN),
+            ProportionTerms::One(feed, net.pool_max(pool).into()),
+        ),
+        constant: 0,
+    }
+}

@@ -1,0 +1,40 @@
+//! The rows of form Q, by proportions (Ben-Tal, Eiger and Gershovitz 1994): proportions sum to 1, what a feed brings goes
+//! along its paths, products keep their limits on qualities, and the flow along a path is its feed's proportion times its
+//! out's flow, by an envelope.
+//!
+//! [`count`] says how many rows there are, and [`row`] writes one, in a box, in place of what stood in the row.
+#![tactic(auto)]
+
+mod tables;
+
+ghost use Rattle.std.specs.Prelude.{◌≡◌, ◌<◌, ◌≤◌};
+ghost use Rattle.pool_model.specs.Network.{net_of};
+ghost use Rattle.row_model.specs.Boxes.{Box};
+ghost use Rattle.row_model.specs.Catalogue.{q_families, row_count, row_in};
+ghost use Rattle.box_space.specs.Views.{IsView, box_of};
+ghost use Rattle.box_space.specs.Written.{IsLineOf};
+
+use blend_network::Network;
+use box_space::{Bound, BoxView, LinRow, RowKind, count_limits, counts_in};
+
+/// How many rows the form has: in every box as many.
+pub fn count(net: &Network) -> u32
+    ensures count { (b : Box) → result ≡ row_count (q_families (net_of net.now) b) }
+    ensures small { result ≤ 3344 }
+{
+    let counts = counts_in(net);
+    counts.pools
+        + (counts.feeds
+            + (count_limits(net, Bound::Most)
+                + (count_limits(net, Bound::Least) + counts.paths * 4)))
+}
+
+/// Writes the row of a number.
+pub fn row(net: &Network, n: u32, v: &BoxView, row: &mut LinRow) -> RowKind
+    requires view { IsView (net_of net.now) v.now }
+    requires among { n < row_count (q_families (net_of net.now) (box_of v.now)) }
+    ensures { IsLineOf (net_of net.now) (row_in (q_families (net_of net.now) (box_of v.now)) n) row.new result }
+{
+    let table = tables::table_at(net, v, n);
+    row.write(net, &table)
+}
