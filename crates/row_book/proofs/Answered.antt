@@ -1,0 +1,29 @@
+-- What the number of a proof in order says, once its weight is known to be narrow.
+use Rattle.std.proofs.Common.{◌≡◌, ◌^◌, ◌≤◌, ℤ, pos, ◌<ℤ◌, ◌≤ℤ◌, Result, Ok, Err, IfOk, IfErr, sym, ap, subst, ◌∙◌}
+use Rattle.pool_model.specs.Network.{Net}
+use Rattle.row_model.specs.Boxes.{Box}
+use Rattle.row_model.specs.Multipliers as multipliers
+use Rattle.row_book.specs.Faults.{IsFirstFault}
+use Rattle.row_book.specs.PartSums.{AreInOrder, weight_of, number_of}
+use Rattle.row_book.specs.Results as results
+use Rattle.row_book.specs.declared.fault.ProofFault.{ProofFault}
+use Rattle.row_book.specs.declared.fault.ProofFault.TheVariants.{ShowsNothing}
+use Rattle.row_book.specs.declared.shown.Shown.{Shown}
+use Rattle.row_book.proofs.FirstFaults.{number-same, no_fault, first-nothing}
+
+module _ (n : Net) (b : Box) (proof : multipliers.Proof) (z : ℤ) (order : AreInOrder n b proof) (narrow : weight_of n b proof ≤ 2 ^ 126) (is : z ≡ number_of n b proof) where
+  number_is : z ≡ multipliers.number n b proof
+  number_is = is ∙ sym (number-same n b proof)
+
+  pub answer-ok : (r : Result Shown ProofFault) → IfOk r (λ s. results.shown s ≡ results.shown_at proof.scale z) → IfOk r (λ _. proof.scale ≡ 0 → pos 0 <ℤ z)
+      → IfOk r (λ s. multipliers.IsInOrder n b proof × (results.shown s ≡ multipliers.shown_by n b proof))
+  answer-ok (Ok s) shown above =
+      let P : ℤ → Type 0 = λ x. pos 0 <ℤ x in
+      (no_fault n b proof order narrow (λ none. subst P number_is (above none)), shown ∙ ap (results.shown_at proof.scale) number_is)
+  answer-ok (Err f) shown above = tt
+
+  pub answer-fault : (r : Result Shown ProofFault) → IfErr r (λ f. f ≡ ShowsNothing) → IfErr r (λ _. (proof.scale ≡ 0) × (z ≤ℤ pos 0)) → IfErr r (IsFirstFault n b proof)
+  answer-fault (Ok s) fault nothing = tt
+  answer-fault (Err f) fault nothing =
+      let P : ℤ → Type 0 = λ x. x ≤ℤ pos 0 in
+      subst (IsFirstFault n b proof) (sym fault) (first-nothing n b proof order narrow nothing.0 (subst P number_is nothing.1))

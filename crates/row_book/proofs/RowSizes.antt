@@ -1,0 +1,302 @@
+-- Every coefficient of every row is at most 10^14 in size.
+use Rattle.std.proofs.Common.{◌≡◌, ℕ, zero, suc, ◌+◌, ◌-◌, ◌*◌, ◌/◌, ◌%◌, ◌^◌, ◌<◌, ◌≤◌, min, Bool, true, false, ◌==◌, if◌then◌else◌, List, [], ◌∷◌, ◌++◌, length, get_or, All, Option, Some, None, ℤ, pos, neg_ℤ, ◌-ℤ◌, ◌≤ℤ◌, unsigned_abs, refl, arith, sym, ap, subst, ◌∙◌}
+use Rattle.std.specs.Prelude.{unwrap_or}
+use Rattle.std.proofs.lemmas.Int.{ints, clamps}
+use Rattle.std.proofs.lemmas.List.Elements.{All-nil, All-cons, All-append, All-get_or}
+use Rattle.pool_model.specs.Network.{Net, IsLimited, IsWithin}
+use Rattle.pool_model.specs.Starting.{lesser, least_below}
+use Rattle.row_model.specs.Boxes.{Box, Coord, prop, qual, flow, coords, coord_at, root_low, root_high, IsProper, greater, greatest_below, fed_quality, prop_number, qual_number, flow_number}
+use Rattle.row_model.specs.Variables.{PerVariable, path_count, path_feed, path_out, variables, by_number}
+use Rattle.row_model.specs.Envelopes.{Ends, Side, side}
+use Rattle.row_model.specs.Catalogue.{Family, Row, Limit, limits, no_limit, most_limits, least_limits, when, rows, row_at, catalogue, row_in, row_count, network_families, p_families, q_families, pq_families, source_row, balance_row, pool_row, maximum_row, minimum_row, mixing_row, mixed_most_row, mixed_least_row, quality_ends, quality_envelope_row, proportions_row, feed_row, path_most_row, path_least_row, proportion_ends, proportion_envelope_row, out_row, share_row}
+use Rattle.integers.proofs.Grids.{grid-below, grid-row, grid-column}
+use Rattle.row_model.proofs.Numbering.{at_coord, HoldsByKind, by_number-each}
+use Rattle.row_model.proofs.PathSums.{path_feed-below, path_out-below, path-joined}
+use Rattle.box_space.proofs.CellLimits.{cell, cell_limits, all_cells}
+use Rattle.row_book.proofs.Families.{HoldsOfEach, each_row, each-append}
+
+-- at most 10^14 in size
+abbrev pub IsSmall : ℤ → Type 0
+IsSmall z = unsigned_abs z ≤ 10 ^ 14
+
+nothing : IsSmall (pos 0)
+nothing = omega arith
+
+one : IsSmall (pos 1)
+one = omega arith
+
+less_one : IsSmall (neg_ℤ (pos 1))
+less_one = omega arith
+
+small_if : (test : Bool) (c : ℤ) → IsSmall c → IsSmall (if test then c else pos 0)
+small_if true c h = h
+small_if false c h = nothing
+
+small_when : (i k : ℕ) (c : ℤ) → IsSmall c → IsSmall (when i k c)
+small_when i k c h = small_if (i == k) c h
+
+within : (size : ℕ) (z : ℤ) → size ≤ 10 ^ 12 → IsWithin size z → unsigned_abs z ≤ 10 ^ 12
+within size z h (low, high) = omega (arith, ints)
+
+widen : (z : ℤ) → unsigned_abs z ≤ 10 ^ 12 → IsSmall z
+widen z h = omega arith
+
+turned : (z : ℤ) → unsigned_abs z ≤ 10 ^ 12 → IsSmall (neg_ℤ z)
+turned z h = omega (arith, ints)
+
+apart : (a b : ℤ) → unsigned_abs a ≤ 10 ^ 12 → unsigned_abs b ≤ 10 ^ 12 → IsSmall (a -ℤ b)
+apart a b h k = omega (arith, ints)
+
+between : (low z high : ℤ) → unsigned_abs low ≤ 10 ^ 12 → unsigned_abs high ≤ 10 ^ 12 → low ≤ℤ z → z ≤ℤ high → unsigned_abs z ≤ 10 ^ 12
+between low z high a b h k = omega (arith, ints)
+
+-- ---- the ends of a box
+
+IsFew : Option ℤ → Type 0
+IsFew None = Unit {0}
+IsFew (Some z) = unsigned_abs z ≤ 10 ^ 12
+
+few_lesser : (a b : Option ℤ) → IsFew a → IsFew b → IsFew (lesser a b)
+unfolding IsFew
+few_lesser None b h k = k
+few_lesser (Some a) None h k = h
+few_lesser (Some a) (Some b) h k = omega (arith, ints, clamps)
+
+few_greater : (a b : Option ℤ) → IsFew a → IsFew b → IsFew (greater a b)
+unfolding IsFew
+few_greater None b h k = k
+few_greater (Some a) None h k = h
+few_greater (Some a) (Some b) h k = omega (arith, ints, clamps)
+
+few_least : (f : ℕ → Option ℤ) (n : ℕ) → ((i : ℕ) → i < n → IsFew (f i)) → IsFew (least_below f n)
+unfolding IsFew
+few_least f zero h = tt
+few_least f (suc n) h = few_lesser (least_below f n) (f n) (few_least f n (λ i lt. h i (omega arith))) (h n (omega arith))
+
+few_greatest : (f : ℕ → Option ℤ) (n : ℕ) → ((i : ℕ) → i < n → IsFew (f i)) → IsFew (greatest_below f n)
+unfolding IsFew
+few_greatest f zero h = tt
+few_greatest f (suc n) h = few_greater (greatest_below f n) (f n) (few_greatest f n (λ i lt. h i (omega arith))) (h n (omega arith))
+
+few_unwrapped : (a : Option ℤ) → IsFew a → unsigned_abs (unwrap_or a (pos 0)) ≤ 10 ^ 12
+unfolding IsFew
+few_unwrapped None h = omega arith
+few_unwrapped (Some z) h = h
+
+few_if : (test : Bool) (z : ℤ) → unsigned_abs z ≤ 10 ^ 12 → IsFew (if test then Some z else None)
+unfolding IsFew
+few_if true z h = h
+few_if false z h = tt
+
+pub record AreNear (least greatest : ℤ) : Type 0 where
+  pub low : unsigned_abs least ≤ 10 ^ 12
+  pub high : unsigned_abs greatest ≤ 10 ^ 12
+
+quality-few : (n : Net) (e k : ℕ) → IsLimited n → e < n.feeds → k < n.qualities → unsigned_abs (n.source_quality (n.feed_source e) k) ≤ 10 ^ 12
+quality-few n e k limited lt hk = within (10 ^ 11) (n.source_quality (n.feed_source e) k) (omega arith) (limited.source_qualities (n.feed_source e) k (limited.feed_sources e lt) hk)
+
+root-near : (n : Net) → IsLimited n → (c : ℕ) → c < coords n → AreNear (root_low n (coord_at n c)) (root_high n (coord_at n c))
+root-near n limited = at_coord n (λ (c : Coord). AreNear (root_low n c) (root_high n c))
+    (λ e lt. record { low = omega arith; high = omega arith })
+    (λ l k hl hk. record {
+      low = few_unwrapped (least_below (fed_quality n l k) n.feeds) (few_least (fed_quality n l k) n.feeds (λ e lt. few_if (n.feed_pool e == l) (n.source_quality (n.feed_source e) k) (quality-few n e k limited lt hk)));
+      high = few_unwrapped (greatest_below (fed_quality n l k) n.feeds) (few_greatest (fed_quality n l k) n.feeds (λ e lt. few_if (n.feed_pool e == l) (n.source_quality (n.feed_source e) k) (quality-few n e k limited lt hk)));
+    })
+    (λ o lt. record { low = omega arith; high = lesser_of (n.pool_max (n.out_pool o)) (n.product_max (n.out_product o)) (limited.product_maxima (n.out_product o) (limited.out_products o lt)) })
+  where
+    lesser_of : (a b : ℕ) → b ≤ 10 ^ 12 → min a b ≤ 10 ^ 12
+    lesser_of a b h = omega arith
+
+ends-near : (n : Net) (b : Box) → IsLimited n → IsProper n b → (c : ℕ) → c < coords n → AreNear (b.low c) (b.high c)
+ends-near n b limited proper c lt =
+    let r = root-near n limited c lt in
+    let a = proper.in_order c lt in
+    let d = proper.low c lt in
+    let e = proper.high c lt in
+    record {
+      low = between (root_low n (coord_at n c)) (b.low c) (root_high n (coord_at n c)) r.low r.high d (omega (arith, ints));
+      high = between (root_low n (coord_at n c)) (b.high c) (root_high n (coord_at n c)) r.low r.high (omega (arith, ints)) e;
+    }
+
+-- ---- sides of envelopes
+
+pub record IsSmallSide (s : Side) : Type 0 where
+  pub w : IsSmall s.of_w
+  pub a : IsSmall s.of_a
+  pub b : IsSmall s.of_b
+
+side_if : (test : Bool) (s t : Side) → IsSmallSide s → IsSmallSide t → IsSmallSide (if test then s else t)
+side_if true s t h k = h
+side_if false s t h k = k
+
+side-small : (number : ℕ) (scale : ℤ) (e : Ends) → unsigned_abs scale ≤ 10 ^ 12 → AreNear e.a_low e.a_high → AreNear e.b_low e.b_high → IsSmallSide (side number scale e)
+side-small number scale e h a b =
+    side_if (number == 1) _ _ record { w = widen scale h; a = turned e.b_low b.low; b = turned e.a_low a.low }
+    (side_if (number == 2) _ _ record { w = widen scale h; a = turned e.b_high b.high; b = turned e.a_high a.high }
+    (side_if (number == 3) _ _ record { w = turned scale h; a = widen e.b_low b.low; b = widen e.a_high a.high }
+    record { w = turned scale h; a = widen e.b_high b.high; b = widen e.a_low a.low }))
+
+-- ---- limits
+
+pub record IsFewLimit (n : Net) (u : Limit) : Type 0 where
+  pub quality : u.quality < n.qualities
+  pub limit : unsigned_abs u.limit ≤ 10 ^ 12
+
+cell-few : (n : Net) (limit : ℕ → ℕ → Option ℤ) (j k : ℕ) (o : Option ℤ) → limit j k ≡ o → k < n.qualities → ((u : ℤ) → limit j k ≡ Some u → IsWithin (10 ^ 11) u) → All (IsFewLimit n) (cell limit j k)
+cell-few n limit j k None e hk h = rw e (All-nil (IsFewLimit n))
+cell-few n limit j k (Some u) e hk h = rw e (All-cons (IsFewLimit n) record { product = j; quality = k; limit = u } [] record { quality = hk; limit = within (10 ^ 11) u (omega arith) (h u e) } (All-nil (IsFewLimit n)))
+
+cells-few : (n : Net) (limit : ℕ → ℕ → Option ℤ) (products c : ℕ) → c ≤ products * n.qualities → ((j k : ℕ) (u : ℤ) → j < products → k < n.qualities → limit j k ≡ Some u → IsWithin (10 ^ 11) u)
+    → All (IsFewLimit n) (cell_limits limit n.qualities c)
+cells-few n limit products zero h each = All-nil (IsFewLimit n)
+cells-few n limit products (suc c) h each =
+    let row = grid-row products n.qualities c (omega arith) in
+    let column = grid-column products n.qualities c (omega arith) in
+    All-append (IsFewLimit n) (cell_limits limit n.qualities c) (cell limit (c / n.qualities) (c % n.qualities)) (cells-few n limit products c (omega arith) each)
+    (cell-few n limit (c / n.qualities) (c % n.qualities) (limit (c / n.qualities) (c % n.qualities)) refl column (λ u e. each (c / n.qualities) (c % n.qualities) u row column e))
+
+limit-few : (n : Net) (limit : ℕ → ℕ → Option ℤ) → ((j k : ℕ) (u : ℤ) → j < n.products → k < n.qualities → limit j k ≡ Some u → IsWithin (10 ^ 11) u)
+    → (i : ℕ) → i < length (limits limit n.products n.qualities) → IsFewLimit n (get_or (limits limit n.products n.qualities) i no_limit)
+limit-few n limit each i lt =
+    let whole = all_cells limit n.qualities n.products in
+    let few = subst (λ (us : List Limit). All (IsFewLimit n) us) (sym whole) (cells-few n limit n.products (n.products * n.qualities) (omega arith) each) in
+    few i no_limit lt
+
+-- ---- rows, kind by kind
+
+abbrev pub AreSmall : Net → PerVariable → Type 0
+AreSmall n a = HoldsByKind n (λ x y. IsSmall x) a a
+
+by_kind : (n : Net) (a : PerVariable) → ((e : ℕ) → e < n.feeds → IsSmall (a.x e)) → ((o : ℕ) → o < n.outs → IsSmall (a.y o)) → ((e : ℕ) → e < n.directs → IsSmall (a.z e))
+    → ((q : ℕ) → q < path_count n → IsSmall (a.w q)) → ((e : ℕ) → e < n.feeds → IsSmall (a.proportion e))
+    → ((l k : ℕ) → l < n.pools → k < n.qualities → IsSmall (a.quality l k)) → ((o k : ℕ) → o < n.outs → k < n.qualities → IsSmall (a.mixed o k)) → AreSmall n a
+by_kind n a fx fy fz fw fp fq fm = record { x = fx; y = fy; z = fz; w = fw; proportion = fp; quality = fq; mixed = fm }
+
+-- what holds of a row: its coefficients are small
+abbrev pub IsSmallRow : Net → Row → Type 0
+IsSmallRow n r = AreSmall n r.coefs
+
+network-small : (n : Net) → HoldsOfEach (IsSmallRow n) (network_families n)
+network-small n = (
+  λ i lt. by_kind n (source_row n i).coefs (λ e h. small_when (n.feed_source e) i (neg_ℤ (pos 1)) less_one) (λ o h. nothing) (λ e h. small_when (n.direct_source e) i (neg_ℤ (pos 1)) less_one) (λ q h. nothing) (λ e h. nothing) (λ l k a b. nothing) (λ o k a b. nothing),
+  (
+    λ l lt. by_kind n (balance_row n l).coefs (λ e h. small_when (n.feed_pool e) l (pos 1) one) (λ o h. small_when (n.out_pool o) l (neg_ℤ (pos 1)) less_one) (λ e h. nothing) (λ q h. nothing) (λ e h. nothing) (λ p k a b. nothing) (λ o k a b. nothing),
+    (
+      λ l lt. by_kind n (pool_row n l).coefs (λ e h. nothing) (λ o h. small_when (n.out_pool o) l (neg_ℤ (pos 1)) less_one) (λ e h. nothing) (λ q h. nothing) (λ e h. nothing) (λ p k a b. nothing) (λ o k a b. nothing),
+      (
+        λ j lt. by_kind n (maximum_row n j).coefs (λ e h. nothing) (λ o h. small_when (n.out_product o) j (neg_ℤ (pos 1)) less_one) (λ e h. small_when (n.direct_product e) j (neg_ℤ (pos 1)) less_one) (λ q h. nothing) (λ e h. nothing) (λ p k a b. nothing) (λ o k a b. nothing),
+        (
+          λ j lt. by_kind n (minimum_row n j).coefs (λ e h. nothing) (λ o h. small_when (n.out_product o) j (pos 1) one) (λ e h. small_when (n.direct_product e) j (pos 1) one) (λ q h. nothing) (λ e h. nothing) (λ p k a b. nothing) (λ o k a b. nothing),
+          tt,
+        ),
+      ),
+    ),
+  ),
+)
+
+direct-few : (n : Net) (e k : ℕ) → IsLimited n → e < n.directs → k < n.qualities → unsigned_abs (n.source_quality (n.direct_source e) k) ≤ 10 ^ 12
+direct-few n e k limited lt hk = within (10 ^ 11) (n.source_quality (n.direct_source e) k) (omega arith) (limited.source_qualities (n.direct_source e) k (limited.direct_sources e lt) hk)
+
+mixed_most-small : (n : Net) (u : Limit) → IsLimited n → IsFewLimit n u → IsSmallRow n (mixed_most_row n u)
+mixed_most-small n u limited few = by_kind n (mixed_most_row n u).coefs (λ e h. nothing) (λ o h. small_when (n.out_product o) u.product u.limit (widen u.limit few.limit))
+    (λ e h. small_when (n.direct_product e) u.product (u.limit -ℤ n.source_quality (n.direct_source e) u.quality) (apart u.limit (n.source_quality (n.direct_source e) u.quality) few.limit (direct-few n e u.quality limited h few.quality)))
+    (λ q h. nothing) (λ e h. nothing) (λ l k a b. nothing) (λ o k a b. small_when k u.quality (when (n.out_product o) u.product (neg_ℤ (pos 1))) (small_when (n.out_product o) u.product (neg_ℤ (pos 1)) less_one))
+
+mixed_least-small : (n : Net) (u : Limit) → IsLimited n → IsFewLimit n u → IsSmallRow n (mixed_least_row n u)
+mixed_least-small n u limited few = by_kind n (mixed_least_row n u).coefs (λ e h. nothing) (λ o h. small_when (n.out_product o) u.product (neg_ℤ u.limit) (turned u.limit few.limit))
+    (λ e h. small_when (n.direct_product e) u.product (n.source_quality (n.direct_source e) u.quality -ℤ u.limit) (apart (n.source_quality (n.direct_source e) u.quality) u.limit (direct-few n e u.quality limited h few.quality) few.limit))
+    (λ q h. nothing) (λ e h. nothing) (λ l k a b. nothing) (λ o k a b. small_when k u.quality (when (n.out_product o) u.product (pos 1)) (small_when (n.out_product o) u.product (pos 1) one))
+
+quality_envelope-small : (n : Net) (b : Box) (o k number : ℕ) → IsLimited n → IsProper n b → o < n.outs → k < n.qualities → IsSmallRow n (quality_envelope_row n b o k number)
+quality_envelope-small n b o k number limited proper ho hk =
+    let e = quality_ends n b o k in
+    let s = side number (pos 1) e in
+    let place : qual_number n (n.out_pool o) k < coords n = omega (arith, grid-below n.pools n.qualities (n.out_pool o) k (limited.out_pools o ho) hk) in
+    let small = side-small number (pos 1) e (omega arith) (ends-near n b limited proper (qual_number n (n.out_pool o) k) place) (ends-near n b limited proper (flow_number n o) (omega arith)) in
+    by_kind n (quality_envelope_row n b o k number).coefs (λ f h. nothing) (λ f h. small_when f o s.of_b small.b) (λ f h. nothing) (λ q h. nothing) (λ f h. nothing)
+    (λ l h a c. small_when h k (when l (n.out_pool o) s.of_a) (small_when l (n.out_pool o) s.of_a small.a)) (λ f h a c. small_when h k (when f o s.of_w) (small_when f o s.of_w small.w))
+
+p-small : (n : Net) (b : Box) → IsLimited n → IsProper n b → HoldsOfEach (IsSmallRow n) (p_families n b)
+p-small n b limited proper = (
+  λ i lt. by_kind n (mixing_row n (i / n.qualities) (i % n.qualities)).coefs
+      (λ e h. small_when (n.feed_pool e) (i / n.qualities) (n.source_quality (n.feed_source e) (i % n.qualities)) (widen (n.source_quality (n.feed_source e) (i % n.qualities)) (quality-few n e (i % n.qualities) limited h (grid-column n.pools n.qualities i lt))))
+      (λ o h. nothing) (λ e h. nothing) (λ q h. nothing) (λ e h. nothing) (λ l k a c. nothing)
+      (λ o k a c. small_when k (i % n.qualities) (when (n.out_pool o) (i / n.qualities) (neg_ℤ (pos 1))) (small_when (n.out_pool o) (i / n.qualities) (neg_ℤ (pos 1)) less_one)),
+  (
+    λ i lt. mixed_most-small n (get_or (most_limits n) i no_limit) limited (limit-few n n.most limited.most_limits i lt),
+    (
+      λ i lt. mixed_least-small n (get_or (least_limits n) i no_limit) limited (limit-few n n.least limited.least_limits i lt),
+      (
+        λ i lt. quality_envelope-small n b (i / (n.qualities * 4)) (i % (n.qualities * 4) / 4) (i % 4 + 1) limited proper (grid-row n.outs (n.qualities * 4) i lt) (quarter (i % (n.qualities * 4)) n.qualities (grid-column n.outs (n.qualities * 4) i lt)),
+        tt,
+      ),
+    ),
+  ),
+)
+  where
+    quarter : (i m : ℕ) → i < m * 4 → i / 4 < m
+    quarter i m h = grid-row m 4 i h
+
+path-few : (n : Net) (q k : ℕ) → IsLimited n → q < path_count n → k < n.qualities → unsigned_abs (n.source_quality (n.feed_source (path_feed n q)) k) ≤ 10 ^ 12
+path-few n q k limited lt hk = quality-few n (path_feed n q) k limited (path_feed-below n q lt) hk
+
+path_most-small : (n : Net) (u : Limit) → IsLimited n → IsFewLimit n u → IsSmallRow n (path_most_row n u)
+path_most-small n u limited few = by_kind n (path_most_row n u).coefs (λ e h. nothing) (λ o h. small_when (n.out_product o) u.product u.limit (widen u.limit few.limit))
+    (λ e h. small_when (n.direct_product e) u.product (u.limit -ℤ n.source_quality (n.direct_source e) u.quality) (apart u.limit (n.source_quality (n.direct_source e) u.quality) few.limit (direct-few n e u.quality limited h few.quality)))
+    (λ q h. small_when (n.out_product (path_out n q)) u.product (neg_ℤ (n.source_quality (n.feed_source (path_feed n q)) u.quality)) (turned (n.source_quality (n.feed_source (path_feed n q)) u.quality) (path-few n q u.quality limited h few.quality)))
+    (λ e h. nothing) (λ l k a b. nothing) (λ o k a b. nothing)
+
+path_least-small : (n : Net) (u : Limit) → IsLimited n → IsFewLimit n u → IsSmallRow n (path_least_row n u)
+path_least-small n u limited few = by_kind n (path_least_row n u).coefs (λ e h. nothing) (λ o h. small_when (n.out_product o) u.product (neg_ℤ u.limit) (turned u.limit few.limit))
+    (λ e h. small_when (n.direct_product e) u.product (n.source_quality (n.direct_source e) u.quality -ℤ u.limit) (apart (n.source_quality (n.direct_source e) u.quality) u.limit (direct-few n e u.quality limited h few.quality) few.limit))
+    (λ q h. small_when (n.out_product (path_out n q)) u.product (n.source_quality (n.feed_source (path_feed n q)) u.quality) (widen (n.source_quality (n.feed_source (path_feed n q)) u.quality) (path-few n q u.quality limited h few.quality)))
+    (λ e h. nothing) (λ l k a b. nothing) (λ o k a b. nothing)
+
+proportion_envelope-small : (n : Net) (b : Box) (p number : ℕ) → IsLimited n → IsProper n b → p < path_count n → IsSmallRow n (proportion_envelope_row n b p number)
+proportion_envelope-small n b p number limited proper lt =
+    let e = proportion_ends n b p in
+    let s = side number (pos 1048576) e in
+    let feed = path_feed-below n p lt in
+    let out = path_out-below n p lt in
+    let small = side-small number (pos 1048576) e (omega arith) (ends-near n b limited proper (prop_number n (path_feed n p)) (omega arith)) (ends-near n b limited proper (flow_number n (path_out n p)) (omega arith)) in
+    by_kind n (proportion_envelope_row n b p number).coefs (λ f h. nothing) (λ o h. small_when o (path_out n p) s.of_b small.b) (λ f h. nothing) (λ q h. small_when q p s.of_w small.w)
+    (λ f h. small_when f (path_feed n p) s.of_a small.a) (λ l k a c. nothing) (λ o k a c. nothing)
+
+q-small : (n : Net) (b : Box) → IsLimited n → IsProper n b → HoldsOfEach (IsSmallRow n) (q_families n b)
+q-small n b limited proper = (
+  λ l lt. by_kind n (proportions_row n l).coefs (λ e h. nothing) (λ o h. nothing) (λ e h. nothing) (λ q h. nothing) (λ e h. small_when (n.feed_pool e) l (pos 1) one) (λ p k a c. nothing) (λ o k a c. nothing),
+  (
+    λ e lt. by_kind n (feed_row n e).coefs (λ f h. small_when f e (pos 1) one) (λ o h. nothing) (λ f h. nothing) (λ q h. small_when (path_feed n q) e (neg_ℤ (pos 1)) less_one) (λ f h. nothing) (λ p k a c. nothing) (λ o k a c. nothing),
+    (
+      λ i lt. path_most-small n (get_or (most_limits n) i no_limit) limited (limit-few n n.most limited.most_limits i lt),
+      (
+        λ i lt. path_least-small n (get_or (least_limits n) i no_limit) limited (limit-few n n.least limited.least_limits i lt),
+        (
+          λ i lt. proportion_envelope-small n b (i / 4) (i % 4 + 1) limited proper (grid-row (path_count n) 4 i lt),
+          tt,
+        ),
+      ),
+    ),
+  ),
+)
+
+further-small : (n : Net) → IsLimited n → HoldsOfEach (IsSmallRow n) (pq_families n)
+further-small n limited = (
+  λ o lt. by_kind n (out_row n o).coefs (λ e h. nothing) (λ f h. small_when f o (neg_ℤ (pos 1)) less_one) (λ e h. nothing) (λ q h. small_when (path_out n q) o (pos 1) one) (λ e h. nothing) (λ p k a c. nothing) (λ f k a c. nothing),
+  (
+    λ e lt. by_kind n (share_row n e).coefs (λ f h. nothing) (λ o h. nothing) (λ f h. nothing) (λ q h. small_when (path_feed n q) e (neg_ℤ (pos 1048576)) (omega arith))
+        (λ f h. small_when f e (pos (n.pool_max (n.feed_pool e))) (limited.pool_maxima (n.feed_pool e) (limited.feed_pools e lt))) (λ p k a c. nothing) (λ o k a c. nothing),
+    tt,
+  ),
+)
+
+-- ---- every row
+
+pub coef-small : (n : Net) (b : Box) (id : ℕ) → IsLimited n → IsProper n b → id < rows n → (v : ℕ) → v < variables n → unsigned_abs (by_number n (row_at n b id).coefs v) < 2 ^ 48
+coef-small n b id limited proper lt v hv =
+    let each = each-append (IsSmallRow n) (network_families n) (p_families n b ++ (q_families n b ++ pq_families n)) (network-small n)
+    (each-append (IsSmallRow n) (p_families n b) (q_families n b ++ pq_families n) (p-small n b limited proper)
+    (each-append (IsSmallRow n) (q_families n b) (pq_families n) (q-small n b limited proper) (further-small n limited))) in
+    let row = each_row (IsSmallRow n) (catalogue n b) each id lt in
+    let small = by_number-each n (λ x y. IsSmall x) (row_at n b id).coefs (row_at n b id).coefs row v hv in
+    omega (arith, small)

@@ -1,0 +1,7 @@
+pub mod Groups
+pub mod PartRows
+pub mod Faults
+pub mod Fitting
+pub mod PartSums
+pub mod Results
+pub mod Sizes

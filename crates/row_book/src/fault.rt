@@ -1,0 +1,31 @@
+//! Why multipliers on rows show nothing.
+
+ghost use Rattle.std.specs.Prelude.{◌≡◌};
+ghost use Rattle.row_book.specs.declared.fault.ProofFault.TheVariants as faults;
+
+use exact_num::Wide as PassesLimit;
+
+/// Why a proof is not in order in a box. All parts are looked at for the first cause before the second, and so on.
+#[derive(Clone, Copy, Debug, PartialEq, Eq)]
+pub enum ProofFault {
+    /// Row numbers don't rise strictly.
+    Order,
+    /// A row number is not below the number of rows.
+    UnknownRow,
+    /// A multiplier on a row that is at least 0 is below 0.
+    Sign,
+    /// A multiplier is 0.
+    ZeroPart,
+    /// The weight passes 2^126.
+    Wide,
+    /// The scale is 0, and the number is at most 0.
+    ShowsNothing,
+}
+
+impl From<PassesLimit> for ProofFault {
+    ghost from_gives = { λ _ e. e ≡ faults.Wide };
+
+    fn from(_e: PassesLimit) -> ProofFault {
+        ProofFault::Wide
+    }
+}

@@ -1,0 +1,31 @@
+//! The catalogue of rows, and what multipliers on rows show of a box.
+//!
+//! Rows are numbered over all families: first those of the network, then those of form P, of form Q, and the further ones of
+//! form PQ. [`row_at`] writes the row of a number in a box, and [`in_form`] says which forms have it.
+//!
+//! [`value`] checks multipliers on rows and says what they show: a bound that no plan in the box costs less than, or that the
+//! box holds no plan. A proof that is not in order is refused with the first [`ProofFault`] of a fixed order. [`Scratch`] is
+//! the memory that `value` works in; it is taken once for a network.
+//!
+//! The rows, and the number and the weight of a proof, are defined in `row_model`; `specs/Faults.antt` says when a fault holds.
+#![tactic(auto)]
+
+mod catalogue;
+mod fault;
+mod multiplying;
+mod network_rows;
+mod ordered;
+mod scratch;
+mod shown;
+#[cfg(test)]
+mod tests;
+mod valuation;
+#[cfg(test)]
+mod value_tests;
+mod weighing;
+
+pub use catalogue::{in_form, row_at, rows};
+pub use fault::ProofFault;
+pub use scratch::Scratch;
+pub use shown::Shown;
+pub use valuation::value;

@@ -1,0 +1,107 @@
+//! Whether a proof's row numbers and multipliers are in order.
+
+ghost use Rattle.std.specs.Prelude.{◌≡◌, ◌≢◌, ◌^◌, ◌<◌, ◌≤◌, ◌↔◌, All, length, pos, IsTrue, IfOk, IfErr};
+ghost use Rattle.pool_model.specs.Network.{net_of};
+ghost use Rattle.row_model.specs.Catalogue as catalogue;
+ghost use Rattle.row_model.specs.Multipliers.{IsRising, IsSigned};
+ghost use Rattle.box_space.specs.Shown.{shown_kind, shown_proof};
+ghost use Rattle.box_space.specs.Views.{box_of, IsView};
+ghost use Rattle.row_book.specs.Faults.{IsFirstFault};
+ghost use Rattle.row_book.specs.PartRows.{kind_at};
+ghost use Rattle.row_book.specs.PartSums.{AreInOrder};
+
+use crate::catalogue::{row_at, rows};
+use crate::fault::ProofFault;
+use blend_network::Network;
+use box_space::{BoxView, LinRow, Proof, RowKind};
+
+/// The first of the faults that a look at the rows' numbers and the multipliers alone shows. `row` is written over.
+pub(crate) fn check_parts(
+    net: &Network,
+    v: &BoxView,
+    proof: &Proof,
+    row: &mut LinRow,
+) -> Result<(), ProofFault>
+    requires { IsView (net_of net.now) v.now }
+    ensures ok { IfOk result (λ _. AreInOrder (net_of net.now) (box_of v.now) (shown_proof proof.now)) }
+    ensures few { IfOk result (λ _. length proof.now.parts.items ≤ 2 ^ 14) }
+    ensures fault { IfErr result (IsFirstFault (net_of net.now) (box_of v.now) (shown_proof proof.now)) }
+{
+    if !is_rising(proof) {
+        return Err(ProofFault::Order);
+    }
+    if !are_rows(net, proof) {
+        return Err(ProofFault::UnknownRow);
+    }
+    if !are_signed(net, v, proof, row) {
+        return Err(ProofFault::Sign);
+    }
+    if !are_nonzero(proof) {
+        return Err(ProofFault::ZeroPart);
+    }
+    Ok(())
+}
+
+/// Whether row numbers rise strictly.
+fn is_rising(proof: &Proof) -> bool
+    ensures { IsTrue result ↔ IsRising (shown_proof proof.now).parts }
+{
+    let parts = proof.parts.as_slice();
+    for i in 1..parts.len() {
+        if parts[i].row <= parts[i - 1].row {
+            return false;
+        }
+    }
+    true
+}
+
+/// Whether each row number is that of a row.
+fn are_rows(net: &Network, proof: &Proof) -> bool
+    ensures limited { catalogue.rows (net_of net.now) ≤ 2 ^ 14 }
+    ensures known { IsTrue result ↔ All (λ q. q.row < catalogue.rows (net_of net.now)) (shown_proof proof.now).parts }
+{
+    let count = rows(net);
+    for part in &proof.parts {
+        if part.row >= count {
+            return false;
+        }
+    }
+    true
+}
+
+/// Whether no multiplier on a row that is at least 0 is below 0.
+fn are_signed(net: &Network, v: &BoxView, proof: &Proof, row: &mut LinRow) -> bool
+    requires view { IsView (net_of net.now) v.now }
+    requires known { All (λ q. q.row < catalogue.rows (net_of net.now)) (shown_proof proof.now).parts }
+    ensures { IsTrue result ↔ All (λ q. IsSigned (kind_at (net_of net.now) (box_of v.now) q.row) q.mult) (shown_proof proof.now).parts }
+{
+    for part in &proof.parts {
+        let kind = row_at(net, v, part.row, row);
+        if !has_sign(kind, part.mult) {
+            return false;
+        }
+    }
+    true
+}
+
+/// Whether a multiplier may stand on a row of a kind.
+fn has_sign(kind: RowKind, mult: i64) -> bool
+    ensures { IsTrue result ↔ IsSigned (shown_kind kind) mult }
+{
+    match kind {
+        RowKind::AtLeast => mult >= 0,
+        RowKind::Equal => true,
+    }
+}
+
+/// Whether no multiplier is 0.
+fn are_nonzero(proof: &Proof) -> bool
+    ensures { IsTrue result ↔ All (λ q. q.mult ≢ pos 0) (shown_proof proof.now).parts }
+{
+    for part in &proof.parts {
+        if part.mult == 0 {
+            return false;
+        }
+    }
+    true
+}

@@ -1,0 +1,55 @@
+//! What a proof shows of a box, or its first fault.
+
+ghost use Rattle.std.specs.Prelude.{◌≡◌, IfOk, IfErr, pos, ◌<ℤ◌, ◌≤ℤ◌};
+ghost use Rattle.pool_model.specs.Network.{net_of};
+ghost use Rattle.row_model.specs.Multipliers as multipliers;
+ghost use Rattle.box_space.specs.Shown.{shown_proof};
+ghost use Rattle.box_space.specs.Views.{box_of, IsView};
+ghost use Rattle.row_book.specs.Faults.{IsFirstFault};
+ghost use Rattle.row_book.specs.Fitting.{Fits};
+ghost use Rattle.row_book.specs.Results as results;
+
+use crate::fault::ProofFault;
+use crate::multiplying::number;
+use crate::ordered::check_parts;
+use crate::scratch::Scratch;
+use crate::shown::Shown;
+use crate::weighing::weigh;
+use blend_network::Network;
+use box_space::{BoxView, Proof};
+
+/// What the proof shows of the box, or its first fault. It writes each row of the proof three times and goes over its terms, for
+/// signs, weight and number, and twice over the variables. It takes no memory.
+pub fn value(
+    net: &Network,
+    v: &BoxView,
+    proof: &Proof,
+    scratch: &mut Scratch,
+) -> Result<Shown, ProofFault>
+    requires view { IsView (net_of net.now) v.now }
+    requires fits { Fits (net_of net.now) scratch.old }
+    ensures ok { IfOk result (λ s. multipliers.IsInOrder (net_of net.now) (box_of v.now) (shown_proof proof.now) × (results.shown s ≡ multipliers.shown_by (net_of net.now) (box_of v.now) (shown_proof proof.now))) }
+    ensures fault { IfErr result (IsFirstFault (net_of net.now) (box_of v.now) (shown_proof proof.now)) }
+    ensures fits { Fits (net_of net.now) scratch.new }
+{
+    check_parts(net, v, proof, &mut scratch.row)?;
+    weigh(net, v, proof, &mut scratch.row)?;
+    let number = number(net, v, proof, scratch);
+    shown_by(proof.scale, number)
+}
+
+/// What a number over a scale shows; ShowsNothing, exactly where the scale is 0 and the number is at most 0.
+fn shown_by(scale: u64, number: i128) -> Result<Shown, ProofFault>
+    ensures shown { IfOk result (λ s. results.shown s ≡ results.shown_at scale number) }
+    ensures above { IfOk result (λ _. scale ≡ 0 → pos 0 <ℤ number) }
+    ensures fault { IfErr result (λ f. f ≡ ProofFault.ShowsNothing) }
+    ensures nothing { IfErr result (λ _. (scale ≡ 0) × (number ≤ℤ pos 0)) }
+{
+    if scale > 0 {
+        Ok(Shown::Bound(number.div_euclid(scale.into())))
+    } else if number > 0 {
+        Ok(Shown::NoPlan)
+    } else {
+        Err(ProofFault::ShowsNothing)
+    }
+}
