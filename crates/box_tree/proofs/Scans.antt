@@ -1,0 +1,66 @@
+-- The bound of a tree from the bounds and marks that are kept.
+use Rattle.std.proofs.Common.{◌≡◌, ◌≢◌, ℕ, zero, suc, ◌<◌, ◌⊎◌, inl, inr, length, get_or, Bool, true, false, ◌+◌, if◌then◌else◌, Option, Some, None, ℤ, arith, refl, sym, ap, ◌∙◌}
+use Rattle.std.specs.Int.{int_min}
+use Rattle.std.proofs.lemmas.Int.{clamps}
+use Rattle.std.proofs.lemmas.Bool.{cases_lt}
+use Rattle.std.proofs.lemmas.Option.{none-some}
+use borrow.Author.Differences.{up, down}
+use Rattle.integers.proofs.Ring.{additive}
+use Rattle.pool_model.specs.Network.{Net}
+use Rattle.pool_model.specs.Starting.{lesser, least_below}
+use Rattle.row_model.specs.Trees.{nodes, leaf_bound, node_bound, tree_bound, is_cut, IsLeastLeaf}
+use Rattle.box_tree.specs.Kept.{Kept, searched_of, kept_leaf_bound, IsKeptOf}
+
+pub kept-leaf : (n : Net) (k : Kept) (node : ℕ) → IsKeptOf n k → node < nodes k.splits → kept_leaf_bound k node ≡ leaf_bound n (searched_of k).tree node
+kept-leaf n k node is h =
+    ap (λ (b : Bool). if b then None else get_or k.bounds node None) (is.cuts node h)
+    ∙ ap (λ (o : Option ℤ). if is_cut k.splits node then None else o) (is.bounds node h)
+
+least_below-same : (f g : ℕ → Option ℤ) (n : ℕ) → ((i : ℕ) → i < n → f i ≡ g i) → least_below f n ≡ least_below g n
+least_below-same f g zero h = refl
+least_below-same f g (suc n) h =
+    ap (λ (o : Option ℤ). lesser o (f n)) (least_below-same f g n (λ i lt. h i (omega arith)))
+    ∙ ap (λ (o : Option ℤ). lesser (least_below g n) o) (h n (omega arith))
+
+pub kept-bound : (n : Net) (k : Kept) → IsKeptOf n k → least_below (kept_leaf_bound k) (length k.bounds) ≡ tree_bound n (searched_of k).tree
+kept-bound n k is =
+    ap (λ m. least_below (kept_leaf_bound k) m) is.bounded
+    ∙ least_below-same (kept_leaf_bound k) (leaf_bound n (searched_of k).tree) (nodes k.splits) (λ i lt. kept-leaf n k i is lt)
+
+-- ---- a least bound is that of some number
+
+min_either : (a b : ℤ) → (int_min a b ≡ a) ⊎ (int_min a b ≡ b)
+min_either a b = elim (cases_lt (up a + down b) (up b + down a)) [ inl h ↦ inl (omega (arith, additive, clamps)) | inr h ↦ inr (omega (arith, additive, clamps)) ]
+
+lesser-either : (a b : Option ℤ) (z : ℤ) → lesser a b ≡ Some z → (a ≡ Some z) ⊎ (b ≡ Some z)
+lesser-either None b z e = inr e
+lesser-either (Some a) None z e = inl e
+lesser-either (Some a) (Some b) z e = elim (min_either a b) [
+  | inl m ↦ inl (ap (λ (x : ℤ). Some x) (sym m) ∙ e)
+  | inr m ↦ inr (ap (λ (x : ℤ). Some x) (sym m) ∙ e)
+]
+
+pub not-attained : (f : ℕ → Option ℤ) (n : ℕ) (z : ℤ) → ((i : ℕ) → i < n → f i ≢ Some z) → least_below f n ≢ Some z
+not-attained f zero z h e = none-some z e
+not-attained f (suc n) z h e = elim (lesser-either (least_below f n) (f n) z e) [
+  | inl a ↦ not-attained f n z (λ i lt. h i (omega arith)) a
+  | inr b ↦ h n (omega arith) b
+]
+
+-- the first node that has the least bound is the least leaf
+pub least-found : (n : Net) (k : Kept) (node : ℕ) (z : ℤ) → IsKeptOf n k → node < length k.bounds → least_below (kept_leaf_bound k) (length k.bounds) ≡ Some z
+    → kept_leaf_bound k node ≡ Some z → ((i : ℕ) → i < node → kept_leaf_bound k i ≢ Some z) → IsLeastLeaf n (searched_of k).tree node
+least-found n k node z is h least here before =
+    let there : node < nodes k.splits = omega (arith, is.bounded) in
+    let whole : tree_bound n (searched_of k).tree ≡ Some z = sym (kept-bound n k is) ∙ least in
+    let leaf : leaf_bound n (searched_of k).tree node ≡ Some z = sym (kept-leaf n k node is there) ∙ here in
+    record {
+      leaf = record { there = there; uncut = uncut_where (is_cut k.splits node) (node_bound n (searched_of k).tree node) z leaf };
+      least = leaf ∙ sym whole;
+      holds = λ e. none-some z (sym e ∙ leaf);
+      first = λ i lt e. before i lt (kept-leaf n k i is (omega arith) ∙ e ∙ whole);
+    }
+  where
+    uncut_where : (b : Bool) (o : Option ℤ) (z : ℤ) → (if b then None else o) ≡ Some z → b ≡ false
+    uncut_where false o z e = refl
+    uncut_where true o z e = absurd (none-some z e)

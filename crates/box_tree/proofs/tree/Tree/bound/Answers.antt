@@ -1,0 +1,11 @@
+use Rattle.std.proofs.Common.{◌≡◌, rules, length, ◌∙◌}
+use Rattle.pool_model.specs.Starting.{least_below}
+use Rattle.box_tree.specs.Kept.{kept_leaf_bound}
+use Rattle.box_tree.proofs.Scans.{kept-bound}
+use Rattle.box_tree.proofs.tree.Tree.bound.Goals as goal
+
+pub returns-clause-bound : goal.returns-clause-bound
+returns-clause-bound c =
+    let k = c.args.self.now.kept in
+    let whole : c.loop-node.least ≡ least_below (kept_leaf_bound k) (length k.bounds) = search rules in
+    λ n is. whole ∙ kept-bound n k is.kept

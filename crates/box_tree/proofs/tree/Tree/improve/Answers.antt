@@ -1,0 +1,27 @@
+use Rattle.std.proofs.Common.{rules}
+use Rattle.std.specs.Option.{ForSome}
+use Rattle.pool_model.specs.Network.{net_of}
+use Rattle.row_model.specs.Entries.{improve}
+use Rattle.plan_core.specs.Shown.{written_of}
+use Rattle.box_tree.specs.Kept.{searched_of}
+use Rattle.box_tree.specs.Taken.{improved}
+use Rattle.box_tree.proofs.Improving.{IsLess, dearer-kept, plan-taken}
+use Rattle.box_tree.proofs.Refusals.{not-better}
+use Rattle.box_tree.proofs.Viewed.{taken-now}
+use Rattle.box_tree.proofs.tree.Tree.improve.Goals as goal
+
+pub returns-then-not-is_cheaper-clause-fault : goal.returns-then-not-is_cheaper-clause-fault
+returns-then-not-is_cheaper-clause-fault c =
+    let n = net_of c.args.net.now in
+    let k = c.args.self.now.kept in
+    let cost = c.in_ok-cost.ensures.ok in
+    let dearer : ¬ ForSome k.cost (IsLess c.in_ok-cost.cost) = search rules in
+    λ _. not-better n (searched_of k) (written_of c.args.plan) cost.written cost.obeys (dearer-kept n (written_of c.args.plan) c.in_ok-cost.cost k.best k.cost cost c.requires.kept.cost dearer)
+
+pub returns-clause-taken : goal.returns-clause-taken
+returns-clause-taken c =
+    let n = net_of c.args.net.now in
+    let w = written_of c.args.plan in
+    let k = c.args.self.now.kept in
+    let less : ForSome k.cost (IsLess c.in_ok-cost.cost) = search rules in
+    taken-now n (improve w) k (improved k w c.in_ok-cost.cost) c.set_best.new.self.kept c.set_best.ensures.kept (plan-taken n k w c.in_ok-cost.cost c.requires.kept c.in_ok-cost.ensures.ok less)

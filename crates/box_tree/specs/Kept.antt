@@ -1,0 +1,62 @@
+-- What a tree holds, and when it is a network's.
+use Rattle.std.specs.Prelude.{◌≡◌, ℕ, ◌+◌, ◌*◌, ◌<◌, ◌≤◌, List, length, get_or, Bool, false, if◌then◌else◌, Option, None, Some, ℤ}
+use Rattle.pool_model.specs.Network.{Net}
+use Rattle.pool_model.specs.Plan.{Written}
+use Rattle.plan_core.specs.Checks.{IsCostOf}
+use Rattle.plan_core.specs.declared.plan.Cost.{Cost}
+use Rattle.row_model.specs.Multipliers.{Proof}
+use Rattle.row_model.specs.Trees.{Split, nodes, is_cut, node_bound}
+use Rattle.row_model.specs.Entries.{Searched, IsSearched}
+use Rattle.row_book.specs.Fitting.{Fits}
+use Rattle.row_book.specs.declared.scratch.Scratch.{Scratch}
+
+-- The splits; for each node its proof, its bound, None where it holds no plan, and whether a split cuts it; the best plan,
+-- and what it costs.
+pub record Kept : Type 0 where
+  pub splits : List Split
+  pub proofs : List (Option Proof)
+  pub bounds : List (Option ℤ)
+  pub cuts : List Bool
+  pub best : Option Written
+  pub cost : Option Cost
+
+-- the tree and the plan that it stands for
+abbrev pub searched_of : Kept → Searched
+searched_of k = record { tree = record { splits = k.splits; proof = λ node. get_or k.proofs node None }; best = k.best }
+
+-- what it keeps, and the memory that proofs are valued in
+pub record Held : Type 0 where
+  pub kept : Kept
+  pub scratch : Scratch
+
+-- a node's bound as it is kept, and nothing for a node that is cut
+abbrev pub kept_leaf_bound : Kept → ℕ → Option ℤ
+kept_leaf_bound k node = if get_or k.cuts node false then None else get_or k.bounds node None
+
+-- there is a cost exactly where there is a plan, and it is the plan's
+abbrev pub IsKeptCost : Net → Option Written → Option Cost → Type 0
+IsKeptCost n None None = Unit {0}
+IsKeptCost n None (Some cost) = ⊥
+IsKeptCost n (Some plan) None = ⊥
+IsKeptCost n (Some plan) (Some cost) = IsCostOf n plan cost
+
+-- What is kept is a network's: splits, proofs and plan are in order there, and each bound, mark and cost is the one it stands for.
+pub record IsKeptOf (n : Net) (k : Kept) : Type 0 where
+  pub searched : IsSearched n (searched_of k)
+  pub bounded : length k.bounds ≡ nodes k.splits
+  pub marked : length k.cuts ≡ nodes k.splits
+  pub bounds : (node : ℕ) → node < nodes k.splits → get_or k.bounds node None ≡ node_bound n (searched_of k).tree node
+  pub cuts : (node : ℕ) → node < nodes k.splits → get_or k.cuts node false ≡ is_cut k.splits node
+  pub cost : IsKeptCost n k.best k.cost
+
+-- the tree is the network's
+pub record IsOf (n : Net) (t : Held) : Type 0 where
+  pub kept : IsKeptOf n t.kept
+  pub scratch : Fits n t.scratch
+
+-- there are as many proofs, bounds and marks as nodes, and no more splits than there may be
+pub record AreSized (splits proofs bounds cuts : ℕ) : Type 0 where
+  pub few : splits ≤ 20000
+  pub proved : proofs ≡ 2 * splits + 1
+  pub bounded : bounds ≡ 2 * splits + 1
+  pub marked : cuts ≡ 2 * splits + 1

@@ -1,0 +1,22 @@
+//! The tree of boxes that a search makes, entry by entry, with the bound that it shows.
+//!
+//! A [`Tree`] begins with the box of all plans. An [`Entry`] proves the root, splits a leaf, or brings a cheaper plan;
+//! [`Tree::apply`] takes it where it is in order, and else answers the first [`EntryFault`] and leaves the tree as it was.
+//! [`Tree::bound`] is then below what any plan costs, and [`Tree::best_plan`] is the cheapest plan so far.
+//!
+//! Trees, bounds and entries in order are defined in `row_model`; `specs/EntryFaults.antt` says when a fault holds, and
+//! `specs/Kept.antt` when a tree is a network's. Which leaf to split, and where, is left to the crates above.
+#![tactic(auto)]
+
+mod apply;
+mod boxes;
+mod entry;
+mod leaves;
+mod raising;
+mod splitting;
+#[cfg(test)]
+mod tests;
+mod tree;
+
+pub use entry::{Entry, EntryFault};
+pub use tree::Tree;

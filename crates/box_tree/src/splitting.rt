@@ -1,0 +1,156 @@
+//! Splits of leaves.
+
+ghost use Rattle.std.specs.Prelude.{◌≡◌, ◌≢◌, ◌<◌, ◌↔◌, IfOk, IfErr, IsTrue, length, option_map, Option};
+ghost use Rattle.std.specs.Option.{ForSome};
+ghost use Rattle.pool_model.specs.Network.{Net, net_of};
+ghost use Rattle.row_model.specs.Boxes.{left_of, right_of};
+ghost use Rattle.row_model.specs.Multipliers as multipliers;
+ghost use Rattle.row_model.specs.Trees as trees;
+ghost use Rattle.row_model.specs.Entries.{split_of};
+ghost use Rattle.box_space.specs.Shown.{shown_proof, shown_split};
+ghost use Rattle.box_space.specs.Views.{ends_of, AreEnds};
+ghost use Rattle.row_book.specs.Fitting.{Fits};
+ghost use Rattle.row_book.specs.Results as results;
+ghost use Rattle.box_tree.specs.Ends.{AreEndsOf};
+ghost use Rattle.box_tree.specs.EntryFaults.{IsFirstFault, IsInside, IsProofFault};
+ghost use Rattle.box_tree.specs.Kept.{searched_of, IsOf};
+ghost use Rattle.box_tree.specs.Taken.{IsTaken, grown};
+
+use crate::entry::EntryFault;
+use crate::raising::raised;
+use crate::tree::Tree;
+use blend_network::Network;
+use box_space::{BoxEnds, Proof, Split, coords, halves};
+use row_book::{ProofFault, Scratch, Shown, value};
+use std::alloc::AllocError;
+
+/// The greatest number of splits.
+const MAX_SPLITS: usize = 20_000;
+
+/// A new node: its proof and its bound.
+#[derive(Drop)]
+struct Child {
+    proof: Option<Proof>,
+    bound: Option<i128>,
+}
+
+impl Tree {
+    /// Takes a split of a leaf, with the proofs of its halves.
+    pub(crate) fn split(
+        &mut self,
+        net: &Network,
+        split: Split,
+        left: Option<Proof>,
+        right: Option<Proof>,
+    ) -> Result<(), EntryFault>
+        requires { IsOf (net_of net.now) self.old }
+        ensures taken { IfOk result (λ _. IsTaken (net_of net.now) (split_of (shown_split split) (option_map shown_proof left) (option_map shown_proof right)) self.old.kept self.new.kept) }
+        ensures fault { IfErr result (λ f. f ≢ EntryFault.Memory → IsFirstFault (net_of net.now) (searched_of self.old.kept) (split_of (shown_split split) (option_map shown_proof left) (option_map shown_proof right)) f) }
+        ensures unchanged { IfErr result (λ _. self.new.kept ≡ self.old.kept) }
+        ensures scratch { Fits (net_of net.now) self.new.scratch }
+    {
+        let _counts = net.counts();
+        let (left_box, right_box) = self.halves_of(net, &split)?;
+        let left_shown = show(net, &left_box, &left, &mut self.scratch)?;
+        let right_shown = show(net, &right_box, &right, &mut self.scratch)?;
+        let above = self.node_bound(split.leaf);
+        let left = Child {
+            proof: left,
+            bound: raised(above, left_shown),
+        };
+        let right = Child {
+            proof: right,
+            bound: raised(above, right_shown),
+        };
+        self.grow(split, left, right)?;
+        Ok(())
+    }
+
+    /// The halves of a leaf's box, or the first fault of the split itself.
+    fn halves_of(&self, net: &Network, split: &Split) -> Result<(BoxEnds, BoxEnds), EntryFault>
+        requires { IsOf (net_of net.now) self.now }
+        ensures cuts { IfOk result (λ _. trees.CutsLeaf (net_of net.now) self.now.kept.splits (trees.box_of (net_of net.now) self.now.kept.splits split.now.leaf) (shown_split split.now)) }
+        ensures few { IfOk result (λ _. length self.now.kept.splits < 20000) }
+        ensures left { IfOk result (λ h. AreEndsOf (net_of net.now) (left_of (trees.box_of (net_of net.now) self.now.kept.splits split.now.leaf) split.now.coord split.now.cut) h.0) }
+        ensures right { IfOk result (λ h. AreEndsOf (net_of net.now) (right_of (trees.box_of (net_of net.now) self.now.kept.splits split.now.leaf) split.now.coord split.now.cut) h.1) }
+        ensures fault { IfErr result (λ f. f ≢ EntryFault.Memory → (left right : Option multipliers.Proof) → IsFirstFault (net_of net.now) (searched_of self.now.kept) (split_of (shown_split split.now) left right) f) }
+    {
+        if !self.is_leaf(split.leaf) {
+            return Err(EntryFault::NotALeaf);
+        }
+        if split.coord >= coords(net) {
+            return Err(EntryFault::BadCoord);
+        }
+        let ends = self.box_of(net, split.leaf)?;
+        if !is_inside(&ends, split) {
+            return Err(EntryFault::CutOutside);
+        }
+        if self.splits.len() >= MAX_SPLITS {
+            return Err(EntryFault::TooManySplits);
+        }
+        Ok(halves(self.alloc, &ends, split.coord, split.cut)?)
+    }
+
+    /// Whether a node is one of the tree, and is not cut.
+    fn is_leaf(&self, node: u32) -> bool
+        ensures { (n : Net) → IsOf n self.now → IsTrue result ↔ trees.IsLeaf self.now.kept.splits node }
+    {
+        match self.cuts.get(node as usize) {
+            Some(cut) => !*cut,
+            None => false,
+        }
+    }
+
+    /// Adds a split and its two nodes, or leaves the tree as it was where there is no memory for them.
+    fn grow(&mut self, split: Split, left: Child, right: Child) -> Result<(), AllocError>
+        requires leaf { split.leaf < length self.old.kept.cuts }
+        requires few { length self.old.kept.splits < 20000 }
+        ensures grown { IfOk result (λ _. self.new.kept ≡ grown self.old.kept (shown_split split) (option_map shown_proof left.proof) (option_map shown_proof right.proof) left.bound right.bound) }
+        ensures unchanged { IfErr result (λ _. self.new.kept ≡ self.old.kept) }
+        ensures scratch { self.new.scratch ≡ self.old.scratch }
+    {
+        self.splits.reserve(1)?;
+        self.proofs.reserve(2)?;
+        self.bounds.reserve(2)?;
+        self.cuts.reserve(2)?;
+        self.splits.push_reserved(split);
+        self.proofs.push_reserved(left.proof);
+        self.proofs.push_reserved(right.proof);
+        self.bounds.push_reserved(left.bound);
+        self.bounds.push_reserved(right.bound);
+        self.cuts[split.leaf as usize] = true;
+        self.cuts.push_reserved(false);
+        self.cuts.push_reserved(false);
+        Ok(())
+    }
+}
+
+/// Whether the cut lies strictly inside the box.
+fn is_inside(ends: &BoxEnds, split: &Split) -> bool
+    requires low { split.now.coord < length ends.now.low.items }
+    requires high { split.now.coord < length ends.now.high.items }
+    ensures { IsTrue result ↔ IsInside (ends_of ends.now) (shown_split split.now) }
+{
+    let view = ends.view();
+    view.low_at(split.coord) < split.cut && split.cut < view.high_at(split.coord)
+}
+
+/// What a half's proof shows of its box, where it has one.
+fn show(
+    net: &Network,
+    ends: &BoxEnds,
+    proof: &Option<Proof>,
+    scratch: &mut Scratch,
+) -> Result<Option<Shown>, ProofFault>
+    requires view { AreEnds (net_of net.now) ends.now }
+    requires fits { Fits (net_of net.now) scratch.old }
+    ensures in_order { IfOk result (λ _. ForSome (option_map shown_proof proof.now) (multipliers.IsInOrder (net_of net.now) (ends_of ends.now))) }
+    ensures shown { IfOk result (λ s. option_map results.shown s ≡ option_map (multipliers.shown_by (net_of net.now) (ends_of ends.now)) (option_map shown_proof proof.now)) }
+    ensures fault { IfErr result (IsProofFault (net_of net.now) (ends_of ends.now) (option_map shown_proof proof.now)) }
+    ensures fits { Fits (net_of net.now) scratch.new }
+{
+    match proof {
+        None => Ok(None),
+        Some(proof) => Ok(Some(value(net, &ends.view(), proof, scratch)?)),
+    }
+}

@@ -1,0 +1,128 @@
+//! The tree of boxes, and what it answers without memory.
+
+ghost use Rattle.std.specs.Prelude.{◌≡◌, ◌<◌, ℕ, map, length, get_or, Some, None, option_map, IfOk, MatchOption};
+ghost use Rattle.pool_model.specs.Network.{Net, net_of};
+ghost use Rattle.plan_core.specs.Shown.{written_of};
+ghost use Rattle.row_model.specs.Trees as trees;
+ghost use Rattle.row_model.specs.Entries as entries;
+ghost use Rattle.box_space.specs.Shown.{shown_proof, shown_split};
+ghost use Rattle.box_tree.specs.Kept.{IsOf, searched_of};
+
+use blend_network::Network;
+use box_space::{Proof, Split};
+use edge_io::Memory;
+use plan_core::{Cost, WrittenPlan};
+use row_book::Scratch;
+use std::alloc::Global;
+use std::marker::Model;
+
+/// The cheapest plan so far, and what it costs.
+#[derive(Debug, Drop)]
+pub(crate) struct Best {
+    pub(crate) plan: WrittenPlan,
+    pub(crate) cost: Cost,
+}
+
+/// A tree of boxes. Node 0 is the root, which holds all plans; split number t, from 0, cuts its node into the nodes 2t + 1, left,
+/// and 2t + 2, right. It keeps each node's proof, its bound and whether it is cut, and the cheapest plan so far.
+#[derive(Drop)]
+pub struct Tree {
+    pub(crate) splits: Vec<Split>,
+    pub(crate) proofs: Vec<Option<Proof>>,
+    /// Of each node, in picos: None where it holds no plan.
+    pub(crate) bounds: Vec<Option<i128>>,
+    pub(crate) cuts: Vec<bool>,
+    pub(crate) best: Option<Best>,
+    pub(crate) scratch: Scratch,
+    pub(crate) alloc: Global,
+}
+
+impl Model for Tree {
+    ghost use Rattle.std.specs.Prelude.{map, length, option_map};
+    ghost use Rattle.plan_core.specs.Shown.{written_of};
+    ghost use Rattle.box_space.specs.Shown.{shown_proof, shown_split};
+    ghost use Rattle.box_tree.specs.Kept.{Held, AreSized};
+
+    ghost Value = { Held };
+
+    ghost view = { λ t. record {
+      kept = record {
+        splits = map shown_split t.splits.items;
+        proofs = map (option_map shown_proof) t.proofs.items;
+        bounds = t.bounds.items;
+        cuts = t.cuts.items;
+        best = option_map (λ b. written_of b.plan) t.best;
+        cost = option_map (λ b. b.cost) t.best;
+      };
+      scratch = t.scratch;
+    } };
+
+    ghost invariant = { λ t. AreSized (length t.splits.items) (length t.proofs.items) (length t.bounds.items) (length t.cuts.items) };
+}
+
+impl Tree {
+    /// The tree of the root alone, without a proof or a plan.
+    pub fn start(alloc: Global, net: &Network) -> Result<Tree, Memory>
+        ensures searched { IfOk result (λ t. searched_of t.kept ≡ entries.start) }
+        ensures tree { IfOk result (IsOf (net_of net.now)) }
+    {
+        Ok(Tree {
+            splits: Vec::new(alloc),
+            proofs: vec![in alloc; None]?,
+            bounds: vec![in alloc; Some(net.reach_bound())]?,
+            cuts: vec![in alloc; false]?,
+            best: None,
+            scratch: Scratch::new(alloc, net)?,
+            alloc,
+        })
+    }
+
+    /// The cheapest plan so far.
+    pub fn best_plan(&self) -> Option<&WrittenPlan>
+        ensures { MatchOption result (self.now.kept.best ≡ None) (λ p. self.now.kept.best ≡ Some (written_of p.now)) }
+    {
+        match &self.best {
+            None => None,
+            Some(best) => Some(&best.plan),
+        }
+    }
+
+    /// What the cheapest plan so far costs.
+    pub fn best_cost(&self) -> Option<Cost>
+        ensures { result ≡ self.now.kept.cost }
+    {
+        match &self.best {
+            None => None,
+            Some(best) => Some(best.cost),
+        }
+    }
+
+    /// The splits, by number.
+    pub fn splits(&self) -> &[Split]
+        ensures { map shown_split result.now ≡ self.now.kept.splits }
+    {
+        self.splits.as_slice()
+    }
+
+    /// The proof of a node; None where it has none, or is none of the tree.
+    pub fn proof_of(&self, node: u32) -> Option<&Proof>
+        ensures { MatchOption result (get_or self.now.kept.proofs node None ≡ None) (λ p. get_or self.now.kept.proofs node None ≡ Some (shown_proof p.now)) }
+    {
+        match self.proofs.get(node as usize) {
+            Some(Some(proof)) => Some(proof),
+            _ => None,
+        }
+    }
+
+    /// The bound of a node, in picos: no plan in its box costs less. None where the box holds no plan, and for a node that is none
+    /// of the tree.
+    pub fn node_bound(&self, node: u32) -> Option<i128>
+        ensures bound { (n : Net) → IsOf n self.now → node < trees.nodes self.now.kept.splits → result ≡ trees.node_bound n (searched_of self.now.kept).tree node }
+        ensures kept { result ≡ get_or self.now.kept.bounds node None }
+    {
+        match self.bounds.get(node as usize) {
+            Some(bound) => *bound,
+            None => None,
+        }
+    }
+}
