@@ -1,0 +1,6 @@
+pub mod LineLemmas
+pub mod Laws
+pub mod PieceLaws
+pub mod NumberLaws
+pub mod Steps
+pub mod Each

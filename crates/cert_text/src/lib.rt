@@ -1,0 +1,19 @@
+//! Texts of lines, read from left to right, with the exact faulty line.
+//!
+//! A text comes byte by byte from a `Source`, which counts its lines and may fail; `SliceSource` is a text that lies in
+//! memory and never fails. Words and numbers are read whole, each number with the byte behind it, or refused with the
+//! number of their line. Numbers are canonical: no leading zero, no plus sign, no negative zero, and within the range of
+//! their type. Nothing here takes memory.
+//!
+//! `specs/Lines.antt` says which line of a text is the faulty one, with no reader in it. `specs/Reading.antt` has the
+//! readers as functions on lists of bytes, which the contracts name. `proofs/Laws.antt` puts them together: a reader that is
+//! made of readers of formats reads a format, and its fault is at the faulty line.
+#![tactic(auto)]
+
+mod fault;
+mod pieces;
+mod source;
+
+pub use fault::{SourceFailed, Stop, TextFault};
+pub use pieces::{Ends, i64_then, i128_then, number, same, u32_then, u64_then, word};
+pub use source::{SliceSource, Source};
