@@ -1,1 +1,5 @@
 pub mod Lines
+pub mod LineLaws
+pub mod CertLaws
+pub mod Outcomes
+pub mod ValidLaws

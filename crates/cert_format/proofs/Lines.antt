@@ -1,30 +1,58 @@
 -- Lines, piece by piece.
-use Rattle.std.proofs.Common.{◌≡◌, ℕ, ◌+◌, ◌<◌, List, [], ◌∷◌, ◌++◌, length, take, drop, get_or, sym, ap, ◌∙◌, append_assoc}
-use Rattle.std.specs.Prelude.{map}
+use Rattle.std.proofs.Common.{◌≡◌, ℕ, ◌<◌, List, [], ◌∷◌, ◌++◌, length, take, get_or, Option, refl, sym, ap, subst, ◌∙◌, append_assoc}
+use Rattle.std.specs.Prelude.{map, decimal, codes}
 use Rattle.std.specs.List.{flat_map}
+use Rattle.std.proofs.lemmas.List.{length-map}
+use Rattle.std.proofs.lemmas.List.Concat.{flat_map-append}
 use Rattle.std.proofs.lemmas.List.Folds.{flat_map-map}
-use Rattle.edge_io.proofs.Writes.{pieces_at}
-use Rattle.cert_format.specs.Text.{field, line}
+use Rattle.edge_io.specs.Writing.{behind, TookFront}
+use Rattle.edge_io.proofs.Writes.{front-list}
+use Rattle.row_model.specs.Multipliers.{Part}
+use Rattle.box_space.specs.Shown.{shown_part}
+use Rattle.cert_format.specs.declared.certificate.NodeProof.{NodeProof}
+use Rattle.cert_format.specs.Shown.{shown_node_proof}
+use Rattle.cert_format.specs.Text.{field, line, part_fields, proof_line}
 
--- the numbers of a line
-abbrev pub fields_of : {X : Type 0} → (X → List ℕ) → List X → List ℕ
-fields_of text numbers = flat_map (λ n. field (text n)) numbers
+-- a fault in a piece of a list, whose items are shown by `view`
+pub front-shown : {X Y : Type 0} (f : Y → List ℕ) (view : X → Y) (xs : List X) (i : ℕ) (d : X) (old mid new : Option (List ℕ)) → i < length xs
+    → mid ≡ behind old (flat_map (λ x. f (view x)) (take i xs)) → TookFront mid (f (view (get_or xs i d))) new → TookFront old (flat_map f (map view xs)) new
+front-shown f view xs i d old mid new lt e h =
+    subst (λ (w : List ℕ). TookFront old w new) (sym (flat_map-map f view xs)) (front-list (λ x. f (view x)) xs i d old mid new lt e h)
 
--- a line, by its numbers
-pub line-map : {X : Type 0} (word : List ℕ) (text : X → List ℕ) (numbers : List X) → line word (map text numbers) ≡ word ++ (fields_of text numbers ++ 10 ∷ [])
-line-map word text numbers = ap (λ (w : List ℕ). word ++ (w ++ 10 ∷ [])) (flat_map-map field text numbers)
+-- behind the last piece of a list
+pub all-shown : {X Y : Type 0} (f : Y → List ℕ) (view : X → Y) (xs : List X) (i : ℕ) (old mid : Option (List ℕ)) → take i xs ≡ xs
+    → mid ≡ behind old (flat_map (λ x. f (view x)) (take i xs)) → mid ≡ behind old (flat_map f (map view xs))
+all-shown {X} f view xs i old mid all e = e ∙ ap (λ (ys : List X). behind old (flat_map (λ x. f (view x)) ys)) all ∙ ap (behind old) (sym (flat_map-map f view xs))
 
--- one number of a line, with what stands before it and behind it
-pub line-at : {X : Type 0} (word : List ℕ) (text : X → List ℕ) (numbers : List X) (i : ℕ) (d : X) → i < length numbers
-    → line word (map text numbers) ≡ (word ++ fields_of text (take i numbers)) ++ (field (text (get_or numbers i d)) ++ (fields_of text (drop (i + 1) numbers) ++ 10 ∷ []))
-line-at word text numbers i d lt =
-    line-map word text numbers
-    ∙ ap (λ (w : List ℕ). word ++ (w ++ 10 ∷ [])) (pieces_at (λ n. field (text n)) numbers i d lt)
-    ∙ regroup word (fields_of text (take i numbers)) (field (text (get_or numbers i d))) (fields_of text (drop (i + 1) numbers)) (10 ∷ [])
+-- the pieces of pieces
+pub flat_map-flat_map : {X Y Z : Type 0} (f : Y → List Z) (g : X → List Y) (xs : List X) → flat_map f (flat_map g xs) ≡ flat_map (λ x. flat_map f (g x)) xs
+flat_map-flat_map f g [] = refl
+flat_map-flat_map {Z} f g (x ∷ xs) = flat_map-append f (g x) (flat_map g xs) ∙ ap (λ (w : List Z). flat_map f (g x) ++ w) (flat_map-flat_map f g xs)
+
+-- the fields of a part
+abbrev pub part_text : Part → List ℕ
+part_text p = flat_map field (part_fields p)
+
+-- ---- a proof, piece by piece
+
+-- the fields before the parts
+abbrev pub proof_fields : NodeProof → List ℕ
+proof_fields p = flat_map field (decimal p.node ∷ decimal p.proof.scale ∷ decimal (length p.proof.parts.items) ∷ [])
+
+-- the fields of the parts
+abbrev pub parts_fields : NodeProof → List ℕ
+parts_fields p = flat_map field (flat_map part_fields (map shown_part p.proof.parts.items))
+
+pub proof_text : (p : NodeProof) → codes "proof" ++ (proof_fields p ++ (parts_fields p ++ 10 ∷ [])) ≡ proof_line (shown_node_proof p)
+proof_text p =
+    let count : length (map shown_part p.proof.parts.items) ≡ length p.proof.parts.items = length-map p.proof.parts.items shown_part in
+    regroup (decimal p.node) (decimal p.proof.scale) (decimal (length p.proof.parts.items)) (parts_fields p)
+    ∙ ap (λ (n : ℕ). line (codes "proof") (decimal p.node ∷ decimal p.proof.scale ∷ decimal n ∷ flat_map part_fields (map shown_part p.proof.parts.items))) (sym count)
   where
-    regroup : (a b c d e : List ℕ) → a ++ ((b ++ (c ++ d)) ++ e) ≡ (a ++ b) ++ (c ++ (d ++ e))
-    regroup a b c d e = simp append_assoc
+    regroup : (x y z q : List ℕ) → codes "proof" ++ (((32 ∷ x) ++ ((32 ∷ y) ++ ((32 ∷ z) ++ []))) ++ (q ++ 10 ∷ [])) ≡ codes "proof" ++ (((32 ∷ x) ++ ((32 ∷ y) ++ ((32 ∷ z) ++ q))) ++ 10 ∷ [])
+    regroup x y z q = simp append_assoc
 
--- the end of a line, behind all of its numbers
-pub line-end : {X : Type 0} (word : List ℕ) (text : X → List ℕ) (numbers : List X) → (word ++ fields_of text numbers) ++ 10 ∷ [] ≡ line word (map text numbers)
-line-end word text numbers = append_assoc word (fields_of text numbers) (10 ∷ []) ∙ sym (line-map word text numbers)
+-- ---- a count and so many lines
+
+pub lines_text : {X Y : Type 0} (word : List ℕ) (f : Y → List ℕ) (view : X → Y) (xs : List X) → line word (decimal (length xs) ∷ []) ++ flat_map f (map view xs) ≡ line word (decimal (length (map view xs)) ∷ []) ++ flat_map f (map view xs)
+lines_text word f view xs = ap (λ (n : ℕ). line word (decimal n ∷ []) ++ flat_map f (map view xs)) (sym (length-map xs view))

@@ -1,15 +1,24 @@
 -- A certificate, without where it lies in memory.
+use Rattle.std.specs.Prelude.{map}
 use Rattle.pool_model.specs.Claim.{Claimed, with_gap, with_bound, no_plan}
 use Rattle.plan_core.specs.Shown.{written_of}
+use Rattle.box_space.specs.Shown.{shown_split, shown_proof}
+use Rattle.cert_format.specs.declared.certificate as declared
 use Rattle.cert_format.specs.declared.certificate.Claim.{Claim}
 use Rattle.cert_format.specs.declared.certificate.Claim.TheVariants as claims
 use Rattle.cert_format.specs.declared.certificate.Certificate.{Certificate}
-use Rattle.cert_format.specs.Cert.{Cert}
+use Rattle.cert_format.specs.Cert.{Cert, NodeProof}
 
+-- what is claimed
 abbrev pub claimed : Claim → Claimed
 claimed (claims.Gap plan cost base bound gap) = with_gap (written_of plan) cost base bound gap
 claimed (claims.Bound bound) = with_bound bound
 claimed claims.NoPlan = no_plan
 
+-- a node and its proof
+abbrev pub shown_node_proof : declared.NodeProof.NodeProof → NodeProof
+shown_node_proof p = record { node = p.node; proof = shown_proof p.proof }
+
+-- a certificate
 abbrev pub view : Certificate → Cert
-view c = record { shape = c.shape; claim = claimed c.claim }
+view c = record { shape = c.shape; claim = claimed c.claim; splits = map shown_split c.splits.items; proofs = map shown_node_proof c.proofs.items }

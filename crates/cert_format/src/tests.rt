@@ -8,8 +8,17 @@ use plan_core::WrittenPlan;
 use std::alloc::{AllocError, Global};
 use std::test::*;
 
-const GAP_TEXT: &[u8] =
+/// A source with one direct to a product, at its cheapest.
+const ROW_1: &[u8] =
     b"poolcert 1\nkind gap\nshape 1 0 1 1 0 0 1\nplan 1 1\nweights\noutflows\ndirect 100000000\nsplits 0\nproofs 0\ncost -300000000000000 1\nbound -300000000000000\ngap 0 1\nend\n";
+
+/// No plan obeys, by one proof of two parts.
+const ROW_9: &[u8] =
+    b"poolcert 1\nkind none\nshape 1 0 1 1 0 0 1\nsplits 0\nproofs 1\nproof 0 0 2 2 1000000 3 1\nend\n";
+
+/// A tree of two splits and one proof.
+const ROW_10: &[u8] =
+    b"poolcert 1\nkind gap\nshape 2 1 1 1 2 1 0\nplan 1 1\nweights 1 0\noutflows 0\ndirect\nsplits 2\nsplit 0 0 524288\nsplit 1 1 262144\nproofs 1\nproof 3 0 1 11 1\ncost 0 1\nbound -300000000000000\ngap 300000000000000 1\nend\n";
 
 /// The certificate of a source with one direct to a product.
 fn one_direct(alloc: Global) -> Result<Certificate, AllocError>
@@ -32,6 +41,8 @@ fn one_direct(alloc: Global) -> Result<Certificate, AllocError>
     Ok(Certificate {
         shape: [1, 0, 1, 1, 0, 0, 1],
         claim,
+        splits: Vec::new(alloc),
+        proofs: Vec::new(alloc),
     })
 }
 
@@ -41,7 +52,7 @@ fn writes_a_gap(rt: HostRuntime) -> Result<(), Fail> {
     let cert = one_direct(alloc)?;
     let mut sink = MemSink::new(alloc, Vec::new(alloc));
     assert_eq!(rt; write_cert(&cert, &mut sink), Ok(()));
-    assert_eq!(rt; sink.taken(), GAP_TEXT);
+    assert_eq!(rt; sink.taken(), ROW_1);
     Ok(())
 }
 
@@ -59,21 +70,72 @@ fn stops_at_a_full_sink(rt: HostRuntime) -> Result<(), Fail> {
 }
 
 #[test]
-fn writes_a_bound_and_no_plan(rt: HostRuntime) {
+fn reads_and_writes_again(rt: HostRuntime) {
     let alloc = rt.alloc();
-    let shape = [2, 0, 1, 0, 0, 0, 2];
-    let bound = Certificate {
-        shape,
-        claim: Claim::Bound { bound: i128::MIN },
-    };
-    let none = Certificate {
-        shape,
-        claim: Claim::NoPlan,
-    };
-    let mut sink = MemSink::new(alloc, Vec::new(alloc));
-    assert_eq!(rt; write_cert(&bound, &mut sink), Ok(()));
-    assert_eq!(rt; write_cert(&none, &mut sink), Ok(()));
-    let texts =
-        b"poolcert 1\nkind bound\nshape 2 0 1 0 0 0 2\nsplits 0\nproofs 0\nbound -170141183460469231731687303715884105728\nend\npoolcert 1\nkind none\nshape 2 0 1 0 0 0 2\nsplits 0\nproofs 0\nend\n";
-    assert_eq!(rt; sink.taken(), texts.as_slice());
+    for text in [ROW_1, ROW_9, ROW_10] {
+        match read_cert(alloc, text) {
+            Ok(cert) => {
+                let mut sink = MemSink::new(alloc, Vec::new(alloc));
+                assert_eq!(rt; write_cert(&cert, &mut sink), Ok(()));
+                assert_eq!(rt; sink.taken(), text);
+            }
+            Err(_) => assert!(rt; false),
+        }
+    }
+}
+
+/// The faulty line of a text.
+fn faulty_line(alloc: Global, text: &[u8]) -> Option<u64> {
+    match read_cert(alloc, text) {
+        Err(ReadCert::Text(fault)) => Some(fault.line),
+        _ => None,
+    }
+}
+
+#[test]
+fn names_the_faulty_line(rt: HostRuntime) {
+    let alloc = rt.alloc();
+    let table: [(&[u8], u64); 11] = [
+        (b"", 1),
+        (&ROW_1[..ROW_1.len() - 1], 13),
+        (
+            b"poolcert 1\nkind gap\nshape 1 0 1 1 0 0 1\nplan 1 1\nweights\noutflows\ndirect 100000000\nsplits 0\nproofs 0\ncost -300000000000000 1\nbound -300000000000000\ngap 0 1\nend\nx",
+            14,
+        ),
+        (
+            b"poolcert 1\nkind gap\nshape 1 0 1 1 0 0 1\nplan 1 1\nweights\noutflows\ndirect 0100000000\nsplits 0\nproofs 0\ncost -300000000000000 1\nbound -300000000000000\ngap 0 1\nend\n",
+            7,
+        ),
+        (
+            b"poolcert 1\nkind gap\nshape 1 0 1 1 0 0 1\nplan 1 1\nweights\noutflows\ndirect 18446744073709551616\nsplits 0\nproofs 0\ncost -300000000000000 1\nbound -300000000000000\ngap 0 1\nend\n",
+            7,
+        ),
+        (
+            b"poolcert 1\nkind gap\nshape 1 0 1 1 0 0 2\nplan 1 1\nweights\noutflows\ndirect 100000000\nsplits 0\nproofs 0\ncost -300000000000000 1\nbound -300000000000000\ngap 0 1\nend\n",
+            7,
+        ),
+        (
+            b"poolcert 1\nkind gap\nshape 1 0 1 1 0 0 1\nplan 1 1\nweights\noutflows\ndirect 100000000\nsplits 4294967295\nproofs 0\ncost -300000000000000 1\nbound -300000000000000\ngap 0 1\nend\n",
+            9,
+        ),
+        (
+            b"poolcert 1\nkind gap\nshape 1 0 1 1 0 0 1\nplan 1 1\nweights\noutflows\ndirect 100000000\nsplits 4294967296\nproofs 0\ncost -300000000000000 1\nbound -300000000000000\ngap 0 1\nend\n",
+            8,
+        ),
+        (
+            b"poolcert 1\nkind gap\nshape 1 0 1 1 0 0 1\nplan 1 1\nweights\noutflows\ndirect 100000000\nsplits 0\nproofs 0\ncost -300000000000000 1\nbound -170141183460469231731687303715884105729\ngap 0 1\nend\n",
+            11,
+        ),
+        (
+            b"poolcert 1\nkind gap\nshape 1 0 1 1 0 0 1\nplan 1 1\nweights\noutflows\ndirect 100000000\nsplits 0\nproofs 0\ncost -300000000000000 1\nbound -300000000000000\ngap 0 2\nend\n",
+            12,
+        ),
+        (
+            b"poolcert 1\nkind none\nshape 1 0 1 1 0 0 1\nplan 1 1\nweights\noutflows\ndirect 100000000\nsplits 0\nproofs 0\ncost -300000000000000 1\nbound -300000000000000\ngap 0 1\nend\n",
+            4,
+        ),
+    ];
+    for (text, line) in table {
+        assert_eq!(rt; faulty_line(alloc, text), Some(line));
+    }
 }

@@ -1,14 +1,17 @@
 //! The one text of a certificate, written.
 
-ghost use Rattle.std.specs.Prelude.{[], ◌∷◌, map, codes, OnErr};
+ghost use Rattle.std.specs.Prelude.{[], ◌∷◌, ◌++◌, map, codes, OnErr};
+ghost use Rattle.std.specs.List.{flat_map};
+ghost use Rattle.box_space.specs.Shown.{shown_part, shown_split};
 ghost use Rattle.edge_io.specs.Counts.{Grows, Rose};
 ghost use Rattle.edge_io.specs.Writing.{Wrote};
 ghost use Rattle.plan_core.specs.Shown.{written_of};
 ghost use Rattle.cert_format.specs.Cert.{IsShaped};
-ghost use Rattle.cert_format.specs.Shown.{claimed, view};
-ghost use Rattle.cert_format.specs.Text.{field, line, kind_of, head_lines, plan_lines, claimed_plan_lines, tree_lines, gap_lines, number_lines, text_of};
+ghost use Rattle.cert_format.specs.Shown.{claimed, shown_node_proof, view};
+ghost use Rattle.cert_format.specs.Text.{field, line, kind_of, head_lines, plan_lines, claimed_plan_lines, part_fields, split_line, split_lines, proof_line, proof_lines, gap_lines, number_lines, rest_lines, text_of};
 
-use crate::certificate::{Certificate, Claim};
+use crate::certificate::{Certificate, Claim, NodeProof};
+use box_space::{Part, Split};
 use edge_io::{Sink, WriteFault, write_whole};
 use itoa::{Buffer, Integer};
 use plan_core::WrittenPlan;
@@ -24,6 +27,18 @@ fn write_field<K: Sink, N: Integer>(out: &mut K, n: N) -> Result<(), WriteFault>
     write_whole(out, buffer.format(n).as_bytes())
 }
 
+/// Numbers, with one space before each.
+fn write_fields<K: Sink, N: Integer>(out: &mut K, numbers: &[N]) -> Result<(), WriteFault>
+    ensures wrote { Wrote result (K.taken out.old) (flat_map field (map N.text numbers.now)) (K.taken out.new) }
+    ensures failed { OnErr result (Rose (K.faults out.old) (K.faults out.new)) }
+    ensures faults_grow { Grows (K.faults out.old) (K.faults out.new) }
+{
+    for n in numbers {
+        write_field(out, *n)?;
+    }
+    Ok(())
+}
+
 /// A line of a word and numbers.
 fn write_line<K: Sink, N: Integer>(
     out: &mut K,
@@ -35,9 +50,7 @@ fn write_line<K: Sink, N: Integer>(
     ensures faults_grow { Grows (K.faults out.old) (K.faults out.new) }
 {
     write_whole(out, word)?;
-    for n in numbers {
-        write_field(out, *n)?;
-    }
+    write_fields(out, numbers)?;
     write_whole(out, b"\n")
 }
 
@@ -89,13 +102,95 @@ fn write_claimed_plan<K: Sink>(out: &mut K, claim: &Claim) -> Result<(), WriteFa
     }
 }
 
-/// The lines of the tree, of which nothing is cut and nothing is proved.
-fn write_tree<K: Sink>(out: &mut K) -> Result<(), WriteFault>
-    ensures wrote { Wrote result (K.taken out.old) tree_lines (K.taken out.new) }
+/// The line of a split.
+fn write_split<K: Sink>(out: &mut K, split: &Split) -> Result<(), WriteFault>
+    ensures wrote { Wrote result (K.taken out.old) (split_line (shown_split split.now)) (K.taken out.new) }
     ensures failed { OnErr result (Rose (K.faults out.old) (K.faults out.new)) }
     ensures faults_grow { Grows (K.faults out.old) (K.faults out.new) }
 {
-    write_whole(out, b"splits 0\nproofs 0\n")
+    let fields = [i64::from(split.leaf), i64::from(split.coord), split.cut];
+    write_line(out, b"split", &fields)
+}
+
+/// The lines of splits.
+fn write_split_list<K: Sink>(out: &mut K, splits: &[Split]) -> Result<(), WriteFault>
+    ensures wrote { Wrote result (K.taken out.old) (flat_map split_line (map shown_split splits.now)) (K.taken out.new) }
+    ensures failed { OnErr result (Rose (K.faults out.old) (K.faults out.new)) }
+    ensures faults_grow { Grows (K.faults out.old) (K.faults out.new) }
+{
+    for split in splits {
+        write_split(out, split)?;
+    }
+    Ok(())
+}
+
+/// The count of the splits, and their lines.
+fn write_splits<K: Sink>(out: &mut K, splits: &[Split]) -> Result<(), WriteFault>
+    ensures wrote { Wrote result (K.taken out.old) (split_lines (map shown_split splits.now)) (K.taken out.new) }
+    ensures failed { OnErr result (Rose (K.faults out.old) (K.faults out.new)) }
+    ensures faults_grow { Grows (K.faults out.old) (K.faults out.new) }
+{
+    write_line(out, b"splits", &[splits.len()])?;
+    write_split_list(out, splits)
+}
+
+/// The fields of a part.
+fn write_part<K: Sink>(out: &mut K, part: &Part) -> Result<(), WriteFault>
+    ensures wrote { Wrote result (K.taken out.old) (flat_map field (part_fields (shown_part part.now))) (K.taken out.new) }
+    ensures failed { OnErr result (Rose (K.faults out.old) (K.faults out.new)) }
+    ensures faults_grow { Grows (K.faults out.old) (K.faults out.new) }
+{
+    write_fields(out, &[i64::from(part.row), part.mult])
+}
+
+/// The fields of parts.
+fn write_parts<K: Sink>(out: &mut K, parts: &[Part]) -> Result<(), WriteFault>
+    ensures wrote { Wrote result (K.taken out.old) (flat_map field (flat_map part_fields (map shown_part parts.now))) (K.taken out.new) }
+    ensures failed { OnErr result (Rose (K.faults out.old) (K.faults out.new)) }
+    ensures faults_grow { Grows (K.faults out.old) (K.faults out.new) }
+{
+    for part in parts {
+        write_part(out, part)?;
+    }
+    Ok(())
+}
+
+/// The line of a proof.
+fn write_proof<K: Sink>(out: &mut K, proof: &NodeProof) -> Result<(), WriteFault>
+    ensures wrote { Wrote result (K.taken out.old) (proof_line (shown_node_proof proof.now)) (K.taken out.new) }
+    ensures failed { OnErr result (Rose (K.faults out.old) (K.faults out.new)) }
+    ensures faults_grow { Grows (K.faults out.old) (K.faults out.new) }
+{
+    let parts = proof.proof.parts.as_slice();
+    write_whole(out, b"proof")?;
+    write_fields(
+        out,
+        &[u64::from(proof.node), proof.proof.scale, parts.len() as u64],
+    )?;
+    write_parts(out, parts)?;
+    write_whole(out, b"\n")
+}
+
+/// The lines of proofs.
+fn write_proof_list<K: Sink>(out: &mut K, proofs: &[NodeProof]) -> Result<(), WriteFault>
+    ensures wrote { Wrote result (K.taken out.old) (flat_map proof_line (map shown_node_proof proofs.now)) (K.taken out.new) }
+    ensures failed { OnErr result (Rose (K.faults out.old) (K.faults out.new)) }
+    ensures faults_grow { Grows (K.faults out.old) (K.faults out.new) }
+{
+    for proof in proofs {
+        write_proof(out, proof)?;
+    }
+    Ok(())
+}
+
+/// The count of the proofs, and their lines.
+fn write_proofs<K: Sink>(out: &mut K, proofs: &[NodeProof]) -> Result<(), WriteFault>
+    ensures wrote { Wrote result (K.taken out.old) (proof_lines (map shown_node_proof proofs.now)) (K.taken out.new) }
+    ensures failed { OnErr result (Rose (K.faults out.old) (K.faults out.new)) }
+    ensures faults_grow { Grows (K.faults out.old) (K.faults out.new) }
+{
+    write_line(out, b"proofs", &[proofs.len()])?;
+    write_proof_list(out, proofs)
 }
 
 /// The lines of a cost over a base, a bound, and their gap over that base.
@@ -134,6 +229,18 @@ fn write_numbers<K: Sink>(out: &mut K, claim: &Claim) -> Result<(), WriteFault>
     }
 }
 
+/// The lines behind the plan: the tree, the numbers that are claimed, and the end.
+fn write_rest<K: Sink>(out: &mut K, cert: &Certificate) -> Result<(), WriteFault>
+    ensures wrote { Wrote result (K.taken out.old) (rest_lines (view cert.now)) (K.taken out.new) }
+    ensures failed { OnErr result (Rose (K.faults out.old) (K.faults out.new)) }
+    ensures faults_grow { Grows (K.faults out.old) (K.faults out.new) }
+{
+    write_splits(out, cert.splits.as_slice())?;
+    write_proofs(out, cert.proofs.as_slice())?;
+    write_numbers(out, &cert.claim)?;
+    write_whole(out, b"end\n")
+}
+
 /// Writes the text of a certificate. It takes no memory.
 ///
 /// `WriteFault` comes only where the sink's count of faults rose; the sink has taken a front of the text then.
@@ -145,7 +252,5 @@ pub fn write_cert<K: Sink>(cert: &Certificate, out: &mut K) -> Result<(), WriteF
 {
     write_head(out, cert)?;
     write_claimed_plan(out, &cert.claim)?;
-    write_tree(out)?;
-    write_numbers(out, &cert.claim)?;
-    write_whole(out, b"end\n")
+    write_rest(out, cert)
 }
