@@ -1,0 +1,68 @@
+-- What the checker may answer on a text.
+use Rattle.std.specs.Prelude.{◌≡◌, ℕ, List, Result, Ok, Err}
+use Rattle.pool_model.specs.Network.{Net}
+use Rattle.pool_model.specs.Claim.{Claimed, with_gap, with_bound, no_plan}
+use Rattle.cert_text.specs.Lines.{IsFaultyLine}
+use Rattle.cert_format.specs.declared.fault.ReadCert as reading
+use Rattle.cert_format.specs.declared.fault.ReadCert.TheVariants as readings
+use Rattle.cert_format.specs.Cert.{Cert, IsCert}
+use Rattle.cert_format.specs.Text.{text_of}
+use Rattle.cert_format.specs.Valid.{IsValid}
+use Rattle.cert_checker.specs.declared.refusal.Refusal.{Refusal}
+use Rattle.cert_checker.specs.declared.refusal.Refusal.TheVariants.{Text, Shape, Plan, Split, ProofPlace, Proof, WrongKind, WrongCost, WrongBound, WrongGap, Memory}
+use Rattle.cert_checker.specs.declared.verdict.Verdict.{Verdict}
+use Rattle.cert_checker.specs.declared.verdict.Verdict.TheVariants as verdicts
+use Rattle.cert_checker.specs.Refusals.{IsFirstRefusal}
+
+-- the refusal for what could not be read
+abbrev pub of_reading : reading.ReadCert → Refusal
+of_reading (readings.Text fault) = Text fault
+of_reading readings.Memory = Memory
+
+-- the numbers of a claim
+abbrev pub verdict_of : Claimed → Verdict
+verdict_of (with_gap plan cost base bound gap) = verdicts.Gap cost base bound gap
+verdict_of (with_bound bound) = verdicts.BoundOnly bound
+verdict_of no_plan = verdicts.NoPlan
+
+-- a certificate has this text
+pub record Spells (bytes : List ℕ) (c : Cert) : Type 0 where
+  pub is : IsCert c
+  pub text : bytes ≡ text_of c
+
+-- Some certificate has this text and is valid for the network, and the verdict has its numbers.
+pub record IsAccepted (n : Net) (bytes : List ℕ) (v : Verdict) : Type 0 where
+  pub cert : Cert
+  pub spelled : Spells bytes cert
+  pub valid : IsValid n cert
+  pub verdict : v ≡ verdict_of cert.claim
+
+-- some certificate has this text, and this is the first cause to refuse it
+pub record GivesFirst (n : Net) (bytes : List ℕ) (r : Refusal) : Type 0 where
+  pub cert : Cert
+  pub spelled : Spells bytes cert
+  pub first : IsFirstRefusal n cert r
+
+-- no certificate has this text, and this is its first faulty line
+pub record IsNoText (bytes : List ℕ) (line : ℕ) : Type 0 where
+  pub none : (c : Cert) → ¬ Spells bytes c
+  pub first : IsFaultyLine Cert IsCert text_of bytes line
+
+-- Why a text is refused. Want of memory says nothing of the text.
+abbrev pub IsRefused : Net → List ℕ → Refusal → Type 0
+IsRefused n bytes (Text fault) = IsNoText bytes fault.line
+IsRefused n bytes Shape = GivesFirst n bytes Shape
+IsRefused n bytes (Plan fault) = GivesFirst n bytes (Plan fault)
+IsRefused n bytes (Split t) = GivesFirst n bytes (Split t)
+IsRefused n bytes (ProofPlace k) = GivesFirst n bytes (ProofPlace k)
+IsRefused n bytes (Proof node fault) = GivesFirst n bytes (Proof node fault)
+IsRefused n bytes WrongKind = GivesFirst n bytes WrongKind
+IsRefused n bytes WrongCost = GivesFirst n bytes WrongCost
+IsRefused n bytes WrongBound = GivesFirst n bytes WrongBound
+IsRefused n bytes WrongGap = GivesFirst n bytes WrongGap
+IsRefused n bytes Memory = Unit {0}
+
+-- the verdict of a claim, unless memory ran out
+abbrev pub IsTakenAs : Claimed → Result Verdict Refusal → Type 0
+IsTakenAs claim (Ok v) = v ≡ verdict_of claim
+IsTakenAs claim (Err r) = r ≡ Memory

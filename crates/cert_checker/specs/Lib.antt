@@ -1,0 +1,6 @@
+pub mod Refusals
+pub mod Answers
+pub mod Claims
+pub mod Trees
+pub mod Holding
+pub mod Judging

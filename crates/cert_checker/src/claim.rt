@@ -1,0 +1,132 @@
+//! The check of what a certificate claims, against what its plan costs and what its tree shows.
+
+ghost use Rattle.std.specs.Prelude.{◌≡◌, ◌≢◌, pos, ◌-ℤ◌, ◌*ℤ◌, FitsSigned, IfOk, IfErr};
+ghost use Rattle.std.specs.Int.{w128};
+ghost use Rattle.pool_model.specs.Network.{net_of};
+ghost use Rattle.cert_format.specs.Shown.{claimed};
+ghost use Rattle.cert_checker.specs.Answers.{verdict_of};
+ghost use Rattle.cert_checker.specs.Claims.{IsClaimCost, IsPlanRefusal, IsClaimRefusal, IsBoundRefusal, AreClaimed, HasRoom};
+
+use crate::refusal::Refusal;
+use crate::verdict::Verdict;
+use blend_network::Network;
+use cert_format::Claim;
+use plan_core::{Cost, check_plan};
+
+/// What the plan that is claimed costs, where there is one; Plan, exactly where it breaks a rule.
+pub(crate) fn plan_cost(net: &Network, claim: &Claim) -> Result<Option<Cost>, Refusal>
+    ensures cost { IfOk result (IsClaimCost (net_of net.now) (claimed claim.now)) }
+    ensures fault { IfErr result (IsPlanRefusal (net_of net.now) (claimed claim.now)) }
+{
+    match claim {
+        Claim::Gap { plan, .. } => Ok(Some(check_plan(net, plan)?)),
+        Claim::Bound { .. } | Claim::NoPlan => Ok(None),
+    }
+}
+
+/// The numbers of the claim, or the first of them that is not what the plan costs and the tree shows.
+pub(crate) fn check_claim(
+    claim: &Claim,
+    cost: Option<Cost>,
+    found: Option<i128>,
+) -> Result<Verdict, Refusal>
+    requires { HasRoom cost found }
+    ensures verdict { IfOk result (λ v. v ≡ verdict_of (claimed claim.now)) }
+    ensures claimed { IfOk result (λ _. AreClaimed cost found (claimed claim.now)) }
+    ensures refused { IfErr result (IsClaimRefusal cost found (claimed claim.now)) }
+{
+    match claim {
+        Claim::NoPlan => check_no_plan(found),
+        Claim::Bound { bound } => {
+            check_bound(found, *bound)?;
+            Ok(Verdict::BoundOnly { bound: *bound })
+        }
+        Claim::Gap {
+            cost: num,
+            base,
+            bound,
+            gap,
+            ..
+        } => {
+            check_kind(found)?;
+            check_cost(
+                cost,
+                Cost {
+                    num: *num,
+                    base: *base,
+                },
+            )?;
+            check_bound(found, *bound)?;
+            check_gap(*num, *base, *bound, *gap)?;
+            Ok(Verdict::Gap {
+                cost: *num,
+                base: *base,
+                bound: *bound,
+                gap: *gap,
+            })
+        }
+    }
+}
+
+/// WrongKind, exactly where a leaf may hold a plan.
+fn check_no_plan(found: Option<i128>) -> Result<Verdict, Refusal>
+    ensures verdict { IfOk result (λ v. v ≡ Verdict.NoPlan) }
+    ensures none { IfOk result (λ _. found ≡ None) }
+    ensures kind { IfErr result (λ r. r ≡ Refusal.WrongKind) }
+    ensures some { IfErr result (λ _. found ≢ None) }
+{
+    match found {
+        None => Ok(Verdict::NoPlan),
+        Some(_) => Err(Refusal::WrongKind),
+    }
+}
+
+/// WrongKind, exactly where no leaf may hold a plan.
+fn check_kind(found: Option<i128>) -> Result<(), Refusal>
+    ensures some { IfOk result (λ _. found ≢ None) }
+    ensures kind { IfErr result (λ r. r ≡ Refusal.WrongKind) }
+    ensures none { IfErr result (λ _. found ≡ None) }
+{
+    match found {
+        None => Err(Refusal::WrongKind),
+        Some(_) => Ok(()),
+    }
+}
+
+/// WrongCost, exactly where the cost is another.
+fn check_cost(cost: Option<Cost>, claimed: Cost) -> Result<(), Refusal>
+    ensures same { IfOk result (λ _. cost ≡ Some claimed) }
+    ensures wrong { IfErr result (λ r. r ≡ Refusal.WrongCost) }
+    ensures other { IfErr result (λ _. cost ≢ Some claimed) }
+{
+    if cost == Some(claimed) {
+        Ok(())
+    } else {
+        Err(Refusal::WrongCost)
+    }
+}
+
+/// WrongKind, exactly where no leaf may hold a plan; WrongBound, exactly where the bound is another.
+fn check_bound(found: Option<i128>, bound: i128) -> Result<(), Refusal>
+    ensures same { IfOk result (λ _. found ≡ Some bound) }
+    ensures refused { IfErr result (IsBoundRefusal found bound) }
+{
+    match found {
+        None => Err(Refusal::WrongKind),
+        Some(least) if least == bound => Ok(()),
+        Some(_) => Err(Refusal::WrongBound),
+    }
+}
+
+/// WrongGap, exactly where the gap is not the cost less the bound, over the base.
+fn check_gap(cost: i128, base: u64, bound: i128, gap: i128) -> Result<(), Refusal>
+    requires { FitsSigned w128 (bound *ℤ pos base) }
+    ensures same { IfOk result (λ _. gap ≡ cost -ℤ bound *ℤ pos base) }
+    ensures wrong { IfErr result (λ r. r ≡ Refusal.WrongGap) }
+    ensures other { IfErr result (λ _. gap ≢ cost -ℤ bound *ℤ pos base) }
+{
+    match cost.checked_sub(bound * i128::from(base)) {
+        Some(difference) if difference == gap => Ok(()),
+        _ => Err(Refusal::WrongGap),
+    }
+}

@@ -1,0 +1,82 @@
+//! Why a certificate is refused.
+
+ghost use Rattle.std.specs.Prelude.{◌≡◌};
+ghost use Rattle.cert_checker.specs.Answers.{of_reading};
+ghost use Rattle.cert_checker.specs.declared.refusal.Refusal.TheVariants as refusals;
+
+use cert_format::{ReadCert, TextFault};
+use edge_io::Memory;
+use plan_core::PlanFault;
+use row_book::ProofFault;
+use std::alloc::{AllocError, AllocFailed};
+
+/// Why a certificate is refused. The causes are looked for in this order, and the first is answered.
+#[derive(Clone, Copy, Debug, PartialEq, Eq)]
+pub enum Refusal {
+    /// No certificate has this text.
+    Text(TextFault),
+    /// The shape is not the network's counts.
+    Shape,
+    /// The plan breaks a rule of the network.
+    Plan(PlanFault),
+    /// This split, from 0, names no leaf, no coordinate or a cut that is not strictly inside the leaf's box; or it is the
+    /// number 20,000, which is one too many.
+    Split(u32),
+    /// This proof line, from 0, names no node, or one that is not above that of the line before.
+    ProofPlace(u32),
+    /// The proof of this node is not in order in the node's box.
+    Proof(u32, ProofFault),
+    /// It is claimed that no plan obeys while a leaf may hold one, or something else while no leaf may.
+    WrongKind,
+    /// The cost over the base is not the plan's, as it is counted.
+    WrongCost,
+    /// The bound is not the tree's.
+    WrongBound,
+    /// The gap is not the cost less the bound, over the base.
+    WrongGap,
+    /// There was no memory.
+    Memory,
+}
+
+impl From<ReadCert> for Refusal {
+    ghost from_gives = { λ e r. r ≡ of_reading e };
+
+    fn from(e: ReadCert) -> Refusal {
+        match e {
+            ReadCert::Text(fault) => Refusal::Text(fault),
+            ReadCert::Memory => Refusal::Memory,
+        }
+    }
+}
+
+impl From<PlanFault> for Refusal {
+    ghost from_gives = { λ f r. r ≡ refusals.Plan f };
+
+    fn from(f: PlanFault) -> Refusal {
+        Refusal::Plan(f)
+    }
+}
+
+impl From<Memory> for Refusal {
+    ghost from_gives = { λ _ r. r ≡ refusals.Memory };
+
+    fn from(_e: Memory) -> Refusal {
+        Refusal::Memory
+    }
+}
+
+impl From<AllocError> for Refusal {
+    ghost from_gives = { λ _ r. r ≡ refusals.Memory };
+
+    fn from(_e: AllocError) -> Refusal {
+        Refusal::Memory
+    }
+}
+
+impl<T: Drop> From<AllocFailed<T>> for Refusal {
+    ghost from_gives = { λ _ r. r ≡ refusals.Memory };
+
+    fn from(_e: AllocFailed<T>) -> Refusal {
+        Refusal::Memory
+    }
+}
