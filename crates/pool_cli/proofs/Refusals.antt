@@ -19,4 +19,4 @@ long_text bytes h = taken (nat_lt 4194304 (length bytes)) _ _ (let t : nat_lt 41
 pub long_file : (files : Option (List (List ℕ × List ℕ))) (told : List (List ℕ × List ℕ)) (name : List ℕ) (before after : ℕ) → IsTooLong files name 4194304 before after → files ≡ Some told → RefusesUnder told name TooLong
 long_file files told name before after long is =
     let more = subst (λ (f : Option (List (List ℕ × List ℕ))). IsTooLong f name 4194304 before after) is long in
-    record { bytes = more.bytes; file = more.are; refused = long_text more.bytes more.more }
+    record { bytes = more.bytes; file = more.are; refused = long_text more.bytes more.more; own = tt }

@@ -1,5 +1,10 @@
 pub mod Words
+pub mod Requests
 pub mod Solution
 pub mod Messages
+pub mod Verdicts
+pub mod Reads
+pub mod Checking
 pub mod Running
+pub mod Checked
 pub mod Cheapest

@@ -1,6 +1,7 @@
 -- The code of each status, and its line on standard error.
 use Rattle.std.specs.Prelude.{ℕ, List, [], ◌++◌, codes, pos}
 use Rattle.std.specs.Fmt.{signed_decimal}
+use Rattle.blend_network.specs.FirstFault as faults
 use Rattle.network_json.specs.declared.fault.ReadNet.{ReadNet}
 use Rattle.network_json.specs.declared.fault.ReadNet.TheVariants as causes
 use Rattle.pool_cli.specs.declared.status.Status.{Status}
@@ -9,12 +10,15 @@ use Rattle.pool_cli.specs.declared.status.Status.TheVariants as statuses
 abbrev pub code_of : Status → ℕ
 code_of statuses.Closed = 0
 code_of statuses.Stopped = 10
+code_of statuses.Accepted = 0
+code_of (statuses.Refused refusal) = 1
 code_of statuses.Usage = 2
 code_of (statuses.NetworkRefused cause) = 3
+code_of statuses.CertTooLong = 5
 code_of statuses.ReadFault = 20
 code_of statuses.WriteFault = 21
 code_of statuses.OutOfMemory = 23
-code_of statuses.FormNotYet = 40
+code_of statuses.MinimumNotYet = 41
 
 -- the number of a reason to refuse a file
 abbrev pub cause_number : ReadNet → ℕ
@@ -29,16 +33,21 @@ cause_number (causes.BadQuantity at) = 8
 cause_number (causes.Net fault) = 9
 cause_number causes.Memory = 10
 
--- a line: the program's name, and what it says
-abbrev pub message : List ℕ → List ℕ
-message text = codes "pool: " ++ text ++ codes "\n"
+-- what a line says of a reason: its number, and where rows are refused the number of their fault behind it
+abbrev pub reason_of : ReadNet → List ℕ
+reason_of (causes.Net fault) = codes "9 " ++ signed_decimal (pos (faults.cause_number fault))
+reason_of cause = signed_decimal (pos (cause_number cause))
 
+-- the line on standard error
 abbrev pub message_of : Status → List ℕ
 message_of statuses.Closed = []
 message_of statuses.Stopped = []
+message_of statuses.Accepted = []
+message_of (statuses.Refused refusal) = []
 message_of statuses.Usage = codes "pool: usage: solve NET, check NET CERT, report NET CERT, formulate NET, make N or trial N\n"
-message_of (statuses.NetworkRefused cause) = codes "pool: network refused: " ++ (signed_decimal (pos (cause_number cause)) ++ codes "\n")
+message_of (statuses.NetworkRefused cause) = codes "pool: network refused: " ++ (reason_of cause ++ codes "\n")
+message_of statuses.CertTooLong = codes "pool: certificate too long\n"
 message_of statuses.ReadFault = codes "pool: read fault\n"
 message_of statuses.WriteFault = codes "pool: write fault\n"
 message_of statuses.OutOfMemory = codes "pool: out of memory\n"
-message_of statuses.FormNotYet = codes "pool: form not yet\n"
+message_of statuses.MinimumNotYet = codes "pool: minimum not yet\n"

@@ -1,19 +1,22 @@
 //! The top call: what the program does, over any shelf of files and any sink.
 //!
 //! `run` takes the words of the command line, a shelf that files are read from and a sink for what is printed, and answers
-//! a status. Its contract is the promise of the whole program: what the sink took is the text of a certificate whose plan
-//! obeys the network of the named file exactly, whose bound holds for every plan of any denominator, and whose gap is
-//! their exact difference; and it says when each other status comes. The words of that contract are in
-//! `specs/Running.antt` and `specs/Solution.antt`.
+//! a status. Its contract is the promise of the whole program. Of `solve`, what the sink took is the text of a certificate
+//! whose plan obeys the network of the named file exactly, whose bound holds for every plan of any denominator, and whose
+//! gap is their exact difference. Of `check`, it is the line of a valid certificate, of which all that is claimed follows,
+//! or the line of the first cause to refuse it. And it says when each other status comes. The words of that contract are
+//! in `specs/Running.antt`, `specs/Solution.antt` and `specs/Checking.antt`.
 //!
 //! The layer above may use `run`, `Status::code` and `write_message`; it brings the real files and streams. What a file
 //! says is left to `network_json`, and the text of a certificate to `cert_format`.
 #![tactic(auto)]
 
+mod checking;
 mod command;
 mod solution;
 mod starting;
 mod status;
+mod verdict;
 mod words;
 
 pub use command::run;

@@ -1,19 +1,20 @@
 //! The certificate of a network: its cheapest starting plan, the reach bound, and the gap between the two.
 
-ghost use Rattle.std.specs.Prelude.{◌≡◌, ◌≤◌, ◌^◌, ◌*◌, IsTrue, ◌↔◌, IfOk, IfErr, unsigned_abs};
+ghost use Rattle.std.specs.Prelude.{◌≡◌, ◌≤◌, ◌^◌, ◌*◌, IfOk, IfErr, unsigned_abs};
 ghost use Rattle.pool_model.specs.Network.{net_of};
+ghost use Rattle.pool_model.specs.Starting.{HasNoMinima};
 ghost use Rattle.plan_core.specs.Shown.{written_of};
 ghost use Rattle.cert_format.specs.Cert.{IsShaped};
 ghost use Rattle.cert_format.specs.Shown.{view};
-ghost use Rattle.pool_cli.specs.Solution.{IsSolution, IsCheapest, IsSolvedYet};
+ghost use Rattle.pool_cli.specs.Solution.{IsSolution, IsCheapest};
 ghost use Rattle.pool_cli.specs.Running.{IsUnsolved};
 
-use crate::starting::{cheapest_direct, direct_cost, has_no_minima};
+use crate::starting::{cheapest_way, has_minimum, way_cost};
 use crate::status::Status;
 use blend_network::Network;
 use cert_format::{Certificate, Claim};
 use edge_io::Memory;
-use plan_core::{Way, WrittenPlan, simple_plan, zero_plan};
+use plan_core::{WrittenPlan, simple_plan, zero_plan};
 use std::alloc::Global;
 
 /// The gap that closes a search: 0.01 of money, in picos.
@@ -37,45 +38,38 @@ struct Start {
 pub(crate) fn solution_of(alloc: Global, net: &Network) -> Result<Solution, Status>
     ensures solved { IfOk result (λ s. IsSolution (net_of net.now) s.closed (view s.certificate)) }
     ensures shaped { IfOk result (λ s. IsShaped (view s.certificate)) }
-    ensures unsolved { IfErr result IsUnsolved }
+    ensures minima { IfOk result (λ _. HasNoMinima (net_of net.now)) }
+    ensures unsolved { IfErr result (IsUnsolved (net_of net.now)) }
 {
-    if !is_solved_yet(net) {
-        return Err(Status::FormNotYet);
+    if has_minimum(net) {
+        return Err(Status::MinimumNotYet);
     }
     match cheapest_start(alloc, net) {
-        Ok(start) => Ok(claimed(net, start)),
+        Ok(start) => Ok(claimed(alloc, net, start)),
         Err(Memory) => Err(Status::OutOfMemory),
     }
 }
 
-/// Whether the network has no pools, and no product that must take anything.
-fn is_solved_yet(net: &Network) -> bool
-    ensures { IsTrue result ↔ IsSolvedYet (net_of net.now) }
-{
-    let [_, pools, _, _, _, _, _] = net.counts();
-    pools == 0 && has_no_minima(net)
-}
-
-/// The cheapest of the starting plans; at a tie the zero plan, and then the first direct.
+/// The cheapest of the starting plans; at a tie the zero plan, then the first path, and then the first direct.
 fn cheapest_start(alloc: Global, net: &Network) -> Result<Start, Memory>
-    requires { IsSolvedYet (net_of net.now) }
+    requires { HasNoMinima (net_of net.now) }
     ensures cheapest { IfOk result (λ s. IsCheapest (net_of net.now) (written_of s.plan) s.cost) }
     ensures size { IfOk result (λ s. unsigned_abs s.cost ≤ 2 * 10 ^ 24) }
 {
-    match cheapest_direct(net) {
+    match cheapest_way(net) {
         None => Ok(Start {
             plan: zero_plan(alloc, net)?,
             cost: 0,
         }),
-        Some(direct) => Ok(Start {
-            plan: simple_plan(alloc, net, Way::Direct(direct))?,
-            cost: direct_cost(net, direct),
+        Some(way) => Ok(Start {
+            plan: simple_plan(alloc, net, way)?,
+            cost: way_cost(net, way),
         }),
     }
 }
 
 /// The certificate that claims a start, beside the reach bound.
-fn claimed(net: &Network, start: Start) -> Solution
+fn claimed(alloc: Global, net: &Network, start: Start) -> Solution
     requires cheapest { IsCheapest (net_of net.now) (written_of start.plan) start.cost }
     requires size { unsigned_abs start.cost ≤ 2 * 10 ^ 24 }
     ensures solved { IsSolution (net_of net.now) result.closed (view result.certificate) }
@@ -94,6 +88,8 @@ fn claimed(net: &Network, start: Start) -> Solution
                 bound,
                 gap,
             },
+            splits: Vec::new(alloc),
+            proofs: Vec::new(alloc),
         },
         closed: gap <= ASKED_GAP,
     }

@@ -1,15 +1,55 @@
-//! The cheapest starting plan of a network without pools and minima.
+//! The cheapest of the ways, by the costs of their simple plans.
 
-ghost use Rattle.std.specs.Prelude.{◌≡◌, ℕ, ◌<◌, ◌≤◌, ◌^◌, ◌*◌, pos, ◌≤ℤ◌, ◌<ℤ◌, ◌-ℤ◌, ◌*ℤ◌, IsTrue, ◌↔◌, IfSome, IfNone, unsigned_abs};
+ghost use Rattle.std.specs.Prelude.{◌≡◌, ℕ, ◌<◌, ◌≤◌, ◌^◌, ◌*◌, pos, ◌≤ℤ◌, ◌<ℤ◌, ◌-ℤ◌, ◌*ℤ◌, true, false, Some, length, unsigned_abs};
 ghost use Rattle.pool_model.specs.Network.{net_of, IsLimited};
+ghost use Rattle.pool_model.specs.Paths.{paths_of, path_at};
 ghost use Rattle.pool_model.specs.Starting.{HasNoMinima};
-ghost use Rattle.pool_cli.specs.Cheapest.{direct_cost as direct_cost_lem};
+ghost use Rattle.plan_core.specs.Shown.{IsInRange};
+ghost use Rattle.pool_cli.specs.Cheapest.{direct_cost as direct_cost_lem, path_cost as path_cost_lem, way_cost as way_cost_lem, IsLeastBelow, IsLeastWay};
+ghost use Rattle.pool_cli.specs.Solution.{HasMinimum};
 
 use blend_network::Network;
-use plan_core::direct_flow;
+use plan_core::{Way, direct_flow, path_flow};
+
+/// What the simple plan of a way costs, in picos over 1.
+pub(crate) fn way_cost(net: &Network, way: Way) -> i128
+    requires { IsInRange (net_of net.now) way }
+    ensures value { result ≡ way_cost_lem (net_of net.now) way }
+    ensures size { unsigned_abs result ≤ 2 * 10 ^ 24 }
+{
+    match way {
+        Way::Through(path) => path_cost(net, path),
+        Way::Direct(direct) => direct_cost(net, direct),
+    }
+}
+
+/// What the simple plan of a path costs, in picos over 1.
+fn path_cost(net: &Network, path: u32) -> i128
+    requires { path < length (paths_of (net_of net.now)) }
+    ensures value { result ≡ path_cost_lem (net_of net.now) path }
+    ensures size { unsigned_abs result ≤ 2 * 10 ^ 24 }
+{
+    let (source, product) = path_ends(net, path);
+    earned(margin(net, source, product), path_flow(net, path))
+}
+
+/// The source and the product of a path.
+fn path_ends(net: &Network, path: u32) -> (u32, u32)
+    requires { path < length (paths_of (net_of net.now)) }
+    ensures source { result.0 ≡ (net_of net.now).feed_source (path_at (net_of net.now) path).feed }
+    ensures product { result.1 ≡ (net_of net.now).out_product (path_at (net_of net.now) path).out }
+    ensures sources { result.0 < (net_of net.now).sources }
+    ensures products { result.1 < (net_of net.now).products }
+{
+    let _counts = net.counts();
+    let (feed, out) = net.path(path);
+    let (source, _) = net.feed(feed);
+    let (_, product) = net.out(out);
+    (source, product)
+}
 
 /// What the simple plan of a direct costs, in picos over 1.
-pub(crate) fn direct_cost(net: &Network, direct: u32) -> i128
+fn direct_cost(net: &Network, direct: u32) -> i128
     requires { direct < (net_of net.now).directs }
     ensures value { result ≡ direct_cost_lem (net_of net.now) direct }
     ensures size { unsigned_abs result ≤ 2 * 10 ^ 24 }
@@ -40,14 +80,52 @@ fn earned(margin: i128, flow: u64) -> i128
     margin * i128::from(flow)
 }
 
-/// The first of the directs whose simple plans cost least, where that is below 0.
-pub(crate) fn cheapest_direct(net: &Network) -> Option<u32>
-    ensures direct { IfSome result (λ e. e < (net_of net.now).directs) }
-    ensures earns { IfSome result (λ e. direct_cost_lem (net_of net.now) e <ℤ pos 0) }
-    ensures cheapest { IfSome result (λ e. (k : ℕ) → k < (net_of net.now).directs → direct_cost_lem (net_of net.now) e ≤ℤ direct_cost_lem (net_of net.now) k) }
-    ensures first { IfSome result (λ e. (k : ℕ) → k < e → direct_cost_lem (net_of net.now) e <ℤ direct_cost_lem (net_of net.now) k) }
+/// The first of the ways whose simple plans cost least, paths before directs, where that is below 0.
+pub(crate) fn cheapest_way(net: &Network) -> Option<Way>
     ensures limited { IsLimited (net_of net.now) }
-    ensures none { IfNone result ((k : ℕ) → k < (net_of net.now).directs → pos 0 ≤ℤ direct_cost_lem (net_of net.now) k) }
+    ensures least { IsLeastWay (net_of net.now) result }
+{
+    let _counts = net.counts();
+    match (cheapest_path(net), cheapest_direct(net)) {
+        (None, None) => None,
+        (None, Some(direct)) => Some(Way::Direct(direct)),
+        (Some(path), None) => Some(Way::Through(path)),
+        (Some(path), Some(direct)) => Some(cheaper(net, path, direct)),
+    }
+}
+
+/// The path, or the direct where that is cheaper.
+fn cheaper(net: &Network, path: u32, direct: u32) -> Way
+    requires path { IsLeastBelow (path_cost_lem (net_of net.now)) (length (paths_of (net_of net.now))) (Some path) }
+    requires direct { IsLeastBelow (direct_cost_lem (net_of net.now)) (net_of net.now).directs (Some direct) }
+    ensures { IsLeastWay (net_of net.now) (Some result) }
+{
+    if direct_cost(net, direct) < path_cost(net, path) {
+        Way::Direct(direct)
+    } else {
+        Way::Through(path)
+    }
+}
+
+/// The first of the paths whose simple plans cost least, where that is below 0.
+fn cheapest_path(net: &Network) -> Option<u32>
+    ensures { IsLeastBelow (path_cost_lem (net_of net.now)) (length (paths_of (net_of net.now))) result }
+{
+    let mut best = None;
+    let mut least = 0;
+    for path in 0..net.paths() {
+        let cost = path_cost(net, path);
+        if cost < least {
+            best = Some(path);
+            least = cost;
+        }
+    }
+    best
+}
+
+/// The first of the directs whose simple plans cost least, where that is below 0.
+fn cheapest_direct(net: &Network) -> Option<u32>
+    ensures { IsLeastBelow (direct_cost_lem (net_of net.now)) (net_of net.now).directs result }
 {
     let [_, _, _, _, _, _, directs] = net.counts();
     let mut best = None;
@@ -62,15 +140,16 @@ pub(crate) fn cheapest_direct(net: &Network) -> Option<u32>
     best
 }
 
-/// Whether no product must take anything.
-pub(crate) fn has_no_minima(net: &Network) -> bool
-    ensures { IsTrue result ↔ HasNoMinima (net_of net.now) }
+/// Whether a product must take something.
+pub(crate) fn has_minimum(net: &Network) -> bool
+    ensures some { result ≡ true → HasMinimum (net_of net.now) }
+    ensures none { result ≡ false → HasNoMinima (net_of net.now) }
 {
     let [_, _, products, _, _, _, _] = net.counts();
     for product in 0..products {
         if net.product_min(product) != 0 {
-            return false;
+            return true;
         }
     }
-    true
+    false
 }

@@ -2,10 +2,13 @@
 
 ghost use Rattle.std.specs.Prelude.{◌≡◌, ◌++◌, codes, pos, OnErr};
 ghost use Rattle.std.specs.Fmt.{signed_decimal};
-ghost use Rattle.edge_io.specs.Counts.{Rose};
+ghost use Rattle.edge_io.specs.Counts.{Grows, Rose};
 ghost use Rattle.edge_io.specs.Writing.{Wrote};
-ghost use Rattle.pool_cli.specs.Messages.{cause_number, code_of, message_of};
+ghost use Rattle.blend_network.specs.FirstFault as faults;
+ghost use Rattle.pool_cli.specs.Messages.{cause_number, code_of, message_of, reason_of};
 
+use blend_network::NetFault;
+use cert_checker::Refusal;
 use edge_io::{Sink, WriteFault, write_number, write_whole};
 use network_json::ReadNet;
 
@@ -16,18 +19,24 @@ pub enum Status {
     Closed,
     /// A plan was printed, and its gap is above the asked one.
     Stopped,
+    /// The certificate is valid for the network.
+    Accepted,
+    /// The certificate is refused.
+    Refused(Refusal),
     /// The words ask nothing that the program does.
     Usage,
     /// The file is no network.
     NetworkRefused(ReadNet),
+    /// The certificate is longer than may be.
+    CertTooLong,
     /// The shelf failed.
     ReadFault,
     /// The sink failed.
     WriteFault,
     /// Memory ran out.
     OutOfMemory,
-    /// The network has pools or minima, which are not solved yet.
-    FormNotYet,
+    /// A product must take something; such networks are not solved yet.
+    MinimumNotYet,
 }
 
 impl Status {
@@ -36,14 +45,16 @@ impl Status {
         ensures { result ≡ code_of self.now }
     {
         match self {
-            Status::Closed => 0,
+            Status::Closed | Status::Accepted => 0,
+            Status::Refused(_) => 1,
             Status::Stopped => 10,
             Status::Usage => 2,
             Status::NetworkRefused(_) => 3,
+            Status::CertTooLong => 5,
             Status::ReadFault => 20,
             Status::WriteFault => 21,
             Status::OutOfMemory => 23,
-            Status::FormNotYet => 40,
+            Status::MinimumNotYet => 41,
         }
     }
 }
@@ -56,27 +67,52 @@ pub fn write_message<K: Sink>(status: &Status, err: &mut K) -> Result<(), WriteF
     ensures failed { OnErr result (Rose (K.faults err.old) (K.faults err.new)) }
 {
     match status {
-        Status::Closed | Status::Stopped => write_whole(err, b""),
+        Status::Closed | Status::Stopped | Status::Accepted | Status::Refused(_) => {
+            write_whole(err, b"")
+        }
         Status::Usage => write_whole(err, USAGE),
         Status::NetworkRefused(cause) => write_refusal(cause, err),
+        Status::CertTooLong => write_whole(err, b"pool: certificate too long\n"),
         Status::ReadFault => write_whole(err, b"pool: read fault\n"),
         Status::WriteFault => write_whole(err, b"pool: write fault\n"),
         Status::OutOfMemory => write_whole(err, b"pool: out of memory\n"),
-        Status::FormNotYet => write_whole(err, b"pool: form not yet\n"),
+        Status::MinimumNotYet => write_whole(err, b"pool: minimum not yet\n"),
     }
 }
 
 const USAGE: &[u8] =
     b"pool: usage: solve NET, check NET CERT, report NET CERT, formulate NET, make N or trial N\n";
 
-/// Writes the line of a refusal, with the number of its cause.
+/// Writes the line of a refusal.
 fn write_refusal<K: Sink>(cause: &ReadNet, err: &mut K) -> Result<(), WriteFault>
-    ensures wrote { Wrote result (K.taken err.old) (codes "pool: network refused: " ++ (signed_decimal (pos (cause_number cause.now)) ++ codes "\n")) (K.taken err.new) }
+    ensures wrote { Wrote result (K.taken err.old) (codes "pool: network refused: " ++ (reason_of cause.now ++ codes "\n")) (K.taken err.new) }
     ensures failed { OnErr result (Rose (K.faults err.old) (K.faults err.new)) }
 {
     write_whole(err, b"pool: network refused: ")?;
-    write_number(err, number_of(cause))?;
+    write_reason(cause, err)?;
     write_whole(err, b"\n")
+}
+
+/// Writes the number of the cause, and where the rows were refused the number of their fault behind it.
+fn write_reason<K: Sink>(cause: &ReadNet, err: &mut K) -> Result<(), WriteFault>
+    ensures wrote { Wrote result (K.taken err.old) (reason_of cause.now) (K.taken err.new) }
+    ensures failed { OnErr result (Rose (K.faults err.old) (K.faults err.new)) }
+    ensures faults_grow { Grows (K.faults err.old) (K.faults err.new) }
+{
+    match cause {
+        ReadNet::Net(fault) => write_rows_fault(fault, err),
+        cause => write_number(err, number_of(cause)),
+    }
+}
+
+/// Writes the number of that cause, and behind it the number of the rows' fault.
+fn write_rows_fault<K: Sink>(fault: &NetFault, err: &mut K) -> Result<(), WriteFault>
+    ensures wrote { Wrote result (K.taken err.old) (codes "9 " ++ signed_decimal (pos (faults.cause_number fault.now))) (K.taken err.new) }
+    ensures failed { OnErr result (Rose (K.faults err.old) (K.faults err.new)) }
+    ensures faults_grow { Grows (K.faults err.old) (K.faults err.new) }
+{
+    write_whole(err, b"9 ")?;
+    write_number(err, fault_number(fault))
 }
 
 /// The number of a reason to refuse a file.
@@ -94,5 +130,26 @@ fn number_of(cause: &ReadNet) -> i128
         ReadNet::BadQuantity(_) => 8,
         ReadNet::Net(_) => 9,
         ReadNet::Memory => 10,
+    }
+}
+
+/// The number of a fault of rows.
+fn fault_number(fault: &NetFault) -> i128
+    ensures { result ≡ pos (faults.cause_number fault.now) }
+{
+    match fault {
+        NetFault::TooMany(_) => 1,
+        NetFault::BadName(_, _) => 2,
+        NetFault::DuplicateName(_, _) => 3,
+        NetFault::UnknownName(_) => 4,
+        NetFault::ArcBackwards(_) => 5,
+        NetFault::PoolToPool(_) => 6,
+        NetFault::DuplicateArc(_) => 7,
+        NetFault::PoolWithoutInput(_) => 8,
+        NetFault::PoolWithoutOutput(_) => 9,
+        NetFault::TooManyPaths => 10,
+        NetFault::OutOfRange(_, _) => 11,
+        NetFault::LeastAboveMost(_) => 12,
+        NetFault::Memory => 13,
     }
 }

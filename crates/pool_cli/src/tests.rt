@@ -7,20 +7,61 @@ use std::test::Fail;
 const ONE_PRODUCT: &str =
     r#"{"version":1,"qualities":["sulfur"],"sources":[{"name":"A","cost":6,"max":100,"quality":{"sulfur":3}}],"products":[{"name":"X","price":9,"max":100,"most":{"sulfur":3}}],"arcs":[["A","X"]]}"#;
 
-const ONE_PRODUCT_CERTIFICATE: &str =
-    "poolcert 1\nkind gap\nshape 1 0 1 1 0 0 1\nplan 1 1\nweights\noutflows\ndirect 100000000\nsplits 0\nproofs 0\ncost -300000000000000 1\nbound -300000000000000\ngap 0 1\nend\n";
+/// Networks, and what `solve` answers and prints: one product; one that takes nothing; nothing at all; two sources that
+/// feed a pool; the first network of Haverly (1978), of which no way alone earns; and waste water, where a path and a direct
+/// earn the same, and the path goes first.
+const SOLVED: [(&str, u8, &str); 6] = [
+    (
+        ONE_PRODUCT,
+        0,
+        "poolcert 1\nkind gap\nshape 1 0 1 1 0 0 1\nplan 1 1\nweights\noutflows\ndirect 100000000\nsplits 0\nproofs 0\ncost -300000000000000 1\nbound -300000000000000\ngap 0 1\nend\n",
+    ),
+    (
+        r#"{"version":1,"qualities":["sulfur"],"sources":[{"name":"A","cost":6,"max":100,"quality":{"sulfur":3}}],"products":[{"name":"X","price":9,"max":0,"most":{"sulfur":3}}],"arcs":[["A","X"]]}"#,
+        0,
+        "poolcert 1\nkind gap\nshape 1 0 1 1 0 0 1\nplan 1 1\nweights\noutflows\ndirect 0\nsplits 0\nproofs 0\ncost 0 1\nbound 0\ngap 0 1\nend\n",
+    ),
+    (
+        r#"{"version":1,"sources":[],"products":[],"arcs":[]}"#,
+        0,
+        "poolcert 1\nkind gap\nshape 0 0 0 0 0 0 0\nplan 1 1\nweights\noutflows\ndirect\nsplits 0\nproofs 0\ncost 0 1\nbound 0\ngap 0 1\nend\n",
+    ),
+    (
+        r#"{"version":1,"qualities":["sulfur"],"sources":[{"name":"A","cost":6,"quality":{"sulfur":3}},{"name":"B","cost":16,"quality":{"sulfur":1}}],"pools":[{"name":"P"}],"products":[{"name":"X","price":9,"max":100}],"arcs":[["A","P"],["B","P"],["P","X"]]}"#,
+        0,
+        "poolcert 1\nkind gap\nshape 2 1 1 1 2 1 0\nplan 1 1\nweights 1 0\noutflows 100000000\ndirect\nsplits 0\nproofs 0\ncost -300000000000000 1\nbound -300000000000000\ngap 0 1\nend\n",
+    ),
+    (
+        r#"{"version":1,"title":"Haverly 1","qualities":["sulfur"],"sources":[{"name":"A","cost":6,"quality":{"sulfur":3}},{"name":"B","cost":16,"quality":{"sulfur":1}},{"name":"C","cost":10,"quality":{"sulfur":2}}],"pools":[{"name":"P"}],"products":[{"name":"X","price":9,"max":100,"most":{"sulfur":"2.5"}},{"name":"Y","price":15,"max":200,"most":{"sulfur":"1.5"}}],"arcs":[["A","P"],["B","P"],["P","X"],["P","Y"],["C","X"],["C","Y"]]}"#,
+        10,
+        "poolcert 1\nkind gap\nshape 3 1 2 1 2 2 2\nplan 1 1\nweights 1 0\noutflows 0 0\ndirect 0 0\nsplits 0\nproofs 0\ncost 0 1\nbound -2100000000000000\ngap 2100000000000000 1\nend\n",
+    ),
+    (
+        r#"{"version":1,"title":"Outlets of site 4, loads in mg/l, flows in m3/h","qualities":["load"],"sources":[{"name":"W1","cost":1,"max":40,"quality":{"load":120}},{"name":"W2","cost":0,"max":60,"quality":{"load":30}},{"name":"fresh","cost":"0.35","quality":{"load":0}}],"pools":[{"name":"basin 1"},{"name":"basin 2"}],"products":[{"name":"river","price":3,"max":80,"most":{"load":50}},{"name":"sewer","price":1,"max":100,"most":{"load":90}}],"arcs":[["W1","basin 1"],["W2","basin 1"],["W2","basin 2"],["fresh","basin 2"],["basin 1","river"],["basin 1","sewer"],["basin 2","river"],["basin 2","sewer"],["fresh","river"]]}"#,
+        10,
+        "poolcert 1\nkind gap\nshape 3 2 2 1 4 4 1\nplan 1 1\nweights 1 0 0 1\noutflows 0 0 80000000 0\ndirect 0\nsplits 0\nproofs 0\ncost -212000000000000 1\nbound -340000000000000\ngap 128000000000000 1\nend\n",
+    ),
+];
 
-const EMPTY: &str = r#"{"version":1,"sources":[],"products":[],"arcs":[]}"#;
-
-const EMPTY_CERTIFICATE: &str =
-    "poolcert 1\nkind gap\nshape 0 0 0 0 0 0 0\nplan 1 1\nweights\noutflows\ndirect\nsplits 0\nproofs 0\ncost 0 1\nbound 0\ngap 0 1\nend\n";
-
-/// The same source, and a product that takes nothing.
-const FULL_PRODUCT: &str =
-    r#"{"version":1,"qualities":["sulfur"],"sources":[{"name":"A","cost":6,"max":100,"quality":{"sulfur":3}}],"products":[{"name":"X","price":9,"max":0,"most":{"sulfur":3}}],"arcs":[["A","X"]]}"#;
-
-const FULL_PRODUCT_CERTIFICATE: &str =
-    "poolcert 1\nkind gap\nshape 1 0 1 1 0 0 1\nplan 1 1\nweights\noutflows\ndirect 0\nsplits 0\nproofs 0\ncost 0 1\nbound 0\ngap 0 1\nend\n";
+/// Files of which no certificate is printed, with the code and the line on standard error.
+const REFUSED: [(&str, u8, &str); 4] = [
+    ("no network", 3, "pool: network refused: 2\n"),
+    (
+        r#"{"version":1,"sources":[{"name":"A","cost":1,"quality":{}}],"products":[{"name":"A","price":2,"max":1}],"arcs":[]}"#,
+        3,
+        "pool: network refused: 9 3\n",
+    ),
+    (
+        r#"{"version":1,"sources":[],"products":[{"name":"X","price":2,"min":2,"max":1}],"arcs":[]}"#,
+        3,
+        "pool: network refused: 9 12\n",
+    ),
+    (
+        r#"{"version":1,"sources":[],"products":[{"name":"X","price":2,"min":"0.000001","max":1}],"arcs":[]}"#,
+        41,
+        "pool: minimum not yet\n",
+    ),
+];
 
 /// The status of `solve net` over one file of the name `net`, where the shelf's call of the number `failing` fails.
 fn solved(
@@ -44,32 +85,29 @@ fn solved(
 }
 
 #[test]
-fn prints_the_best_shipment(rt: HostRuntime) -> Result<(), Fail> {
+fn prints_the_cheapest_start(rt: HostRuntime) -> Result<(), Fail> {
     let alloc = rt.alloc();
-    let mut sink = MemSink::new(alloc, Vec::new(alloc));
-    let status = solved(alloc, ONE_PRODUCT, 1, &mut sink)?;
-    assert_eq!(rt; status.code(), 0);
-    assert_eq!(rt; sink.taken(), ONE_PRODUCT_CERTIFICATE.as_bytes());
+    for (file, code, certificate) in SOLVED {
+        let mut sink = MemSink::new(alloc, Vec::new(alloc));
+        let status = solved(alloc, file, 1, &mut sink)?;
+        assert_eq!(rt; status.code(), code);
+        assert_eq!(rt; sink.taken(), certificate.as_bytes());
+    }
     Ok(())
 }
 
 #[test]
-fn prints_nothing_to_ship(rt: HostRuntime) -> Result<(), Fail> {
+fn writes_one_line_for_a_refusal(rt: HostRuntime) -> Result<(), Fail> {
     let alloc = rt.alloc();
-    let mut sink = MemSink::new(alloc, Vec::new(alloc));
-    let status = solved(alloc, EMPTY, 1, &mut sink)?;
-    assert_eq!(rt; status.code(), 0);
-    assert_eq!(rt; sink.taken(), EMPTY_CERTIFICATE.as_bytes());
-    Ok(())
-}
-
-#[test]
-fn prints_nothing_that_can_be_sold(rt: HostRuntime) -> Result<(), Fail> {
-    let alloc = rt.alloc();
-    let mut sink = MemSink::new(alloc, Vec::new(alloc));
-    let status = solved(alloc, FULL_PRODUCT, 1, &mut sink)?;
-    assert_eq!(rt; status.code(), 0);
-    assert_eq!(rt; sink.taken(), FULL_PRODUCT_CERTIFICATE.as_bytes());
+    for (file, code, message) in REFUSED {
+        let mut sink = MemSink::new(alloc, Vec::new(alloc));
+        let status = solved(alloc, file, 1, &mut sink)?;
+        assert_eq!(rt; status.code(), code);
+        assert_eq!(rt; sink.taken(), b"".as_slice());
+        let mut err = MemSink::new(alloc, Vec::new(alloc));
+        assert!(rt; write_message(&status, &mut err).is_ok());
+        assert_eq!(rt; err.taken(), message.as_bytes());
+    }
     Ok(())
 }
 
@@ -91,15 +129,89 @@ fn says_which_side_failed(rt: HostRuntime) -> Result<(), Fail> {
     Ok(())
 }
 
+/// The certificate of the first network: what is before the number of its direct, what is between that and its bound, and
+/// what is behind it.
+const PARTS: [&str; 3] = [
+    "poolcert 1\nkind gap\nshape 1 0 1 1 0 0 1\nplan 1 1\nweights\noutflows\ndirect ",
+    "\nsplits 0\nproofs 0\ncost -300000000000000 1\nbound ",
+    "\ngap 0 1\nend",
+];
+
+/// What is written for the direct and the bound, what is behind the last line, and what `check` answers and prints: the
+/// certificate as it is; a bound that is one pico too high, and one that is too low; no last line feed; a number that begins
+/// with 0; a byte too many.
+const CHECKED: [(&str, &str, &str, u8, &str); 6] = [
+    (
+        "100000000",
+        "-300000000000000",
+        "\n",
+        0,
+        "accepted gap cost -300000000000000 base 1 bound -300000000000000 gap 0\n",
+    ),
+    ("100000000", "-299999999999999", "\n", 1, "refused bound\n"),
+    ("100000000", "-300000000000001", "\n", 1, "refused bound\n"),
+    ("100000000", "-300000000000000", "", 1, "refused text 13\n"),
+    (
+        "0100000000",
+        "-300000000000000",
+        "\n",
+        1,
+        "refused text 7\n",
+    ),
+    (
+        "100000000",
+        "-300000000000000",
+        "\n ",
+        1,
+        "refused text 14\n",
+    ),
+];
+
+/// The status of `check net cert` for the first network.
+fn checked(
+    alloc: Global,
+    certificate: Vec<u8>,
+    failing: u64,
+    sink: &mut MemSink,
+) -> Result<Status, AllocError> {
+    let mut words = Vec::new(alloc);
+    words.push(String::from_str(alloc, "check")?)?;
+    words.push(String::from_str(alloc, "net")?)?;
+    words.push(String::from_str(alloc, "cert")?)?;
+    let mut files = Vec::new(alloc);
+    files.push((
+        String::from_str(alloc, "net")?,
+        Vec::from_slice(alloc, ONE_PRODUCT.as_bytes())?,
+    ))?;
+    files.push((String::from_str(alloc, "cert")?, certificate))?;
+    let mut calls = Vec::new(alloc);
+    calls.push(failing)?;
+    let mut shelf = MemShelf::new(files, calls);
+    Ok(run(alloc, &words, &mut shelf, sink))
+}
+
 #[test]
-fn writes_one_line_for_a_refusal(rt: HostRuntime) -> Result<(), Fail> {
+fn checks_a_certificate(rt: HostRuntime) -> Result<(), Fail> {
+    let alloc = rt.alloc();
+    for (direct, bound, end, code, line) in CHECKED {
+        let mut certificate = String::new(alloc);
+        for part in [PARTS[0], direct, PARTS[1], bound, PARTS[2], end] {
+            certificate.push_str(part)?;
+        }
+        let mut sink = MemSink::new(alloc, Vec::new(alloc));
+        let status = checked(alloc, certificate.into_bytes(), 2, &mut sink)?;
+        assert_eq!(rt; sink.taken(), line.as_bytes());
+        assert_eq!(rt; status.code(), code);
+    }
+    Ok(())
+}
+
+#[test]
+fn a_failed_read_of_the_certificate_is_a_read_fault(rt: HostRuntime) -> Result<(), Fail> {
     let alloc = rt.alloc();
     let mut sink = MemSink::new(alloc, Vec::new(alloc));
-    let status = solved(alloc, "no network", 1, &mut sink)?;
-    assert_eq!(rt; status.code(), 3);
+    let status = checked(alloc, Vec::new(alloc), 1, &mut sink)?;
+    assert_eq!(rt; status.code(), 20);
     assert_eq!(rt; sink.taken(), b"".as_slice());
-    let mut err = MemSink::new(alloc, Vec::new(alloc));
-    assert!(rt; write_message(&status, &mut err).is_ok());
-    assert_eq!(rt; err.taken(), b"pool: network refused: 2\n".as_slice());
     Ok(())
 }

@@ -1,4 +1,8 @@
-use Rattle.std.proofs.Common.{◌≡◌, ◌-ℤ◌, rules, arith, FitsSigned}
+use Rattle.std.proofs.Common.{◌≡◌, ◌<◌, ◌^◌, ◌-ℤ◌, [], length, get_or, map, All, ap, sym, subst, ◌∙◌, rules, arith, FitsSigned}
+use Rattle.std.proofs.lemmas.List.Elements.{All-nil}
+use Rattle.cert_format.specs.Cert.{NodeProof}
+use Rattle.box_space.specs.Shown.{shown_split}
+use Rattle.cert_format.specs.Shown.{shown_node_proof}
 use Rattle.std.proofs.lemmas.Int.{ints, to_z-of_z}
 use mir.Syntax.{w128}
 use mir.Val.{to_z, of_z}
@@ -14,5 +18,23 @@ returns-clause-solved c =
     let a = to_z w128 (of_z w128 c.args.start.cost) in
     let b = to_z w128 (of_z w128 c.reach_bound-bound.result) in
     let gap : to_z w128 (of_z w128 (a -ℤ b)) ≡ a -ℤ b = omega (arith, ints, c.requires.size, c.reach_bound-bound.ensures.size) in
-    claimed_solves (net_of c.args.net.now) (written_of c.args.start.plan) c.args.start.cost c.reach_bound-bound.result a b (to_z w128 (of_z w128 (a -ℤ b))) c.counts.result
-    c.counts.ensures.limited c.requires.cheapest c.reach_bound-bound.ensures.bound (to_z-of_z w128 c.args.start.cost cost) (to_z-of_z w128 c.reach_bound-bound.result bound) gap c.counts.ensures.counts
+    let uncut : c.new.result.items ≡ [] = search rules in
+    let unproved : c.new-2.result.items ≡ [] = search rules in
+    claimed_solves (net_of c.args.net.now) (written_of c.args.start.plan) c.args.start.cost c.reach_bound-bound.result a b (to_z w128 (of_z w128 (a -ℤ b))) c.counts.result (map shown_split c.new.result.items) (map shown_node_proof c.new-2.result.items)
+    c.counts.ensures.limited c.requires.cheapest c.reach_bound-bound.ensures.bound (to_z-of_z w128 c.args.start.cost cost) (to_z-of_z w128 c.reach_bound-bound.result bound) gap c.counts.ensures.counts (ap (map shown_split) uncut) (ap (map shown_node_proof) unproved)
+
+pub returns-clause-shaped : goal.returns-clause-shaped
+returns-clause-shaped c =
+    let uncut : c.new.result.items ≡ [] = search rules in
+    let unproved : c.new-2.result.items ≡ [] = search rules in
+    let counts = sym c.counts.ensures.counts in
+    record {
+      claim = record {
+        feeds = c.requires.cheapest.written.weights ∙ ap (λ s. get_or s 4 0) counts;
+        outs = c.requires.cheapest.written.outflows ∙ ap (λ s. get_or s 5 0) counts;
+        directs = c.requires.cheapest.written.direct ∙ ap (λ s. get_or s 6 0) counts;
+      };
+      splits = subst (λ xs. length (map shown_split xs) < 2 ^ 32) (sym uncut) (omega arith);
+      proofs = subst (λ xs. length (map shown_node_proof xs) < 2 ^ 32) (sym unproved) (omega arith);
+      parts = subst (λ xs. All (λ p. length p.proof.parts < 2 ^ 32) (map shown_node_proof xs)) (sym unproved) (All-nil (λ (p : NodeProof). length p.proof.parts < 2 ^ 32));
+    }
