@@ -10,3 +10,6 @@ pub mod Grids
 pub mod Means
 pub mod Elements
 pub mod Pairs
+pub mod Pairwise
+pub mod Tabulate
+pub mod Numbers

@@ -5,7 +5,9 @@
 //! - `proofs/Order.antt`: products under ≤, least products over an interval, sizes.
 //! - `proofs/ByIndex.antt`, `proofs/ByList.antt`, `proofs/AtKey.antt`: the laws of each kind of sum.
 //! - `proofs/ByNode.antt`, `proofs/Pairs.antt`, `proofs/Means.antt`: sums over the arcs of each node, over pairs, and means.
-//! - `proofs/Grids.antt`, `proofs/Elements.antt`: places in a grid, and what holds of each element of a list.
+//! - `proofs/Grids.antt`, `proofs/Elements.antt`, `proofs/Pairwise.antt`: places in a grid, what holds of each element of a list,
+//!   and of each element and each later one.
+//! - `specs/Numbers.antt`, `proofs/Tabulate.antt`, `proofs/Numbers.antt`: tables of the first numbers, and the numbers that have a key.
 //! - `specs/Divisors.antt`, `proofs/Divides.antt`, `proofs/Twos.antt`: numbers with no common divisor, what a quotient by the
 //!   greatest common divisor leaves, and halving.
 #![tactic(auto)]
