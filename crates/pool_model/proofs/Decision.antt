@@ -5,7 +5,7 @@ use Rattle.std.proofs.lemmas.Bool.Decides.{nat_tests, Decides-and, Decides-eqb, 
 use Rattle.pool_model.specs.Network.{Net}
 use Rattle.pool_model.specs.Plan.{Plan, Obeys, Blends, source_outflow, pool_inflow, outflow, product_inflow, quality_inflow, quality_room}
 use Rattle.pool_model.specs.Starting.{all_below}
-use Rattle.pool_model.proofs.Tabulate.{all_below-each, all_below-all}
+use Rattle.pool_model.proofs.AllBelow.{all_below-each, all_below-all}
 
 abbrev pub sources_test : Net → Plan → Bool
 sources_test n p = all_below (λ i. nat_le (source_outflow n p i) (p.base * n.source_max i)) n.sources

@@ -1,8 +1,9 @@
 pub mod Reach
-pub mod Tabulate
+pub mod AllBelow
 pub mod Shipments
 pub mod Starts
 pub mod PathStarts
 pub mod Paths
 pub mod PlainSteps
 pub mod Decision
+pub mod Limits

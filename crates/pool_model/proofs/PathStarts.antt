@@ -4,13 +4,13 @@ use Rattle.std.proofs.Math.IntN.{*ℤ-zero}
 use Rattle.integers.specs.Sums.{sum_at, product_below, product_but}
 use Rattle.integers.proofs.Ring.{additive, sorted}
 use Rattle.integers.proofs.AtKey.{same_or_other, chosen, passed, none_either, sum_at-one, product_but_is}
-use Rattle.integers.proofs.ByNode.{sum_at-nothing, sum_at-alone, int_sum_at-nothing, int_sum_at-alone}
+use Rattle.integers.proofs.ByNode.{sum_at-same_key, sum_at-nothing, sum_at-alone, int_sum_at-nothing, int_sum_at-alone}
 use Rattle.pool_model.specs.Network.{Net, IsLimited, HasFeeds}
 use Rattle.pool_model.specs.Plan.{Plan, Obeys, source_outflow, pool_inflow, outflow, product_inflow, cost_of, mix, factor, quality_inflow, weight, written_out, written_outflow, plan_of, IsWritten}
 use Rattle.pool_model.specs.Starting.{HasNoMinima, IsWay, first_weight, simple_plan, through, alone, suits, path_flow}
-use Rattle.pool_model.proofs.Tabulate.{length-tabulate, get_or-tabulate, get_or-nothing}
+use Rattle.integers.proofs.Tabulate.{length-tabulate, get_or-tabulate, get_or-nothing}
 use Rattle.pool_model.proofs.Shipments.{Ships, chosen-le, flow-le, flow-suits, carries-ships, blends-ships, cost-ships}
-use Rattle.pool_model.proofs.Starts.{sum_at-same_at, first_weights-one}
+use Rattle.pool_model.proofs.Starts.{first_weights-one}
 
 -- a plan with an amount on one feed and on one out of its pool, and nothing else, over 1
 record OnlyPath (n : Net) (p : Plan) (e o t : ℕ) : Type 0 where
@@ -138,7 +138,7 @@ path-obeys n e o m way pool =
 simple-weights : (n : Net) (e o l : ℕ) → HasFeeds n → IsWay n (through e o) → l < n.pools → sum_at n.feed_pool l (weight (simple_plan n (through e o))) n.feeds ≡ 1
 simple-weights n e o l has way lt = elim (same_or_other (n.feed_pool e) l) [
   | inl same ↦
-      sum_at-same_at n.feed_pool l (weight (simple_plan n (through e o))) (λ f. if f == e then 1 else 0) n.feeds
+      sum_at-same_key n.feed_pool l (weight (simple_plan n (through e o))) (λ f. if f == e then 1 else 0) n.feeds
       (λ f h at. simple-weight n e o f h ∙ chosen (n.feed_pool f) (n.feed_pool e) (alone e 1 f) (first_weight n f) (at ∙ sym same))
       ∙ sum_at-one n.feed_pool l e 1 n.feeds way.0 ∙ chosen {X = ℕ} (n.feed_pool e) l 1 0 same
   | inr other ↦

@@ -31,6 +31,13 @@ Reaches-lesser_right None y a h = h
 Reaches-lesser_right (Some c) None a h = absurd h
 Reaches-lesser_right (Some c) (Some d) a h = omega (arith, additive, clamps)
 
+-- the least of numbers that are the same
+pub least_below-same : (f g : ℕ → Option ℤ) (n : ℕ) → ((i : ℕ) → i < n → f i ≡ g i) → least_below f n ≡ least_below g n
+least_below-same f g zero h = refl
+least_below-same f g (suc n) h =
+    ap (λ (o : Option ℤ). lesser o (f n)) (least_below-same f g n (λ i lt. h i (omega arith)))
+    ∙ ap (λ (o : Option ℤ). lesser (least_below g n) o) (h n (omega arith))
+
 pub Reaches-least_below : (f : ℕ → Option ℤ) (n i : ℕ) (a : ℤ) → i < n → Reaches (f i) a → Reaches (least_below f n) a
 Reaches-least_below f zero i a h r = absurd (omega arith)
 Reaches-least_below f (suc n) i a h r = elim (same_or_other i n) [

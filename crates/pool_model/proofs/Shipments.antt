@@ -12,7 +12,7 @@ use Rattle.integers.proofs.ByNode.{int_sum_below-alone}
 use Rattle.pool_model.specs.Network.{Net}
 use Rattle.pool_model.specs.Plan.{Plan, Carries, Blends, source_outflow, pool_inflow, outflow, product_inflow, cost_of, factor, quality_inflow}
 use Rattle.pool_model.specs.Starting.{HasNoMinima, suits, is_above, is_below}
-use Rattle.pool_model.proofs.Tabulate.{all_below-each}
+use Rattle.pool_model.proofs.AllBelow.{all_below-each}
 
 -- so much goes from source i to product j, over 1, and all that reaches the product has the source's qualities
 pub record Ships (n : Net) (p : Plan) (i j t : ℕ) : Type 0 where

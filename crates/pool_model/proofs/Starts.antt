@@ -3,12 +3,12 @@ use Rattle.std.proofs.Common.{◌≡◌, ℕ, zero, suc, ◌+◌, ◌*◌, ◌<�
 use Rattle.std.proofs.Math.IntN.{*ℤ-zero}
 use Rattle.integers.specs.Sums.{sum_at, product_below, product_but}
 use Rattle.integers.proofs.Ring.{additive}
-use Rattle.integers.proofs.AtKey.{same_or_other, chosen, passed, none_either, term-le-sum_at, sum_below-same}
-use Rattle.integers.proofs.ByNode.{sum_at-nothing, sum_at-alone, int_sum_at-nothing, int_sum_at-alone, int_sum_below-nothing}
+use Rattle.integers.proofs.AtKey.{same_or_other, chosen, passed, none_either, term-le-sum_at}
+use Rattle.integers.proofs.ByNode.{sum_at-same_key, sum_at-nothing, sum_at-alone, int_sum_at-nothing, int_sum_at-alone, int_sum_below-nothing}
 use Rattle.pool_model.specs.Network.{Net, IsLimited, HasFeeds}
 use Rattle.pool_model.specs.Plan.{Plan, Obeys, Carries, source_outflow, product_inflow, cost_of, mix, factor, quality_inflow, Written, weight, written_out, plan_of, IsWritten}
 use Rattle.pool_model.specs.Starting.{HasNoMinima, feeds_before, first_weight, zero_plan, simple_plan, straight, alone, suits, direct_flow}
-use Rattle.pool_model.proofs.Tabulate.{length-tabulate, get_or-tabulate, get_or-nothing}
+use Rattle.integers.proofs.Tabulate.{length-tabulate, get_or-tabulate, get_or-nothing}
 use Rattle.pool_model.proofs.Shipments.{Ships, le-none_or, flow-le, flow-suits, carries-ships, blends-ships, cost-ships}
 
 -- a plan with an amount on one direct and nothing else, over 1
@@ -87,7 +87,7 @@ zero-cost n =
 
 -- ---- all weight on the first feed
 -- the weights of a pool's first feeds sum to 1 where it has a feed, and to 0 where it has none
-first_weights : (n : Net) (l m : ℕ) → sum_at n.feed_pool l (first_weight n) m ≡ min 1 (sum_at n.feed_pool l (λ _. 1) m)
+pub first_weights : (n : Net) (l m : ℕ) → sum_at n.feed_pool l (first_weight n) m ≡ min 1 (sum_at n.feed_pool l (λ _. 1) m)
 first_weights n l zero = refl
 first_weights n l (suc m) = elim (same_or_other (n.feed_pool m) l) [
   | inl e ↦ omega (arith, first_weights n l m, chosen (n.feed_pool m) l (first_weight n m) 0 e, chosen {X = ℕ} (n.feed_pool m) l 1 0 e, first_or_later (feeds_before n m) (sum_at n.feed_pool l (λ _. 1) m) (ap (λ k. sum_at n.feed_pool k (λ _. 1) m) e))
@@ -100,18 +100,10 @@ first_weights n l (suc m) = elim (same_or_other (n.feed_pool m) l) [
       | inr d ↦ omega (arith, passed {X = ℕ} before 0 1 0 d)
     ]
 
--- sums at a key, of terms that are the same where the key is
-pub sum_at-same_at : (key : ℕ → ℕ) (k : ℕ) (f g : ℕ → ℕ) (n : ℕ) → ((i : ℕ) → i < n → key i ≡ k → f i ≡ g i) → sum_at key k f n ≡ sum_at key k g n
-sum_at-same_at key k f g n h = sum_below-same (λ i. if key i == k then f i else 0) (λ i. if key i == k then g i else 0) n
-    (λ i lt. elim (same_or_other (key i) k) [
-      | inl e ↦ chosen (key i) k (f i) 0 e ∙ h i lt e ∙ sym (chosen (key i) k (g i) 0 e)
-      | inr d ↦ passed (key i) k (f i) 0 d ∙ sym (passed (key i) k (g i) 0 d)
-    ])
-
 pub first_weights-one : (n : Net) (w : Written) (l : ℕ) → HasFeeds n → l < n.pools → ((e : ℕ) → e < n.feeds → n.feed_pool e ≡ l → weight w e ≡ first_weight n e) → sum_at n.feed_pool l (weight w) n.feeds ≡ 1
 first_weights-one n w l has lt is =
     let f = has l lt in
-    sum_at-same_at n.feed_pool l (weight w) (first_weight n) n.feeds is
+    sum_at-same_key n.feed_pool l (weight w) (first_weight n) n.feeds is
     ∙ omega (arith, first_weights n l n.feeds, term-le-sum_at n.feed_pool l (λ _. 1) n.feeds f.0 f.1 f.2)
 
 pub zero-written : (n : Net) → HasFeeds n → IsWritten n (zero_plan n)

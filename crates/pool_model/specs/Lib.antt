@@ -2,6 +2,7 @@ pub mod Quantity
 pub mod Rows
 pub mod Network
 pub mod Paths
+pub mod Limits
 pub mod Naming
 pub mod Plan
 pub mod Starting

@@ -1,16 +1,12 @@
 -- The paths of a network: a feed and an out of one pool.
-use Rattle.std.specs.Prelude.{◌≡◌, ℕ, zero, suc, ◌<◌, ◌⊎◌, List, [], ◌∷◌, ◌++◌, get_or, map, if◌then◌else◌, ◌==◌}
+use Rattle.std.specs.Prelude.{◌≡◌, ℕ, zero, suc, ◌<◌, ◌⊎◌, List, [], ◌++◌, get_or, map}
 use Rattle.std.specs.List.{flat_map}
+use Rattle.integers.specs.Numbers.{numbers_at}
 use Rattle.pool_model.specs.Network.{Net}
 
 pub record Path : Type 0 where
   pub feed : ℕ
   pub out : ℕ
-
--- the numbers below a count that have this key
-abbrev pub numbers_at : (ℕ → ℕ) → ℕ → ℕ → List ℕ
-numbers_at key k zero = []
-numbers_at key k (suc n) = numbers_at key k n ++ (if key n == k then n ∷ [] else [])
 
 -- the paths that begin with a feed
 abbrev pub feed_paths : Net → ℕ → List Path
@@ -29,9 +25,13 @@ paths_below n (suc l) = paths_below n l ++ pool_paths n l
 abbrev pub paths_of : Net → List Path
 paths_of n = paths_below n n.pools
 
+-- what stands behind the end of a list of paths
+abbrev pub no_path : Path
+no_path = record { feed = 0; out = 0 }
+
 -- the path of a number
 abbrev pub path_at : Net → ℕ → Path
-path_at n a = get_or (paths_of n) a record { feed = 0; out = 0 }
+path_at n a = get_or (paths_of n) a no_path
 
 -- by pool, then by feed, then by out
 abbrev pub ComesBefore : Net → Path → Path → Type 0

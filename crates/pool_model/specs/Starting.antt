@@ -1,14 +1,10 @@
 -- The starting plans, which the solver tries first, and the bound that margins alone give.
-use Rattle.std.specs.Prelude.{◌≡◌, ℕ, zero, suc, ◌<◌, min, List, [], ◌∷◌, ◌++◌, Bool, true, ◌&&◌, ◌==◌, if◌then◌else◌, ◌⊎◌, Option, Some, None, ℤ, pos, neg_ℤ, ◌-ℤ◌, ◌*ℤ◌, int_le}
+use Rattle.std.specs.Prelude.{◌≡◌, ℕ, zero, suc, ◌<◌, min, Bool, true, ◌&&◌, ◌==◌, if◌then◌else◌, ◌⊎◌, Option, Some, None, ℤ, pos, neg_ℤ, ◌-ℤ◌, ◌*ℤ◌, int_le}
 use Rattle.std.specs.Int.{int_min, int_max}
 use Rattle.integers.specs.Sums.{int_sum_below, sum_at}
+use Rattle.integers.specs.Numbers.{tabulate}
 use Rattle.pool_model.specs.Network.{Net}
 use Rattle.pool_model.specs.Plan.{Written}
-
--- f 0, f 1, up to f (n - 1)
-abbrev pub tabulate : {X : Type 0} → (ℕ → X) → ℕ → List X
-tabulate f zero = []
-tabulate f (suc n) = tabulate f n ++ f n ∷ []
 
 -- no product must take anything
 abbrev pub HasNoMinima : Net → Type 0

@@ -3,7 +3,8 @@
 //!
 //! - `specs/`: `Rows` and `Naming` (what a file says, and the network that it stands for), `Network` (a network by list and
 //!   by number, and its limits), `Plan` (when a plan obeys and what it costs; written plans), `Starting` (the plans that the
-//!   solver tries first, and the reach bound), `Claim` (what a certificate says of every plan). `Worked` has examples.
+//!   solver tries first, and the reach bound), `Paths` and `Limits` (the paths, and the limits that are set, as lists), `Claim` (what a
+//!   certificate says of every plan). `Worked` has examples.
 //! - The laws: `reach_bound_law`, `paths_law`, `starting_plans_law`, and the worked plans and bounds. A proof cites the lemmas behind
 //!   them, in `proofs/`.
 //! - The plain program: `obeys` and `cost` on a `PlainNetwork` and a `PlainPlan`. It multiplies out over all pools, as the

@@ -1,54 +1,19 @@
 -- Every row of the catalogue holds at the point of each plan that obeys and lies in the box.
-use Rattle.std.proofs.Common.{◌≡◌, ℕ, zero, suc, ◌≤◌, ◌+◌, ◌-◌, ◌*◌, ◌/◌, ◌%◌, ◌<◌, nat_lt, Bool, true, false, if◌then◌else◌, List, [], ◌∷◌, ◌++◌, All, length, get_or, Option, Some, None, option_map, ℤ, arith, refl, subst}
+use Rattle.std.proofs.Common.{◌≡◌, ℕ, ◌≤◌, ◌+◌, ◌-◌, ◌*◌, ◌/◌, ◌%◌, ◌<◌, nat_lt, Bool, true, false, if◌then◌else◌, List, [], ◌∷◌, ◌++◌, get_or, arith, refl}
 use Rattle.std.proofs.lemmas.Bool.Decides.{nat_tests}
-use Rattle.std.proofs.lemmas.List.Elements.{All-nil, All-push, All-get_or}
 use Rattle.pool_model.specs.Network.{Net, IsLimited}
 use Rattle.pool_model.specs.Plan.{Plan, Obeys}
-use Rattle.pool_model.specs.Starting.{tabulate}
 use Rattle.row_model.specs.Boxes.{Box, LiesIn}
 use Rattle.row_model.specs.Variables.{path_count}
-use Rattle.row_model.specs.Catalogue.{Family, Limit, product_limits, limits, most_limits, least_limits, no_limit, network_families, p_families, q_families, pq_families, catalogue, row_count, row_in, rows, row_at}
+use Rattle.pool_model.specs.Limits.{most_limits, least_limits, no_limit}
+use Rattle.row_model.specs.Catalogue.{Family, network_families, p_families, q_families, pq_families, catalogue, row_count, row_in, rows, row_at}
 use Rattle.row_model.specs.Lift.{HoldsAt}
 use Rattle.integers.proofs.Grids.{grid-row, grid-column}
-use Rattle.integers.proofs.Elements.{All-flat_map, All-filter_map}
+use Rattle.pool_model.proofs.Limits.{most_limit-set, least_limit-set}
 use Rattle.row_model.proofs.NetworkRows.{source_row-holds, balance_row-holds, pool_row-holds, maximum_row-holds, minimum_row-holds}
 use Rattle.row_model.proofs.PRows.{mixing_row-holds, mixed_most_row-holds, mixed_least_row-holds, quality_envelope_row-holds}
 use Rattle.row_model.proofs.QRows.{proportions_row-holds, feed_row-holds, path_most_row-holds, path_least_row-holds, proportion_envelope_row-holds}
 use Rattle.row_model.proofs.PqRows.{out_row-holds, share_row-holds}
-
--- ---- limits
-All-tabulate : {X : Type 0} (P : X → Type 0) (f : ℕ → X) (n : ℕ) → ((i : ℕ) → i < n → P (f i)) → All P (tabulate f n)
-All-tabulate P f zero h = All-nil P
-All-tabulate P f (suc n) h = All-push P (tabulate f n) (f n) (All-tabulate P f n (λ i lt. h i (omega arith))) (h n (omega arith))
-
--- a limit that is set, on a product and a quality of the network
-pub record IsSet (limit : ℕ → ℕ → Option ℤ) (products qualities : ℕ) (u : Limit) : Type 0 where
-  pub product : u.product < products
-  pub quality : u.quality < qualities
-  pub set : limit u.product u.quality ≡ Some u.limit
-
-product_limits-set : (limit : ℕ → ℕ → Option ℤ) (products qualities j : ℕ) → j < products → All (IsSet limit products qualities) (product_limits limit qualities j)
-product_limits-set limit products qualities j lt =
-    All-filter_map (λ k. k < qualities) (IsSet limit products qualities) (λ k. option_map (λ u. record { product = j; quality = k; limit = u }) (limit j k)) (tabulate (λ k. k) qualities)
-    (λ k y lk e. set k lk y (limit j k) refl e)
-    (All-tabulate (λ k. k < qualities) (λ k. k) qualities (λ k lk. lk))
-  where
-    set : (k : ℕ) → k < qualities → (y : Limit) (o : Option ℤ) → limit j k ≡ o → option_map (λ u. record { product = j; quality = k; limit = u }) o ≡ Some y → IsSet limit products qualities y
-    set k lk y None is e = cc
-    set k lk y (Some u) is e =
-        let same : record { product = j; quality = k; limit = u } ≡ y = cc in
-        subst (λ (l : Limit). IsSet limit products qualities l) same record { product = lt; quality = lk; set = is }
-
-limits-set : (limit : ℕ → ℕ → Option ℤ) (products qualities : ℕ) → All (IsSet limit products qualities) (limits limit products qualities)
-limits-set limit products qualities =
-    All-flat_map (IsSet limit products qualities) (product_limits limit qualities) (tabulate (λ j. j) products)
-    (All-tabulate (λ j. All (IsSet limit products qualities) (product_limits limit qualities j)) (λ j. j) products (λ j lt. product_limits-set limit products qualities j lt))
-
-pub most_limit-set : (n : Net) (i : ℕ) → i < length (most_limits n) → IsSet n.most n.products n.qualities (get_or (most_limits n) i no_limit)
-most_limit-set n i lt = All-get_or (IsSet n.most n.products n.qualities) (most_limits n) i no_limit lt (limits-set n.most n.products n.qualities)
-
-pub least_limit-set : (n : Net) (i : ℕ) → i < length (least_limits n) → IsSet n.least n.products n.qualities (get_or (least_limits n) i no_limit)
-least_limit-set n i lt = All-get_or (IsSet n.least n.products n.qualities) (least_limits n) i no_limit lt (limits-set n.least n.products n.qualities)
 
 -- ---- families
 

@@ -55,7 +55,7 @@ order_new n splits s cuts =
     (subst (λ b. CutsLeaf n (take l (splits ++ s ∷ [])) b s) (sym (same_box n splits (s ∷ []) l s.leaf (omega arith)))
     (subst (λ xs. CutsLeaf n xs (box_of n splits s.leaf) s) (sym (take_first splits (s ∷ []) l (omega arith) ∙ take_all l splits (omega arith))) cuts))
 
-length-more : (splits : List Split) (s : Split) → length (splits ++ s ∷ []) ≡ suc (length splits)
+pub length-more : (splits : List Split) (s : Split) → length (splits ++ s ∷ []) ≡ suc (length splits)
 length-more splits s = omega (arith, length-append splits (s ∷ []))
 
 same_or_before : (t l : ℕ) → t < suc l → (t < l) ⊎ (t ≡ l)

@@ -17,3 +17,4 @@ pub mod Duality
 pub mod TreeLaw
 pub mod TreeBound
 pub mod EntryLaw
+pub mod Agreement

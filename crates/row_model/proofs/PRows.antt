@@ -10,7 +10,8 @@ use Rattle.pool_model.specs.Plan.{Plan, Carries, Blends, outflow, factor, mix, q
 use Rattle.row_model.specs.Boxes.{Box, LiesIn, place, qual}
 use Rattle.row_model.specs.Envelopes.{side}
 use Rattle.row_model.specs.Variables.{path_count}
-use Rattle.row_model.specs.Catalogue.{when, Limit, mixing_row, mixed_most_row, mixed_least_row, quality_ends, quality_envelope_row}
+use Rattle.pool_model.specs.Limits.{Limit}
+use Rattle.row_model.specs.Catalogue.{when, mixing_row, mixed_most_row, mixed_least_row, quality_ends, quality_envelope_row}
 use Rattle.row_model.specs.Lift.{lift, others, value_at, HoldsAt}
 use Rattle.row_model.proofs.RowSums.{no_sum, no_sums, key_sum, one_sum, one_sums, pair_sum, scaled_at, same_at, room_at, excess_at, room_of_both}
 use Rattle.row_model.proofs.Shares.{no_feed, quality-out}

@@ -1,15 +1,16 @@
 -- The paths of a network: their ends, and sums over them by feed and by out.
-use Rattle.std.proofs.Common.{◌≡◌, ℕ, zero, suc, ◌<◌, ◌≤◌, inl, inr, Bool, true, false, ◌==◌, if◌then◌else◌, get_or, List, [], ◌∷◌, All, ℤ, pos, ◌+ℤ◌, arith, refl, sym, ap, subst, ◌∙◌}
-use Rattle.std.proofs.lemmas.List.Elements.{All-nil, All-cons, All-append, All-map, All-weaker, All-get_or}
+use Rattle.std.proofs.Common.{◌≡◌, ℕ, zero, suc, ◌<◌, ◌==◌, if◌then◌else◌, ℤ, pos, arith, refl, sym, ◌∙◌}
 use Rattle.integers.specs.Sums.{int_sum_by, int_sum_below, int_sum_at, sum_at}
 use Rattle.integers.proofs.Ring.{additive}
 use Rattle.integers.proofs.ByIndex.{int_sum_below-same}
-use Rattle.integers.proofs.AtKey.{same_or_other, chosen, passed, pos-sum_at, int_sum_at-same}
+use Rattle.integers.proofs.AtKey.{chosen, passed, pos-sum_at, int_sum_at-same}
 use Rattle.integers.proofs.ByNode.{int_sum_below-one, int_sum_at-nothing}
 use Rattle.pool_model.specs.Network.{Net}
-use Rattle.pool_model.specs.Paths.{Path, numbers_at, feed_paths, pool_paths, paths_below, paths_of}
-use Rattle.row_model.specs.Variables.{no_path, path_count, path_feed, path_out}
-use Rattle.integers.proofs.Elements.{All-flat_map}
+use Rattle.integers.specs.Numbers.{numbers_at}
+use Rattle.integers.proofs.Numbers.{numbers_at-sum}
+use Rattle.pool_model.specs.Paths.{Path, feed_paths, pool_paths, paths_below, paths_of, no_path}
+use Rattle.pool_model.proofs.Paths.{path_at-way}
+use Rattle.row_model.specs.Variables.{path_count, path_feed, path_out}
 use Rattle.integers.proofs.ByList.{int_sum_by-append, int_sum_by-map, int_sum_by-flat_map, int_sum_by-index}
 use Rattle.integers.proofs.Pairs.{int_sum_at-keys, int_sum_at-swap, int_sum_at-whole}
 use Rattle.integers.proofs.Order.{same_pos}
@@ -20,66 +21,16 @@ pub record HasFeedPools (n : Net) : Type 0 where
 
 -- ---- the ends of a path
 
--- a number below a count that has the key
-pub record IsNumberAt (key : ℕ → ℕ) (k n i : ℕ) : Type 0 where
-  pub below : i < n
-  pub at_key : key i ≡ k
-
-numbers_at-all : (key : ℕ → ℕ) (k n m : ℕ) → n ≤ m → All (IsNumberAt key k m) (numbers_at key k n)
-numbers_at-all key k zero m h = All-nil (IsNumberAt key k m)
-numbers_at-all key k (suc n) m h =
-    All-append (IsNumberAt key k m) (numbers_at key k n) (if key n == k then n ∷ [] else []) (numbers_at-all key k n m (omega arith))
-    (elim (same_or_other (key n) k) [
-      | inl e ↦ subst (λ (xs : List ℕ). All (IsNumberAt key k m) xs) (sym (chosen (key n) k (n ∷ []) [] e)) (All-cons (IsNumberAt key k m) n [] record { below = omega arith; at_key = e } (All-nil (IsNumberAt key k m)))
-      | inr d ↦ subst (λ (xs : List ℕ). All (IsNumberAt key k m) xs) (sym (passed (key n) k (n ∷ []) [] d)) (All-nil (IsNumberAt key k m))
-    ])
-
--- a feed and an out of one pool
-pub record Joins (n : Net) (p : Path) : Type 0 where
-  pub feed : p.feed < n.feeds
-  pub out : p.out < n.outs
-  pub joined : n.out_pool p.out ≡ n.feed_pool p.feed
-
-feed_paths-join : (n : Net) (e : ℕ) → e < n.feeds → All (Joins n) (feed_paths n e)
-feed_paths-join n e lt =
-    All-map (Joins n) (λ o. record { feed = e; out = o }) (numbers_at n.out_pool (n.feed_pool e) n.outs)
-    (All-weaker (IsNumberAt n.out_pool (n.feed_pool e) n.outs) (λ o. Joins n record { feed = e; out = o }) (λ o h. record { feed = lt; out = h.below; joined = h.at_key })
-    (numbers_at n.out_pool (n.feed_pool e) n.outs) (numbers_at-all n.out_pool (n.feed_pool e) n.outs n.outs (omega arith)))
-
-pool_paths-join : (n : Net) (l : ℕ) → All (Joins n) (pool_paths n l)
-pool_paths-join n l =
-    All-flat_map (Joins n) (feed_paths n) (numbers_at n.feed_pool l n.feeds)
-    (All-weaker (IsNumberAt n.feed_pool l n.feeds) (λ e. All (Joins n) (feed_paths n e)) (λ e h. feed_paths-join n e h.below)
-    (numbers_at n.feed_pool l n.feeds) (numbers_at-all n.feed_pool l n.feeds n.feeds (omega arith)))
-
-paths_below-join : (n : Net) (m : ℕ) → All (Joins n) (paths_below n m)
-paths_below-join n zero = All-nil (Joins n)
-paths_below-join n (suc m) = All-append (Joins n) (paths_below n m) (pool_paths n m) (paths_below-join n m) (pool_paths-join n m)
-
-path-joins : (n : Net) (q : ℕ) → q < path_count n → Joins n (get_or (paths_of n) q no_path)
-path-joins n q lt = All-get_or (Joins n) (paths_of n) q no_path lt (paths_below-join n n.pools)
-
 pub path_feed-below : (n : Net) (q : ℕ) → q < path_count n → path_feed n q < n.feeds
-path_feed-below n q lt = (path-joins n q lt).feed
+path_feed-below n q lt = (path_at-way n q (path_feed n q) (path_out n q) lt refl refl).0
 
 pub path_out-below : (n : Net) (q : ℕ) → q < path_count n → path_out n q < n.outs
-path_out-below n q lt = (path-joins n q lt).out
+path_out-below n q lt = (path_at-way n q (path_feed n q) (path_out n q) lt refl refl).1
 
 pub path-joined : (n : Net) (q : ℕ) → q < path_count n → n.out_pool (path_out n q) ≡ n.feed_pool (path_feed n q)
-path-joined n q lt = (path-joins n q lt).joined
+path-joined n q lt = sym (path_at-way n q (path_feed n q) (path_out n q) lt refl refl).2
 
 -- ---- sums over all paths
-numbers_at-sum : (f : ℕ → ℤ) (key : ℕ → ℕ) (k n : ℕ) → int_sum_by f (numbers_at key k n) ≡ int_sum_at key k f n
-numbers_at-sum f key k zero = refl
-numbers_at-sum f key k (suc n) =
-    int_sum_by-append f (numbers_at key k n) (if key n == k then n ∷ [] else [])
-    ∙ ap (λ z. z +ℤ int_sum_by f (if key n == k then n ∷ [] else [])) (numbers_at-sum f key k n)
-    ∙ ap (λ z. int_sum_at key k f n +ℤ z) (one_or_none (key n == k) f n)
-  where
-    one_or_none : (b : Bool) (f : ℕ → ℤ) (n : ℕ) → int_sum_by f (if b then n ∷ [] else []) ≡ (if b then f n else pos 0)
-    one_or_none true f n = omega (arith, additive)
-    one_or_none false f n = refl
-
 feed_paths-sum : (n : Net) (f : ℕ → ℕ → ℤ) (e : ℕ) → int_sum_by (λ p. f p.feed p.out) (feed_paths n e) ≡ int_sum_at n.out_pool (n.feed_pool e) (f e) n.outs
 feed_paths-sum n f e =
     int_sum_by-map (λ (p : Path). f p.feed p.out) (λ o. record { feed = e; out = o }) (numbers_at n.out_pool (n.feed_pool e) n.outs)

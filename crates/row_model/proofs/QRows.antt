@@ -8,7 +8,8 @@ use Rattle.pool_model.specs.Plan.{Plan, Carries, Blends, outflow, pool_inflow, f
 use Rattle.row_model.specs.Boxes.{Box, LiesIn, grain, share, place, prop}
 use Rattle.row_model.specs.Envelopes.{side}
 use Rattle.row_model.specs.Variables.{path_count, path_feed, path_out}
-use Rattle.row_model.specs.Catalogue.{when, Limit, proportions_row, feed_row, path_most_row, path_least_row, proportion_ends, proportion_envelope_row}
+use Rattle.pool_model.specs.Limits.{Limit}
+use Rattle.row_model.specs.Catalogue.{when, proportions_row, feed_row, path_most_row, path_least_row, proportion_ends, proportion_envelope_row}
 use Rattle.row_model.specs.Lift.{lift, lift_base, others, value_at, HoldsAt}
 use Rattle.row_model.proofs.RowSums.{no_sum, no_sums, key_sum, one_sum, scaled_at, same_at, opposite_at, room_at, excess_at, room_of_both}
 use Rattle.row_model.proofs.PathSums.{HasFeedPools, path_feed-below, path_out-below, path-joined, paths_at_feed, paths_at_out, paths_at_key}

@@ -1,12 +1,13 @@
 -- A feed's share of its pool: what it is where the pool sends something and where it sends nothing, and what a pool's shares
 -- sum to.
-use Rattle.std.proofs.Common.{◌≡◌, ◌≢◌, ℕ, zero, suc, ◌+◌, ◌*◌, ◌<◌, ◌≤◌, inl, inr, min, ◌==◌, if◌then◌else◌, pos, ◌*ℤ◌, arith, refl, sym, ap, ◌∙◌}
+use Rattle.std.proofs.Common.{◌≡◌, ◌≢◌, ℕ, ◌*◌, ◌<◌, ◌≤◌, inl, inr, pos, ◌*ℤ◌, arith, refl, sym, ap, ◌∙◌}
 use Rattle.std.proofs.Math.IntN.{*ℤ-zero}
 use Rattle.integers.specs.Sums.{sum_at}
 use Rattle.integers.proofs.AtKey.{same_or_other, chosen, passed, term-le-sum_at, int_sum_at-same}
 use Rattle.pool_model.specs.Network.{Net, IsLimited, HasFeeds}
 use Rattle.pool_model.specs.Plan.{Plan, Carries, outflow, factor, mix}
-use Rattle.pool_model.specs.Starting.{feeds_before, first_weight}
+use Rattle.pool_model.specs.Starting.{first_weight}
+use Rattle.pool_model.proofs.Starts.{first_weights}
 use Rattle.row_model.specs.Boxes.{share, place, qual}
 use Rattle.integers.proofs.ByNode.{sum_at-same_key}
 
@@ -39,20 +40,6 @@ share-out n p e o h same = elim (same_or_other (outflow n p (n.feed_pool e)) 0) 
 ]
 
 -- ---- what a pool's shares sum to
--- the weights of a pool's first feeds sum to 1 where it has a feed, and to 0 where it has none
-first_weights : (n : Net) (l m : ℕ) → sum_at n.feed_pool l (first_weight n) m ≡ min 1 (sum_at n.feed_pool l (λ _. 1) m)
-first_weights n l zero = refl
-first_weights n l (suc m) = elim (same_or_other (n.feed_pool m) l) [
-  | inl e ↦ omega (arith, first_weights n l m, chosen (n.feed_pool m) l (first_weight n m) 0 e, chosen {X = ℕ} (n.feed_pool m) l 1 0 e, first_or_later (feeds_before n m) (sum_at n.feed_pool l (λ _. 1) m) (ap (λ k. sum_at n.feed_pool k (λ _. 1) m) e))
-  | inr d ↦ omega (arith, first_weights n l m, passed (n.feed_pool m) l (first_weight n m) 0 d, passed {X = ℕ} (n.feed_pool m) l 1 0 d)
-]
-  where
-    first_or_later : (before count : ℕ) → before ≡ count → min 1 count + (if before == 0 then 1 else 0) ≡ min 1 (count + 1)
-    first_or_later before count e = elim (same_or_other before 0) [
-      | inl z ↦ omega (arith, chosen {X = ℕ} before 0 1 0 z)
-      | inr d ↦ omega (arith, passed {X = ℕ} before 0 1 0 d)
-    ]
-
 pub first_weight-sum : (n : Net) (l : ℕ) → HasFeeds n → l < n.pools → sum_at n.feed_pool l (first_weight n) n.feeds ≡ 1
 first_weight-sum n l has lt = let f = has l lt in omega (arith, first_weights n l n.feeds, term-le-sum_at n.feed_pool l (λ _. 1) n.feeds f.0 f.1 f.2)
 

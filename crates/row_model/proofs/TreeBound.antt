@@ -98,13 +98,13 @@ which_node t node h = elim (same_or_other node (left_node t)) [
   | inr d ↦ elim (same_or_other node (right_node t)) [ inl e ↦ inr (inl e) | inr f ↦ inr (inr (omega arith)) ]
 ]
 
-old_bound : (n : Net) (tree : Tree) (t node : ℕ) → node < 2 * t + 1 → bound_after n tree (suc t) node ≡ bound_after n tree t node
+pub old_bound : (n : Net) (tree : Tree) (t node : ℕ) → node < 2 * t + 1 → bound_after n tree (suc t) node ≡ bound_after n tree t node
 old_bound n tree t node h = cc (other_node node (left_node t) (omega arith), other_node node (right_node t) (omega arith))
 
-new_left : (n : Net) (tree : Tree) (t : ℕ) → bound_after n tree (suc t) (left_node t) ≡ raised (bound_after n tree t (split_at tree.splits t).leaf) (own n tree (left_node t))
+pub new_left : (n : Net) (tree : Tree) (t : ℕ) → bound_after n tree (suc t) (left_node t) ≡ raised (bound_after n tree t (split_at tree.splits t).leaf) (own n tree (left_node t))
 new_left n tree t = cc (same_node (left_node t))
 
-new_right : (n : Net) (tree : Tree) (t : ℕ) → bound_after n tree (suc t) (right_node t) ≡ raised (bound_after n tree t (split_at tree.splits t).leaf) (own n tree (right_node t))
+pub new_right : (n : Net) (tree : Tree) (t : ℕ) → bound_after n tree (suc t) (right_node t) ≡ raised (bound_after n tree t (split_at tree.splits t).leaf) (own n tree (right_node t))
 new_right n tree t = cc (other_node (right_node t) (left_node t) (omega arith), same_node (right_node t))
 
 module _ (n : Net) (tree : Tree) (limited : IsLimited n) (is : IsTree n tree) where

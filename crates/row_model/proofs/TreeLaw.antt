@@ -14,10 +14,10 @@ pub length_before : (splits : List Split) (t : ℕ) → t ≤ length splits → 
 length_before splits t h = length-take-le t splits h
 
 -- one split more
-cut_more : (splits : List Split) (t node : ℕ) → t < length splits → is_cut (take (t + 1) splits) node ≡ (is_cut (take t splits) node || ((split_at splits t).leaf == node))
+pub cut_more : (splits : List Split) (t node : ℕ) → t < length splits → is_cut (take (t + 1) splits) node ≡ (is_cut (take t splits) node || ((split_at splits t).leaf == node))
 cut_more splits t node h = list_any_more (λ s. s.leaf == node) splits t no_split h
 
-or_false : (a b : Bool) → a ≡ false → b ≡ false → (a || b) ≡ false
+pub or_false : (a b : Bool) → a ≡ false → b ≡ false → (a || b) ≡ false
 or_false a b h k = cc
 
 pub same_node : (a : ℕ) → (a == a) ≡ true
@@ -27,20 +27,20 @@ pub other_leaf : (a b : ℕ) → a ≢ b → (a == b) ≡ false
 other_leaf a b h = grind (arith, nat_tests)
 
 -- a leaf that the next split leaves whole is one of the next tree
-leaf_kept : (splits : List Split) (t node : ℕ) → t < length splits → IsLeaf (take t splits) node → (split_at splits t).leaf ≢ node → IsLeaf (take (t + 1) splits) node
+pub leaf_kept : (splits : List Split) (t node : ℕ) → t < length splits → IsLeaf (take t splits) node → (split_at splits t).leaf ≢ node → IsLeaf (take (t + 1) splits) node
 leaf_kept splits t node h leaf other = record {
   there = omega (arith, leaf.there, length_before splits t (omega arith), length_before splits (t + 1) (omega arith));
   uncut = cut_more splits t node h ∙ or_false (is_cut (take t splits) node) ((split_at splits t).leaf == node) leaf.uncut (other_leaf (split_at splits t).leaf node other);
 }
 
 -- no split of the first ones cuts a node that comes later
-uncut_later : (n : Net) (splits : List Split) (t node : ℕ) → t ≤ length splits → 2 * t ≤ node + 1 → ((i : ℕ) → i < length splits → IsSplitInOrder n splits i) → is_cut (take t splits) node ≡ false
+pub uncut_later : (n : Net) (splits : List Split) (t node : ℕ) → t ≤ length splits → 2 * t ≤ node + 1 → ((i : ℕ) → i < t → IsSplitInOrder n splits i) → is_cut (take t splits) node ≡ false
 uncut_later n splits zero node h later order = refl
 uncut_later n splits (suc t) node h later order =
     let leaf = (order t (omega arith)).leaf in
     ap (λ m. is_cut (take m splits) node) (sym (add-one t))
     ∙ cut_more splits t node (omega arith)
-    ∙ or_false (is_cut (take t splits) node) ((split_at splits t).leaf == node) (uncut_later n splits t node (omega arith) (omega arith) order)
+    ∙ or_false (is_cut (take t splits) node) ((split_at splits t).leaf == node) (uncut_later n splits t node (omega arith) (omega arith) (λ i lt. order i (omega arith)))
     (other_leaf (split_at splits t).leaf node (omega (arith, leaf.there, length_before splits t (omega arith))))
 
 -- ---- boxes
@@ -97,7 +97,7 @@ module _ (n : Net) (In : Box → Type 0) (halves : (b : Box) (coord : ℕ) (cut 
     node = left_node t;
     leaf = record {
       there = omega (arith, length_before splits (suc t) (omega arith));
-      uncut = uncut_later n splits (suc t) (left_node t) (omega arith) (omega arith) order;
+      uncut = uncut_later n splits (suc t) (left_node t) (omega arith) (omega arith) (λ i lt. order i (omega arith));
     };
     lies = subst In (sym (left_box n splits t)) lies;
   }
@@ -105,7 +105,7 @@ module _ (n : Net) (In : Box → Type 0) (halves : (b : Box) (coord : ℕ) (cut 
     node = right_node t;
     leaf = record {
       there = omega (arith, length_before splits (suc t) (omega arith));
-      uncut = uncut_later n splits (suc t) (right_node t) (omega arith) (omega arith) order;
+      uncut = uncut_later n splits (suc t) (right_node t) (omega arith) (omega arith) (λ i lt. order i (omega arith));
     };
     lies = subst In (sym (right_box n splits t)) lies;
   }

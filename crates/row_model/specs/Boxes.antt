@@ -1,5 +1,5 @@
 -- Boxes: for each coordinate of a plan the least and the greatest that it may be.
-use Rattle.std.specs.Prelude.{ℕ, zero, suc, ◌+◌, ◌-◌, ◌*◌, ◌/◌, ◌%◌, ◌<◌, min, nat_lt, ◌==◌, if◌then◌else◌, Option, None, Some, unwrap_or, ℤ, pos, ◌*ℤ◌, ◌≤ℤ◌}
+use Rattle.std.specs.Prelude.{◌≡◌, ℕ, zero, suc, ◌+◌, ◌-◌, ◌*◌, ◌/◌, ◌%◌, ◌<◌, min, nat_lt, ◌==◌, if◌then◌else◌, Option, None, Some, unwrap_or, ℤ, pos, ◌*ℤ◌, ◌≤ℤ◌}
 use Rattle.std.specs.Int.{int_max}
 use Rattle.integers.specs.Sums.{int_sum_at}
 use Rattle.pool_model.specs.Network.{Net}
@@ -79,6 +79,11 @@ pub record IsProper (n : Net) (b : Box) : Type 0 where
   pub in_order : (c : ℕ) → c < coords n → b.low c ≤ℤ b.high c
   pub low : (c : ℕ) → c < coords n → root_low n (coord_at n c) ≤ℤ b.low c
   pub high : (c : ℕ) → c < coords n → b.high c ≤ℤ root_high n (coord_at n c)
+
+-- two boxes have the same ends at each coordinate
+pub record Agree (n : Net) (a b : Box) : Type 0 where
+  pub low : (c : ℕ) → c < coords n → a.low c ≡ b.low c
+  pub high : (c : ℕ) → c < coords n → a.high c ≡ b.high c
 
 -- the two halves of a box that is cut at a coordinate
 abbrev pub left_of : Box → ℕ → ℤ → Box

@@ -1,9 +1,8 @@
 -- The catalogue: every row of the programs P (Haverly 1978), Q (Ben-Tal et al. 1994) and PQ (Tawarmalani and Sahinidis
 -- 2002), numbered by family.
-use Rattle.std.specs.Prelude.{ℕ, ◌+◌, ◌-◌, ◌*◌, ◌/◌, ◌%◌, nat_lt, List, [], ◌∷◌, ◌++◌, length, get_or, Option, option_map, ◌==◌, if◌then◌else◌, ℤ, pos, neg_ℤ, ◌-ℤ◌}
-use Rattle.std.specs.List.{flat_map, filter_map}
+use Rattle.std.specs.Prelude.{ℕ, ◌+◌, ◌-◌, ◌*◌, ◌/◌, ◌%◌, nat_lt, List, [], ◌∷◌, ◌++◌, length, get_or, ◌==◌, if◌then◌else◌, ℤ, pos, neg_ℤ, ◌-ℤ◌}
 use Rattle.pool_model.specs.Network.{Net}
-use Rattle.pool_model.specs.Starting.{tabulate}
+use Rattle.pool_model.specs.Limits.{Limit, most_limits, least_limits, no_limit}
 use Rattle.row_model.specs.Boxes.{Box, root, grain, prop_number, qual_number, flow_number}
 use Rattle.row_model.specs.Variables.{PerVariable, none, path_count, path_feed, path_out}
 use Rattle.row_model.specs.Envelopes.{Ends, side}
@@ -29,32 +28,6 @@ pub record Family : Type 0 where
 -- a coefficient where two numbers are one
 abbrev pub when : ℕ → ℕ → ℤ → ℤ
 when i k c = if i == k then c else pos 0
-
--- ---- limits on qualities
-
--- a limit that is set, with its product and its quality
-pub record Limit : Type 0 where
-  pub product : ℕ
-  pub quality : ℕ
-  pub limit : ℤ
-
--- the limits of a product that are set, by quality
-abbrev pub product_limits : (ℕ → ℕ → Option ℤ) → ℕ → ℕ → List Limit
-product_limits limit qualities j = filter_map (λ k. option_map (λ u. record { product = j; quality = k; limit = u }) (limit j k)) (tabulate (λ k. k) qualities)
-
--- all limits that are set, by product and then by quality
-abbrev pub limits : (ℕ → ℕ → Option ℤ) → ℕ → ℕ → List Limit
-limits limit products qualities = flat_map (product_limits limit qualities) (tabulate (λ j. j) products)
-
-abbrev pub most_limits : Net → List Limit
-most_limits n = limits n.most n.products n.qualities
-
-abbrev pub least_limits : Net → List Limit
-least_limits n = limits n.least n.products n.qualities
-
--- what stands behind the end of a list of limits
-abbrev pub no_limit : Limit
-no_limit = record { product = 0; quality = 0; limit = pos 0 }
 
 -- ---- rows of the network
 

@@ -1,25 +1,21 @@
 -- The variables of the programs: flows, flows along paths, proportions, qualities, and qualities times flows.
-use Rattle.std.specs.Prelude.{ℕ, ◌+◌, ◌*◌, ◌/◌, ◌%◌, min, length, get_or, ℤ, pos, neg_ℤ, ◌+ℤ◌, ◌-ℤ◌, ◌*ℤ◌}
+use Rattle.std.specs.Prelude.{ℕ, ◌+◌, ◌*◌, ◌/◌, ◌%◌, min, length, ℤ, pos, neg_ℤ, ◌+ℤ◌, ◌-ℤ◌, ◌*ℤ◌}
 use Rattle.std.specs.Int.{int_min, int_max}
 use Rattle.integers.specs.Sums.{int_sum_below, piece}
 use Rattle.pool_model.specs.Network.{Net}
-use Rattle.pool_model.specs.Paths.{Path, paths_of}
+use Rattle.pool_model.specs.Paths.{paths_of, path_at}
 use Rattle.row_model.specs.Boxes.{Box, prop_number, qual_number, flow_number}
 
 -- ---- paths by number
-
--- what stands behind the end of a list of paths
-abbrev pub no_path : Path
-no_path = record { feed = 0; out = 0 }
 
 abbrev pub path_count : Net → ℕ
 path_count n = length (paths_of n)
 
 abbrev pub path_feed : Net → ℕ → ℕ
-path_feed n p = (get_or (paths_of n) p no_path).feed
+path_feed n p = (path_at n p).feed
 
 abbrev pub path_out : Net → ℕ → ℕ
-path_out n p = (get_or (paths_of n) p no_path).out
+path_out n p = (path_at n p).out
 
 -- ---- a number for each variable
 
