@@ -9,9 +9,13 @@ use Rattle.pool_model.specs.Network.{Source, Pool, Product, Network, net_of, IsW
 use Rattle.blend_network.specs.Faults.{row_count, row_limit, IsUpTo, no_source_row, no_pool_row, no_product_row}
 use Rattle.blend_network.specs.Checks.{IsChecked}
 use Rattle.blend_network.specs.Shown.{shown_path, IsBuilt}
+use Rattle.blend_network.specs.Meeting.{IsIndexOf}
+use Rattle.blend_network.specs.Limits.{AreLimitsOf}
 use Rattle.blend_network.specs.declared.network.Kind.{Kind}
 use Rattle.blend_network.specs.declared.network.Kind.TheVariants as kind
 use Rattle.blend_network.specs.declared.network.arcs.Arcs.{Arcs}
+use Rattle.blend_network.specs.declared.network.index.Index.{Index}
+use Rattle.blend_network.specs.declared.network.limits.Limits.{Limits}
 use Rattle.blend_network.proofs.Joined.{arcs-between, few_arcs, one_of}
 
 -- what holds of each mapped row holds of each row
@@ -32,9 +36,10 @@ amount_within size z h = omega (arith, ints, h.0, h.1)
 amounts_in_order : (a b : ℤ) → pos 0 ≤ℤ a → a ≤ℤ b → unsigned_abs a ≤ unsigned_abs b
 amounts_in_order a b h k = omega (arith, ints)
 
-pub built : (r : Rows) (arcs : Arcs) → IsRectangular r → IsChecked r arcs → IsUpTo (10 ^ 14) (stand_in r) → IsBuilt (network_of r) (map shown_path arcs.paths.items)
+pub built : (r : Rows) (arcs : Arcs) → IsRectangular r → IsChecked r arcs → IsUpTo (10 ^ 14) (stand_in r) → (index : Index) → IsIndexOf (net_of (network_of r)) index
+    → (limits : Limits) → AreLimitsOf (net_of (network_of r)) limits → IsBuilt (network_of r) (map shown_path arcs.paths.items) index limits
 unfolding net_of
-built r arcs rect checked up =
+built r arcs rect checked up index is_index limits are_set =
     let st = stand_in r in
     let here_s : (i : ℕ) → i < length (map (source_of (stand_in r)) r.sources) → i < length r.sources = λ i h. omega (arith, length-map r.sources (source_of (stand_in r)), h) in
     let here_l : (l : ℕ) → l < length (map (pool_of (stand_in r)) r.pools) → l < length r.pools = λ l h. omega (arith, length-map r.pools (pool_of (stand_in r)), h) in
@@ -92,4 +97,6 @@ built r arcs rect checked up =
       most = λ j h. subst (λ (p : Product). length p.most ≡ length r.qualities) (at_p j h) (rect.most j no_product_row (here_p j h));
       paths = checked.found.paths;
       few = omega (arith, ap length checked.found.paths, checked.faultless.paths);
+      meeting = is_index;
+      set = are_set;
     }

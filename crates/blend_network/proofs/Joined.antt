@@ -3,6 +3,7 @@ use Rattle.std.proofs.Common.{◌≡◌, ◌≢◌, ℕ, zero, suc, ◌+◌, ◌
 use Rattle.std.specs.List.{filter_map, cons_option}
 use Rattle.std.proofs.lemmas.List.Elements.{All-nil, All-cons, Contains-append_right}
 use Rattle.integers.proofs.AtKey.{same_or_other}
+use Rattle.integers.proofs.Elements.{length-filter_map}
 use Rattle.pool_model.specs.Rows.{Rows}
 use Rattle.pool_model.specs.Naming.{number_of, source_names, pool_names, product_names, arc_between, arcs_between}
 use Rattle.pool_model.specs.Network.{Arc, no_arc}
@@ -62,14 +63,6 @@ directs_are r ends d are =
     ∙ arcs_by r ends direct_between (source_names r) (product_names r) are (λ a. ap (λ o. join o (product_number (node_of r a.1))) (source_number_is r a.0) ∙ ap (λ o. join (number_of a.0 (source_names r)) o) (product_number_is r a.1 d))
 
 -- ---- how many there are, and what they join
-
-step_length : {Z : Type 0} (o : Option Z) (rest : List Z) (n : ℕ) → length rest ≤ n → length (cons_option o rest) ≤ suc n
-step_length None rest n h = omega arith
-step_length (Some z) rest n h = omega arith
-
-length-filter_map : {X Z : Type 0} (h : X → Option Z) (xs : List X) → length (filter_map h xs) ≤ length xs
-length-filter_map h [] = omega arith
-length-filter_map h (x ∷ xs) = step_length (h x) (filter_map h xs) (length xs) (length-filter_map h xs)
 
 pub length-arcs : (froms tos : List (List ℕ)) (r : Rows) → length (arcs_between froms tos r) ≤ length r.arcs
 length-arcs froms tos r = length-filter_map (arc_between froms tos) r.arcs

@@ -7,6 +7,8 @@ pub mod Refusals
 pub mod ArcRefusals
 pub mod Joined
 pub mod Built
+pub mod Indexed
+pub mod LimitLists
 pub mod Conditions
 pub mod PathLists
 pub mod CanonicalNames

@@ -1,28 +1,13 @@
 -- The list of paths, one arc after another.
-use Rattle.std.proofs.Common.{◌≡◌, ◌≢◌, ℕ, zero, suc, ◌+◌, ◌==◌, List, [], ◌∷◌, ◌++◌, length, get_or, if◌then◌else◌, add-one, refl, sym, ap, ◌∙◌, arith}
+use Rattle.std.proofs.Common.{◌≡◌, ◌≢◌, ℕ, zero, suc, ◌+◌, List, ◌++◌, length, get_or, refl, sym, ap, ◌∙◌}
 use Rattle.std.specs.List.{flat_map}
 use Rattle.std.proofs.lemmas.List.{flat_map_more}
-use Rattle.std.proofs.lemmas.Bool.Decides.{nat_tests}
+use Rattle.integers.specs.Numbers.{numbers_at}
+use Rattle.integers.proofs.Numbers.{numbers_at-yes, numbers_at-no}
 use Rattle.pool_model.specs.Network.{Arc, Net, Network, net_of, no_arc}
-use Rattle.pool_model.specs.Paths.{numbers_at, feed_paths, pool_paths, paths_below, paths_of}
+use Rattle.pool_model.specs.Paths.{feed_paths, pool_paths, paths_below, paths_of}
 use Rattle.pool_model.specs.Paths as paths
 use Rattle.blend_network.specs.Shown.{joined_net, paths_behind}
-
-chosen : (i k : ℕ) (xs ys : List ℕ) → i ≡ k → (if i == k then xs else ys) ≡ xs
-chosen i k xs ys e = grind (arith, nat_tests)
-
-passed : (i k : ℕ) (xs ys : List ℕ) → i ≢ k → (if i == k then xs else ys) ≡ ys
-passed i k xs ys e = grind (arith, nat_tests)
-
-append_none : {X : Type 0} (xs : List X) → xs ++ [] ≡ xs
-append_none [] = refl
-append_none (x ∷ xs) = ap (λ ys. x ∷ ys) (append_none xs)
-
-numbers_yes : (key : ℕ → ℕ) (k n : ℕ) → key n ≡ k → numbers_at key k (n + 1) ≡ numbers_at key k n ++ n ∷ []
-numbers_yes key k n e = ap (numbers_at key k) (add-one n) ∙ ap (λ xs. numbers_at key k n ++ xs) (chosen (key n) k (n ∷ []) [] e)
-
-numbers_no : (key : ℕ → ℕ) (k n : ℕ) → key n ≢ k → numbers_at key k (n + 1) ≡ numbers_at key k n
-numbers_no key k n e = ap (numbers_at key k) (add-one n) ∙ ap (λ xs. numbers_at key k n ++ xs) (passed (key n) k (n ∷ []) [] e) ∙ append_none (numbers_at key k n)
 
 -- one more feed of the pool
 pub through_yes : (net : Net) (pool e : ℕ) (was now old more : List paths.Path) → was ≡ old ++ flat_map (feed_paths net) (numbers_at net.feed_pool pool e) → net.feed_pool e ≡ pool
@@ -32,11 +17,11 @@ through_yes net pool e was now old more is at made same =
     ∙ ap (λ xs. xs ++ more) is
     ∙ ap (λ xs. (old ++ flat_map (feed_paths net) (numbers_at net.feed_pool pool e)) ++ xs) same
     ∙ flat_map_more (feed_paths net) old (numbers_at net.feed_pool pool e) e
-    ∙ ap (λ xs. old ++ flat_map (feed_paths net) xs) (sym (numbers_yes net.feed_pool pool e at))
+    ∙ ap (λ xs. old ++ flat_map (feed_paths net) xs) (sym (numbers_at-yes net.feed_pool pool e at))
 
 pub through_no : (net : Net) (pool e : ℕ) (was old : List paths.Path) → was ≡ old ++ flat_map (feed_paths net) (numbers_at net.feed_pool pool e) → net.feed_pool e ≢ pool
     → was ≡ old ++ flat_map (feed_paths net) (numbers_at net.feed_pool pool (e + 1))
-through_no net pool e was old is at = is ∙ ap (λ xs. old ++ flat_map (feed_paths net) xs) (sym (numbers_no net.feed_pool pool e at))
+through_no net pool e was old is at = is ∙ ap (λ xs. old ++ flat_map (feed_paths net) xs) (sym (numbers_at-no net.feed_pool pool e at))
 
 -- the paths of a feed are those behind it
 pub behind_all : (pools : ℕ) (feeds outs : List Arc) (e pool : ℕ) → (get_or feeds e no_arc).to ≡ pool → paths_behind outs e pool (length outs) ≡ feed_paths (joined_net pools feeds outs) e

@@ -1,5 +1,7 @@
 pub mod Parts
 pub mod Shown
+pub mod Meeting
+pub mod Limits
 pub mod Kinds
 pub mod Faults
 pub mod FirstFault

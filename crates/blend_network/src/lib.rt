@@ -6,17 +6,22 @@
 //! that the network is within the limits, which bounds every number that a reader gives, and that it was made from rows
 //! with no reason to refuse them.
 //!
+//! A network keeps which arcs and paths meet each node, and which limits are set: [`Network::feeds_into`], [`Network::limits`] and
+//! their like answer them as slices, without a search.
+//!
 //! [`Network::reach_bound`] is a bound on cost that margins alone give.
 //!
 //! Where the rows come from, and what text they were, is left to the crates above.
 #![tactic(auto, unfolding(pool_model::specs::Network::net_of))]
 
 mod laws;
+mod limits;
 mod network;
 mod parts;
 #[cfg(test)]
 mod tests;
 
 pub use laws::canonical_law;
+pub use limits::{Bound, Limit};
 pub use network::{Kind, NetFault, Network};
 pub use parts::{Parts, PoolRow, ProductRow, SourceRow};

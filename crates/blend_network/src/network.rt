@@ -2,16 +2,21 @@
 
 ghost use Rattle.std.specs.Prelude.{◌≡◌, ◌<◌, ◌≤◌, ◌*◌, ◌^◌, [], length, get_or, pos, ◌≤ℤ◌, neg_ℤ};
 ghost use Rattle.pool_model.specs.Network.{net_of, counts_of, IsLimited};
-ghost use Rattle.pool_model.specs.Paths.{paths_of};
+ghost use Rattle.pool_model.specs.Paths.{paths_of, path_at};
+ghost use Rattle.pool_model.specs.Starting.{IsWay, through};
 ghost use Rattle.blend_network.specs.Made.{IsMade};
-ghost use Rattle.blend_network.specs.Shown.{no_path};
 ghost use Rattle.blend_network.specs.Kinds.{names_of};
 
+use self::index::Index;
+use self::limits::Limits;
 use std::marker::Model;
 
 mod arcs;
 mod build;
 mod checks;
+mod index;
+mod limits;
+mod meeting;
 mod names;
 mod narrow;
 mod paths;
@@ -85,6 +90,8 @@ pub struct Network {
     outs: Vec<Arc>,
     directs: Vec<Arc>,
     paths: Vec<Path>,
+    index: Box<Index>,
+    limits: Limits,
 }
 
 impl Model for Network {
@@ -112,7 +119,7 @@ impl Model for Network {
       feeds = map shown_arc n.feeds.items;
       outs = map shown_arc n.outs.items;
       directs = map shown_arc n.directs.items;
-    } (map shown_path n.paths.items) };
+    } (map shown_path n.paths.items) n.index.value n.limits };
 }
 
 impl Network {
@@ -243,11 +250,12 @@ impl Network {
         self.paths.len() as u32
     }
 
-    /// The feed and the out of a path. Paths are ordered by pool, then by feed, then by out.
+    /// The feed and the out of a path, which meet in one pool. Paths are ordered by pool, then by feed, then by out.
     pub fn path(&self, n: u32) -> (u32, u32)
         requires { n < length (paths_of (net_of self.now)) }
-        ensures feed { result.0 ≡ (get_or (paths_of (net_of self.now)) n no_path).feed }
-        ensures out { result.1 ≡ (get_or (paths_of (net_of self.now)) n no_path).out }
+        ensures feed { result.0 ≡ (path_at (net_of self.now) n).feed }
+        ensures out { result.1 ≡ (path_at (net_of self.now) n).out }
+        ensures way { IsWay (net_of self.now) (through result.0 result.1) }
     {
         self.paths[n as usize].arcs()
     }

@@ -6,7 +6,7 @@ ghost use Rattle.pool_model.specs.Paths.{paths_of};
 ghost use Rattle.pool_model.specs.Rows.{IsRectangular};
 ghost use Rattle.blend_network.specs.Parts.{rows_of};
 
-use super::{Kind, NetFault, Network, Parts, PoolRow, ProductRow, SourceRow};
+use super::{Bound, Kind, NetFault, Network, Parts, PoolRow, ProductRow, SourceRow};
 use std::alloc::{AllocError, Global};
 use std::test::Fail;
 
@@ -50,23 +50,21 @@ fn nothing(alloc: Global) -> Parts
     }
 }
 
-/// The cost, the maximum and the first quality of the first source.
-fn first_source(net: &Network) -> (i64, i64, i64)
+/// The cost, the maximum and the first quality of the first source, and the price, the minimum and the maximum of the first
+/// product.
+fn first_rows(net: &Network) -> [i64; 6]
     requires source { 0 < (net_of net.now).sources }
     requires quality { 0 < (net_of net.now).qualities }
+    requires product { 0 < (net_of net.now).products }
 {
-    (
+    [
         net.source_cost(0),
         net.source_max(0),
         net.source_quality(0, 0),
-    )
-}
-
-/// The price, the minimum and the maximum of the first product.
-fn first_product(net: &Network) -> (i64, i64, i64)
-    requires { 0 < (net_of net.now).products }
-{
-    (net.product_price(0), net.product_min(0), net.product_max(0))
+        net.product_price(0),
+        net.product_min(0),
+        net.product_max(0),
+    ]
 }
 
 /// The same with pool P between A and X in place of the direct.
@@ -92,12 +90,36 @@ fn first_path(net: &Network) -> (u32, u32)
     net.path(0)
 }
 
+/// How many arcs and paths meet the first nodes, begin with the first feed and run along the first out.
+fn first_meetings(net: &Network) -> [usize; 9]
+    requires source { 0 < (net_of net.now).sources }
+    requires pool { 0 < (net_of net.now).pools }
+    requires product { 0 < (net_of net.now).products }
+    requires feed { 0 < (net_of net.now).feeds }
+    requires out { 0 < (net_of net.now).outs }
+{
+    [
+        net.feeds_from(0).len(),
+        net.feeds_into(0).len(),
+        net.outs_from(0).len(),
+        net.outs_into(0).len(),
+        net.directs_from(0).len(),
+        net.directs_into(0).len(),
+        net.paths_from(0).len(),
+        net.paths_along(0).len(),
+        net.paths_into(0).len(),
+    ]
+}
+
 #[test]
 fn pools_and_paths_are_read_back(rt: HostRuntime) -> Result<(), Fail> {
     let net = Network::build(rt.alloc(), one_path(rt.alloc())?)?;
     assert_eq!(rt; net.counts(), [1, 1, 1, 1, 1, 1, 0]);
     assert_eq!(rt; net.paths(), 1);
     assert_eq!(rt; first_path(&net), (0, 0));
+    assert_eq!(rt; first_meetings(&net), [1, 1, 1, 1, 0, 0, 1, 1, 1]);
+    assert_eq!(rt; net.limits(Bound::Most).len(), 1);
+    assert!(rt; net.limits(Bound::Least).is_empty());
     assert_eq!(rt; net.reach_bound(), -300_000_000_000_000);
     Ok(())
 }
@@ -106,8 +128,8 @@ fn pools_and_paths_are_read_back(rt: HostRuntime) -> Result<(), Fail> {
 fn one_direct_is_read_back(rt: HostRuntime) -> Result<(), Fail> {
     let net = Network::build(rt.alloc(), one_direct(rt.alloc(), 0, 100_000_000)?)?;
     assert_eq!(rt; net.counts(), [1, 0, 1, 1, 0, 0, 1]);
-    assert_eq!(rt; first_source(&net), (6_000_000, 100_000_000, 3_000_000));
-    assert_eq!(rt; first_product(&net), (9_000_000, 0, 100_000_000));
+    let rows = [6_000_000, 100_000_000, 3_000_000, 9_000_000, 0, 100_000_000];
+    assert_eq!(rt; first_rows(&net), rows);
     assert_eq!(rt; net.reach_bound(), -300_000_000_000_000);
     Ok(())
 }

@@ -11,8 +11,11 @@ ghost use Rattle.blend_network.specs.Checks.{IsChecked};
 
 use super::arcs::Arcs;
 use super::checks::checked_arcs;
+use super::index::index_of;
+use super::limits::{Limits, limits_from};
 use super::narrow::{pools_from, products_from, sources_from, stand_in};
 use super::{Kind, Network};
+use crate::limits::Bound;
 use crate::parts::Parts;
 use std::alloc::{AllocError, AllocFailed, Global};
 
@@ -85,6 +88,8 @@ fn assembled(alloc: Global, parts: Parts, arcs: Arcs) -> Result<Network, AllocEr
     requires checked { IsChecked (rows_of parts) arcs }
     ensures { IfOk result (λ n. n ≡ network_of (rows_of parts)) }
 {
+    let groups = index_of(alloc, &parts, &arcs)?;
+    let index = Box::new(alloc, groups)?;
     let stand_in = stand_in(&parts.products);
     let Parts {
         qualities,
@@ -93,14 +98,21 @@ fn assembled(alloc: Global, parts: Parts, arcs: Arcs) -> Result<Network, AllocEr
         products,
         arcs: _,
     } = parts;
+    let products = products_from(alloc, products)?;
+    let limits = Limits {
+        most: limits_from(alloc, &products, Bound::Most)?,
+        least: limits_from(alloc, &products, Bound::Least)?,
+    };
     Ok(Network {
         qualities,
         sources: sources_from(alloc, sources, stand_in)?,
         pools: pools_from(alloc, pools, stand_in)?,
-        products: products_from(alloc, products)?,
+        products,
         feeds: arcs.feeds,
         outs: arcs.outs,
         directs: arcs.directs,
         paths: arcs.paths,
+        index,
+        limits,
     })
 }

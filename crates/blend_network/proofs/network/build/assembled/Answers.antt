@@ -1,13 +1,16 @@
-use Rattle.std.proofs.Common.{◌≡◌, ◌^◌, map, ℤ, pos, sym, ap, subst, refl, ◌∙◌, arith}
+use Rattle.std.proofs.Common.{◌≡◌, ◌^◌, length, map, ℤ, pos, sym, ap, subst, refl, ◌∙◌, arith}
 use Rattle.std.proofs.lemmas.Int.{ints}
 use Rattle.std.proofs.lemmas.List.{length-map}
-use Rattle.blend_network.specs.declared.network.Kind.TheVariants.{Product}
-use Rattle.pool_model.specs.Naming.{source_of, pool_of, stand_in, network_of}
+use Rattle.blend_network.specs.declared.network.Kind.TheVariants.{Product, Quality}
+use Rattle.blend_network.specs.declared.limits.Bound.TheVariants.{Most, Least}
+use Rattle.pool_model.specs.Naming.{source_of, pool_of, product_of, stand_in, network_of}
 use Rattle.blend_network.specs.Parts.{rows_of, source_row, pool_row, product_row}
 use Rattle.blend_network.specs.Faults.{IsSourceInRange, IsPoolInRange, IsProductInRange, IsUpTo, no_source_row, no_pool_row, no_product_row}
-use Rattle.blend_network.specs.Shown.{shown_path, IsBuilt}
-use Rattle.pool_model.specs.Network.{Network}
+use Rattle.blend_network.specs.Meeting.{IsIndexOf}
+use Rattle.blend_network.specs.Shown.{shown_product, shown_path, IsBuilt}
+use Rattle.pool_model.specs.Network.{Network, net_of}
 use Rattle.blend_network.proofs.Built.{all_rows, same_network, built}
+use Rattle.blend_network.proofs.LimitLists.{products_wide, set_of, both_set}
 use Rattle.blend_network.proofs.network.build.assembled.Goals as goal
 
 pub stand_in-stand_in-requires-clause-count : goal.stand_in-stand_in-requires-clause-count
@@ -27,21 +30,68 @@ pools_from-requires c = all_rows IsPoolInRange pool_row no_pool_row c.args.parts
 pub products_from-requires : goal.products_from-requires
 products_from-requires c = all_rows IsProductInRange product_row no_product_row c.args.parts.products.items c.requires.checked.ranges.products
 
+pub limits_from-requires-clause-few : goal.limits_from-requires-clause-few
+limits_from-requires-clause-few c =
+    let rows = c.args.parts.products.items in
+    omega (
+      arith,
+      ap length c.deref-2.ensures.value,
+      ap length c.in_ok-products.ensures,
+      length-map c.in_ok-products.products.items shown_product,
+      length-map (map product_row rows) product_of,
+      length-map rows product_row,
+      c.requires.checked.faultless.counts Product,
+    )
+
+pub limits_from-requires-clause-narrow : goal.limits_from-requires-clause-narrow
+limits_from-requires-clause-narrow c = λ k d lt.
+    omega (
+      arith,
+      products_wide (rows_of c.args.parts) c.deref-2.result.now Most c.requires.rectangular (ap (map shown_product) c.deref-2.ensures.value ∙ c.in_ok-products.ensures) k d lt,
+      c.requires.checked.faultless.counts Quality,
+    )
+
+pub limits_from-requires-2-clause-few : goal.limits_from-requires-2-clause-few
+limits_from-requires-2-clause-few c =
+    let rows = c.args.parts.products.items in
+    omega (
+      arith,
+      ap length c.deref-3.ensures.value,
+      ap length c.in_ok-products.ensures,
+      length-map c.in_ok-products.products.items shown_product,
+      length-map (map product_row rows) product_of,
+      length-map rows product_row,
+      c.requires.checked.faultless.counts Product,
+    )
+
+pub limits_from-requires-2-clause-narrow : goal.limits_from-requires-2-clause-narrow
+limits_from-requires-2-clause-narrow c = λ k d lt.
+    omega (
+      arith,
+      products_wide (rows_of c.args.parts) c.deref-3.result.now Least c.requires.rectangular (ap (map shown_product) c.deref-3.ensures.value ∙ c.in_ok-products.ensures) k d lt,
+      c.requires.checked.faultless.counts Quality,
+    )
+
 pub invariant_of-result : goal.invariant_of-result
 invariant_of-result c =
     let r = rows_of c.args.parts in
     let stand : pos c.stand_in-stand_in.result ≡ stand_in (rows_of c.args.parts) = rw c.deref.ensures.value at c.stand_in-stand_in.ensures.sum in
     let size = c.stand_in-stand_in.ensures.size in
     let up : IsUpTo (10 ^ 14) (pos c.stand_in-stand_in.result) = (omega (arith, ints), omega (arith, ints, size)) in
-    subst (λ (n : Network). IsBuilt n (map shown_path c.args.arcs.paths.items))
+    subst (λ (n : Network). IsBuilt n (map shown_path c.args.arcs.paths.items) c.in_ok-index.index.value record { most = c.in_ok-limits_from.field-0; least = c.in_ok-limits_from-2.field-0 })
     (sym (same_network _ (network_of r) refl
     (c.in_ok-sources_from.ensures ∙ ap (λ st. map (source_of st) r.sources) stand)
     (c.in_ok-pools_from.ensures ∙ ap (λ st. map (pool_of st) r.pools) stand)
-    c.in_ok-products_from.ensures
+    c.in_ok-products.ensures
     c.requires.checked.found.feeds
     c.requires.checked.found.outs
     c.requires.checked.found.directs))
-    (built r c.args.arcs c.requires.rectangular c.requires.checked (subst (λ (z : ℤ). IsUpTo (10 ^ 14) z) stand up))
+    (built r c.args.arcs c.requires.rectangular c.requires.checked (subst (λ (z : ℤ). IsUpTo (10 ^ 14) z) stand up) c.in_ok-index.index.value (subst (IsIndexOf (net_of (network_of r))) (sym c.in_ok-index.ensures.ok) c.in_ok-groups.ensures) record { most = c.in_ok-limits_from.field-0; least = c.in_ok-limits_from-2.field-0 }
+    (both_set (net_of (network_of r)) record { most = c.in_ok-limits_from.field-0; least = c.in_ok-limits_from-2.field-0 }
+    (set_of r c.deref-2.result.now Most c.in_ok-limits_from.field-0.items (ap (map shown_product) c.deref-2.ensures.value ∙ c.in_ok-products.ensures)
+    (c.in_ok-limits_from.ensures (length r.qualities) (products_wide r c.deref-2.result.now Most c.requires.rectangular (ap (map shown_product) c.deref-2.ensures.value ∙ c.in_ok-products.ensures))))
+    (set_of r c.deref-3.result.now Least c.in_ok-limits_from-2.field-0.items (ap (map shown_product) c.deref-3.ensures.value ∙ c.in_ok-products.ensures)
+    (c.in_ok-limits_from-2.ensures (length r.qualities) (products_wide r c.deref-3.result.now Least c.requires.rectangular (ap (map shown_product) c.deref-3.ensures.value ∙ c.in_ok-products.ensures))))))
 
 pub returns : goal.returns
 returns c =
@@ -50,7 +100,7 @@ returns c =
     same_network _ (network_of r) refl
     (c.in_ok-sources_from.ensures ∙ ap (λ st. map (source_of st) r.sources) stand)
     (c.in_ok-pools_from.ensures ∙ ap (λ st. map (pool_of st) r.pools) stand)
-    c.in_ok-products_from.ensures
+    c.in_ok-products.ensures
     c.requires.checked.found.feeds
     c.requires.checked.found.outs
     c.requires.checked.found.directs

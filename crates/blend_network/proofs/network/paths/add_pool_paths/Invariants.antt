@@ -1,6 +1,7 @@
 use Rattle.std.proofs.Common.{◌≡◌, ℕ, ◌++◌, map}
 use Rattle.std.specs.List.{flat_map}
-use Rattle.pool_model.specs.Paths.{numbers_at, feed_paths}
+use Rattle.integers.specs.Numbers.{numbers_at}
+use Rattle.pool_model.specs.Paths.{feed_paths}
 use Rattle.blend_network.specs.Shown.{shown_arc, shown_path, joined_net}
 use Rattle.blend_network.proofs.network.paths.add_pool_paths.Given as goal
 
