@@ -1,5 +1,6 @@
 pub mod TermLists
+pub mod KeyTerms
 pub mod WriteSteps
 pub mod Roots
-pub mod CellLimits
 pub mod ViewSteps
+pub mod Halving

@@ -1,5 +1,5 @@
 -- The terms of so many variables: one more, two kinds after each other, none, and one alone.
-use Rattle.std.proofs.Common.{◌≡◌, ◌≢◌, ℕ, zero, Bool, true, false, zero-add, add-zero, add-suc, suc, ◌+◌, ◌-◌, ◌*◌, ◌/◌, ◌%◌, ◌<◌, ◌≤◌, inl, inr, nat_lt, ◌==◌, if◌then◌else◌, List, [], ◌∷◌, ◌++◌, length, ℤ, pos, unsigned_abs, arith, refl, sym, ap, ◌∙◌, add-one, append_assoc, length-append}
+use Rattle.std.proofs.Common.{◌≡◌, ◌≢◌, ℕ, zero, Bool, true, false, zero-add, add-zero, add-suc, suc, ◌+◌, ◌-◌, ◌*◌, ◌/◌, ◌%◌, ◌<◌, ◌≤◌, inl, inr, nat_lt, ◌==◌, if◌then◌else◌, List, [], ◌∷◌, ◌++◌, length, ℤ, pos, unsigned_abs, arith, refl, sym, ap, ◌∙◌, append_assoc, length-append}
 use Rattle.std.proofs.lemmas.List.{append-nil}
 use Rattle.std.proofs.lemmas.Nat.{div-mul-add, mod-mul-add}
 use Rattle.std.proofs.lemmas.Bool.Decides.{nat_tests}
@@ -24,13 +24,6 @@ length-term_of v c = cases (unsigned_abs c == 0)
 pub length-terms_from : (first : ℕ) (f : ℕ → ℤ) (n : ℕ) → length (terms_from first f n) ≤ n
 length-terms_from first f zero = omega arith
 length-terms_from first f (suc n) = omega (arith, length-append (terms_from first f n) (term_of (first + n) (f n)), length-terms_from first f n, length-term_of (first + n) (f n))
-
--- one variable more, behind others
-pub terms_more : (old row after : List Term) (first : ℕ) (f : ℕ → ℤ) (i : ℕ) (c : ℤ) → row ≡ old ++ terms_from first f i → after ≡ row ++ term_of (first + i) c → c ≡ f i
-    → after ≡ old ++ terms_from first f (i + 1)
-terms_more old row after first f i c h new e =
-    new ∙ ap (λ (ts : List Term). ts ++ term_of (first + i) c) h ∙ ap (λ (z : ℤ). (old ++ terms_from first f i) ++ term_of (first + i) z) e
-    ∙ append_assoc old (terms_from first f i) (term_of (first + i) (f i)) ∙ rw add-one refl
 
 -- the same coefficients
 pub terms_from-same : (first : ℕ) (f g : ℕ → ℤ) (n : ℕ) → ((i : ℕ) → i < n → f i ≡ g i) → terms_from first f n ≡ terms_from first g n
@@ -117,10 +110,6 @@ terms_from-column first width k f m h =
     here : (i : ℕ) → i < width → column width k f (m * width + i) ≡ when i k (f m)
     here i lt = ap (λ (r : ℕ). when r k (f ((m * width + i) / width))) (mod-mul-add m width i lt) ∙ ap (λ (q : ℕ). when i k (f q)) (div-mul-add m width i lt)
 
--- a loop's terms when it ends
-pub terms_at_end : (old : List Term) (first : ℕ) (f : ℕ → ℤ) (i n : ℕ) → i ≡ n → old ++ terms_from first f i ≡ old ++ terms_from first f n
-terms_at_end old first f i n e = ap (λ (k : ℕ). old ++ terms_from first f k) e
-
 -- one cell of a grid
 pub terms_from-cell : (first width row k : ℕ) (c : ℤ) (m : ℕ) → row < m → k < width
     → terms_from first (λ i. when (i % width) k (when (i / width) row c)) (m * width) ≡ term_of (first + (row * width + k)) c
@@ -181,14 +170,3 @@ terms_from-kinds n a =
   where
     regroup : (X Y Z W P Q M : List Term) → X ++ (Y ++ (Z ++ (W ++ (P ++ (Q ++ M))))) ≡ X ++ Y ++ Z ++ (W ++ P ++ Q ++ M)
     regroup X Y Z W P Q M = simp append_assoc
-
--- one row more of a column, behind others
-pub column_more : (old row after : List Term) (first width k : ℕ) (f : ℕ → ℤ) (m v : ℕ) (c : ℤ) → k < width
-    → row ≡ old ++ terms_from first (column width k f) (m * width) → after ≡ row ++ term_of v c → v ≡ first + (m * width + k) → c ≡ f m
-    → after ≡ old ++ terms_from first (column width k f) ((m + 1) * width)
-column_more old row after first width k f m v c lt h new at e =
-    new ∙ ap (λ (ts : List Term). ts ++ term_of v c) h
-    ∙ ap (λ (u : ℕ). (old ++ terms_from first (column width k f) (m * width)) ++ term_of u c) at
-    ∙ ap (λ (z : ℤ). (old ++ terms_from first (column width k f) (m * width)) ++ term_of (first + (m * width + k)) z) e
-    ∙ append_assoc old (terms_from first (column width k f) (m * width)) (term_of (first + (m * width + k)) (f m))
-    ∙ ap (λ (ts : List Term). old ++ ts) (sym (terms_from-column first width k f m lt))

@@ -4,7 +4,6 @@ pub mod Counted
 pub mod Tables
 pub mod Written
 pub mod Forms
-pub mod Limits
 pub mod Variables
 pub mod Views
 pub mod Shown

@@ -1,5 +1,6 @@
 -- Rows as they are written, term by term.
 use Rattle.std.specs.Prelude.{ℕ, zero, suc, ◌+◌, List, [], ◌∷◌, ◌++◌, ◌==◌, if◌then◌else◌, ℤ, unsigned_abs}
+use Rattle.std.specs.List.{flat_map}
 use Rattle.box_space.specs.declared.terms.Term.{Term}
 
 -- terms in a row, and a constant
@@ -10,6 +11,10 @@ pub record Line : Type 0 where
 -- the term of a variable, where its coefficient is not 0
 abbrev pub term_of : ℕ → ℤ → List Term
 term_of v c = if unsigned_abs c == 0 then [] else record { var = v; coef = c } ∷ []
+
+-- the terms of some numbers: the variable of each, with the coefficient of each
+abbrev pub terms_at : (ℕ → ℕ) → (ℕ → ℤ) → List ℕ → List Term
+terms_at var c numbers = flat_map (λ i. term_of (var i) (c i)) numbers
 
 -- the terms of so many variables from a first one on, by rising number
 abbrev pub terms_from : ℕ → (ℕ → ℤ) → ℕ → List Term

@@ -3,7 +3,7 @@ use Rattle.std.specs.Prelude.{ℕ, ◌*◌, ◌/◌, ◌%◌, ◌<◌, List, ◌
 use Rattle.pool_model.specs.Network.{Net}
 use Rattle.row_model.specs.Variables.{path_count, path_feed, path_out}
 use Rattle.row_model.specs.Catalogue.{when, Row}
-use Rattle.box_space.specs.Numbers.{first_outs, first_directs, first_paths, first_proportions, first_qualities, first_mixed}
+use Rattle.box_space.specs.Numbers.{first_paths, first_proportions, first_qualities, first_mixed}
 use Rattle.box_space.specs.Lines.{terms_from}
 use Rattle.box_space.specs.declared.terms.Term.{Term}
 use Rattle.box_space.specs.Shown.{shown_kind}
@@ -26,8 +26,6 @@ use Rattle.box_space.specs.declared.table.MixedTerms.TheVariants as mixed
 use Rattle.box_space.specs.declared.table.MixingTerms.{MixingTerms}
 use Rattle.box_space.specs.declared.table.MixingTerms.TheVariants.{Proportions, Qualities}
 use Rattle.box_space.specs.declared.table.RowTable.{RowTable}
-use Rattle.box_space.specs.declared.table.KindTerms.{KindTerms}
-use Rattle.box_space.specs.declared.table.KindTerms.TheVariants as kinds
 
 -- ---- coefficients by the number of the variable in its kind
 
@@ -38,12 +36,22 @@ rated Less q = neg_ℤ q
 rated (Below u) q = u -ℤ q
 rated (Above u) q = q -ℤ u
 
+-- what is made of a quality of the source of a feed, of a direct, and of a path
+abbrev pub feed_rate : Net → ℕ → Rate → ℕ → ℤ
+feed_rate n k r e = rated r (n.source_quality (n.feed_source e) k)
+
+abbrev pub direct_rate : Net → ℕ → Rate → ℕ → ℤ
+direct_rate n k r e = rated r (n.source_quality (n.direct_source e) k)
+
+abbrev pub path_rate : Net → ℕ → Rate → ℕ → ℤ
+path_rate n k r p = feed_rate n k r (path_feed n p)
+
 abbrev pub feed_coef : Net → FeedTerms → ℕ → ℤ
 feed_coef n feed.Nothing e = pos 0
 feed_coef n (feed.One f c) e = when e f c
 feed_coef n (feed.From i c) e = when (n.feed_source e) i c
 feed_coef n (feed.To l c) e = when (n.feed_pool e) l c
-feed_coef n (feed.RatedTo l k r) e = when (n.feed_pool e) l (rated r (n.source_quality (n.feed_source e) k))
+feed_coef n (feed.RatedTo l k r) e = when (n.feed_pool e) l (feed_rate n k r e)
 
 abbrev pub out_coef : Net → OutTerms → ℕ → ℤ
 out_coef n out.Nothing o = pos 0
@@ -55,14 +63,14 @@ abbrev pub direct_coef : Net → DirectTerms → ℕ → ℤ
 direct_coef n direct.Nothing e = pos 0
 direct_coef n (direct.From i c) e = when (n.direct_source e) i c
 direct_coef n (direct.To j c) e = when (n.direct_product e) j c
-direct_coef n (direct.RatedTo j k r) e = when (n.direct_product e) j (rated r (n.source_quality (n.direct_source e) k))
+direct_coef n (direct.RatedTo j k r) e = when (n.direct_product e) j (direct_rate n k r e)
 
 abbrev pub path_coef : Net → PathTerms → ℕ → ℤ
 path_coef n path.Nothing p = pos 0
 path_coef n (path.One q c) p = when p q c
 path_coef n (path.From e c) p = when (path_feed n p) e c
 path_coef n (path.By o c) p = when (path_out n p) o c
-path_coef n (path.RatedTo j k r) p = when (n.out_product (path_out n p)) j (rated r (n.source_quality (n.feed_source (path_feed n p)) k))
+path_coef n (path.RatedTo j k r) p = when (n.out_product (path_out n p)) j (path_rate n k r p)
 
 abbrev pub proportion_coef : Net → ProportionTerms → ℕ → ℤ
 proportion_coef n proportion.Nothing e = pos 0
@@ -124,61 +132,38 @@ row_of n t = record {
   constant = t.constant;
 }
 
--- ---- kinds that are numbered one after another
-
-abbrev pub kind_coef : Net → KindTerms → ℕ → ℤ
-kind_coef n (kinds.Feeds t) i = feed_coef n t i
-kind_coef n (kinds.Outs t) i = out_coef n t i
-kind_coef n (kinds.Directs t) i = direct_coef n t i
-kind_coef n (kinds.Paths t) i = path_coef n t i
-kind_coef n (kinds.Proportions t) i = proportion_coef n t i
-
-abbrev pub kind_first : Net → KindTerms → ℕ
-kind_first n (kinds.Feeds t) = 0
-kind_first n (kinds.Outs t) = first_outs n
-kind_first n (kinds.Directs t) = first_directs n
-kind_first n (kinds.Paths t) = first_paths n
-kind_first n (kinds.Proportions t) = first_proportions n
-
-abbrev pub kind_count : Net → KindTerms → ℕ
-kind_count n (kinds.Feeds t) = n.feeds
-kind_count n (kinds.Outs t) = n.outs
-kind_count n (kinds.Directs t) = n.directs
-kind_count n (kinds.Paths t) = path_count n
-kind_count n (kinds.Proportions t) = n.feeds
-
 -- ---- tables of a network: what they name is there
 
 abbrev pub AreFeedTerms : Net → FeedTerms → Type 0
 AreFeedTerms n feed.Nothing = Unit {0}
 AreFeedTerms n (feed.One f c) = f < n.feeds
-AreFeedTerms n (feed.From i c) = Unit {0}
-AreFeedTerms n (feed.To l c) = Unit {0}
-AreFeedTerms n (feed.RatedTo l k r) = k < n.qualities
+AreFeedTerms n (feed.From i c) = i < n.sources
+AreFeedTerms n (feed.To l c) = l < n.pools
+AreFeedTerms n (feed.RatedTo l k r) = (l < n.pools) × (k < n.qualities)
 
 abbrev pub AreOutTerms : Net → OutTerms → Type 0
 AreOutTerms n out.Nothing = Unit {0}
 AreOutTerms n (out.One p c) = p < n.outs
-AreOutTerms n (out.From l c) = Unit {0}
-AreOutTerms n (out.To j c) = Unit {0}
+AreOutTerms n (out.From l c) = l < n.pools
+AreOutTerms n (out.To j c) = j < n.products
 
 abbrev pub AreDirectTerms : Net → DirectTerms → Type 0
 AreDirectTerms n direct.Nothing = Unit {0}
-AreDirectTerms n (direct.From i c) = Unit {0}
-AreDirectTerms n (direct.To j c) = Unit {0}
-AreDirectTerms n (direct.RatedTo j k r) = k < n.qualities
+AreDirectTerms n (direct.From i c) = i < n.sources
+AreDirectTerms n (direct.To j c) = j < n.products
+AreDirectTerms n (direct.RatedTo j k r) = (j < n.products) × (k < n.qualities)
 
 abbrev pub ArePathTerms : Net → PathTerms → Type 0
 ArePathTerms n path.Nothing = Unit {0}
 ArePathTerms n (path.One q c) = q < path_count n
-ArePathTerms n (path.From e c) = Unit {0}
-ArePathTerms n (path.By o c) = Unit {0}
-ArePathTerms n (path.RatedTo j k r) = k < n.qualities
+ArePathTerms n (path.From e c) = e < n.feeds
+ArePathTerms n (path.By o c) = o < n.outs
+ArePathTerms n (path.RatedTo j k r) = (j < n.products) × (k < n.qualities)
 
 abbrev pub AreProportionTerms : Net → ProportionTerms → Type 0
 AreProportionTerms n proportion.Nothing = Unit {0}
 AreProportionTerms n (proportion.One f c) = f < n.feeds
-AreProportionTerms n (proportion.To l c) = Unit {0}
+AreProportionTerms n (proportion.To l c) = l < n.pools
 
 abbrev pub AreQualityTerms : Net → QualityTerms → Type 0
 AreQualityTerms n quality.Nothing = Unit {0}
@@ -192,13 +177,6 @@ AreMixedTerms n (mixed.Each outs k) = AreOutTerms n outs × (k < n.qualities)
 abbrev pub AreMixingTerms : Net → MixingTerms → Type 0
 AreMixingTerms n (Proportions w q) = ArePathTerms n w × AreProportionTerms n q
 AreMixingTerms n (Qualities q v) = AreQualityTerms n q × AreMixedTerms n v
-
-abbrev pub AreKindTerms : Net → KindTerms → Type 0
-AreKindTerms n (kinds.Feeds t) = AreFeedTerms n t
-AreKindTerms n (kinds.Outs t) = AreOutTerms n t
-AreKindTerms n (kinds.Directs t) = AreDirectTerms n t
-AreKindTerms n (kinds.Paths t) = ArePathTerms n t
-AreKindTerms n (kinds.Proportions t) = AreProportionTerms n t
 
 pub record IsTable (n : Net) (t : RowTable) : Type 0 where
   pub feeds : AreFeedTerms n t.feeds

@@ -1,7 +1,7 @@
 -- Boxes that code looks at.
 use Rattle.std.specs.Prelude.{◌≡◌, ℕ, ◌<◌, length, get_or, pos, ℤ, slice_set}
 use Rattle.pool_model.specs.Network.{Net}
-use Rattle.row_model.specs.Boxes.{Box, coords, IsProper, root}
+use Rattle.row_model.specs.Boxes.{Box, Agree, coords, IsProper, root}
 use Rattle.box_space.specs.declared.boxes.BoxView.{BoxView}
 use Rattle.box_space.specs.declared.boxes.BoxEnds.{BoxEnds}
 
@@ -23,6 +23,11 @@ pub record AreEnds (n : Net) (b : BoxEnds) : Type 0 where
   pub lows : length b.low.items ≡ coords n
   pub highs : length b.high.items ≡ coords n
   pub proper : IsProper n (ends_of b)
+
+-- the ends that are held are those of a box
+pub record AreEndsOf (n : Net) (box : Box) (b : BoxEnds) : Type 0 where
+  pub proper : AreEnds n b
+  pub agree : Agree n (ends_of b) box
 
 -- the box of all plans that obey
 pub record AreRoot (n : Net) (b : BoxEnds) : Type 0 where

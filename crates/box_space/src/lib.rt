@@ -8,9 +8,9 @@
 
 mod arcs;
 mod boxes;
-mod coefs;
 mod coordinates;
 mod counts;
+mod kinds;
 mod limits;
 mod multipliers;
 mod numbers;
@@ -25,10 +25,10 @@ pub use arcs::{direct_ends, feed_ends, out_ends, path_arcs, path_ends};
 pub use boxes::{BoxEnds, BoxView, can_cut, halves};
 pub use coordinates::{Coord, Form, Split, coord_at, coords, of_form};
 pub use counts::{Counts, Firsts, counts_in, firsts_in};
-pub use limits::{Bound, Limit, count_limits, limit_at};
+pub use limits::{count_limits, limit_at};
 pub use multipliers::{Part, Proof};
 pub use numbers::{flow_coordinate, mixed_number, quality_coordinate, quality_number};
-pub use root::root_box;
+pub use root::{root_box, root_ends};
 pub use rows::{LinRow, RowKind};
 pub use table::{
     DirectTerms, FeedTerms, MixedTerms, MixingTerms, OutTerms, PathTerms, ProportionTerms,

@@ -35,7 +35,7 @@ pub fn root_box(alloc: Global, net: &Network) -> Result<BoxEnds, Memory>
 }
 
 /// The ends of a coordinate in the root box.
-fn root_ends(net: &Network, coord: Coord) -> (i64, i64)
+pub fn root_ends(net: &Network, coord: Coord) -> (i64, i64)
     requires { IsCoord (net_of net.now) coord }
     ensures low { result.0 ≡ root_low (net_of net.now) (shown_coord coord) }
     ensures high { result.1 ≡ root_high (net_of net.now) (shown_coord coord) }

@@ -112,13 +112,3 @@ pub struct RowTable {
     pub mixing: MixingTerms,
     pub constant: i128,
 }
-
-/// A kind of variables that are numbered one after another.
-#[derive(Clone, Copy, Debug)]
-pub(crate) enum KindTerms {
-    Feeds(FeedTerms),
-    Outs(OutTerms),
-    Directs(DirectTerms),
-    Paths(PathTerms),
-    Proportions(ProportionTerms),
-}

@@ -1,25 +1,21 @@
 //! Rows written from their tables.
 
-ghost use Rattle.std.specs.Prelude.{◌≡◌, ◌++◌, ◌+◌, ◌*◌, ◌/◌, ◌%◌, ◌<◌, ◌≤◌, length};
+ghost use Rattle.std.specs.Prelude.{◌≡◌, ◌++◌, ◌+◌, ◌*◌, ◌/◌, ◌%◌, ◌<◌, ◌≤◌, All, length};
 ghost use Rattle.pool_model.specs.Network.{net_of};
-ghost use Rattle.row_model.specs.Variables.{path_count};
-ghost use Rattle.box_space.specs.Lines.{terms_from};
+ghost use Rattle.box_space.specs.Lines.{terms_at, terms_from};
 ghost use Rattle.box_space.specs.Numbers.{first_qualities, first_mixed};
 ghost use Rattle.box_space.specs.Tables as tables;
 ghost use Rattle.box_space.specs.Written.{IsLineOf};
 
-use crate::coefs::{kind_coef, out_coef, range_of};
 use crate::counts::counts_in;
 use crate::numbers::{mixed_number, quality_number};
 use crate::rows::{LinRow, RowKind};
-use crate::table::{
-    DirectTerms, FeedTerms, KindTerms, MixedTerms, MixingTerms, OutTerms, PathTerms,
-    ProportionTerms, QualityTerms, RowTable,
-};
+use crate::table::{MixedTerms, MixingTerms, OutTerms, QualityTerms, RowTable};
 use blend_network::Network;
 
 impl LinRow {
-    /// Writes the row of a table in place of what stands there: terms by rising variable, each variable once.
+    /// Writes the row of a table in place of what stands there: terms by rising variable, each variable once. It costs what
+    /// the terms cost.
     pub fn write(&mut self, net: &Network, table: &RowTable) -> RowKind
         requires { tables.IsTable (net_of net.now) table.now }
         ensures { IsLineOf (net_of net.now) (tables.row_of (net_of net.now) table.now) self.new result }
@@ -28,9 +24,9 @@ impl LinRow {
         let _counts = counts_in(net);
         self.clear();
         self.set_constant(table.constant);
-        self.add_kind(net, KindTerms::Feeds(table.feeds));
-        self.add_kind(net, KindTerms::Outs(table.outs));
-        self.add_kind(net, KindTerms::Directs(table.directs));
+        self.add_feeds(net, table.feeds);
+        self.add_outs(net, table.outs);
+        self.add_directs(net, table.directs);
         self.add_mixing(net, table.mixing);
         table.kind
     }
@@ -45,28 +41,14 @@ impl LinRow {
         match terms {
             MixingTerms::Proportions(paths, proportions) => {
                 let _counts = counts_in(net);
-                self.add_kind(net, KindTerms::Paths(paths));
-                self.add_kind(net, KindTerms::Proportions(proportions));
+                self.add_paths(net, paths);
+                self.add_proportions(net, proportions);
             }
             MixingTerms::Qualities(qualities, mixed) => {
                 let _counts = counts_in(net);
                 self.add_quality(net, qualities);
                 self.add_mixed(net, mixed);
             }
-        }
-    }
-
-    /// Adds the terms of a kind that is numbered one after another.
-    fn add_kind(&mut self, net: &Network, terms: KindTerms)
-        requires terms { tables.AreKindTerms (net_of net.now) terms }
-        requires room { length self.old.terms + tables.kind_count (net_of net.now) terms ≤ 1024 }
-        ensures terms { self.new.terms ≡ self.old.terms ++ terms_from (tables.kind_first (net_of net.now) terms) (tables.kind_coef (net_of net.now) terms) (tables.kind_count (net_of net.now) terms) }
-        ensures size { length self.new.terms ≤ length self.old.terms + tables.kind_count (net_of net.now) terms }
-        ensures constant { self.new.constant ≡ self.old.constant }
-    {
-        let (first, count) = range_of(net, terms);
-        for i in 0..count {
-            self.add_term(first + i, kind_coef(net, terms, i));
         }
     }
 
@@ -102,16 +84,36 @@ impl LinRow {
         }
     }
 
-    /// Adds the terms of one quality times flows, out by out.
+    /// Adds the terms of one quality times the flows along some outs.
     fn add_column(&mut self, net: &Network, outs: OutTerms, quality: u32)
+        requires outs { tables.AreOutTerms (net_of net.now) outs }
         requires quality { quality < (net_of net.now).qualities }
         requires room { length self.old.terms + (net_of net.now).outs < 1024 }
         ensures terms { self.new.terms ≡ self.old.terms ++ terms_from (first_mixed (net_of net.now)) (tables.mixed_column (net_of net.now) outs quality) ((net_of net.now).outs * (net_of net.now).qualities) }
         ensures constant { self.new.constant ≡ self.old.constant }
     {
-        let counts = counts_in(net);
-        for out in 0..counts.outs {
-            self.add_term(mixed_number(net, out, quality), out_coef(net, outs, out));
+        match outs {
+            OutTerms::Nothing => {}
+            OutTerms::One(out, coef) => self.add_term(mixed_number(net, out, quality), coef),
+            OutTerms::From(pool, coef) => {
+                self.add_mixed_each(net, net.outs_from(pool), quality, coef);
+            }
+            OutTerms::To(product, coef) => {
+                self.add_mixed_each(net, net.outs_into(product), quality, coef);
+            }
+        }
+    }
+
+    /// Adds a term of one coefficient for one quality times the flow along each of these outs.
+    fn add_mixed_each(&mut self, net: &Network, outs: &[u32], quality: u32, coef: i128)
+        requires known { All (λ o. o < (net_of net.now).outs) outs.now }
+        requires quality { quality < (net_of net.now).qualities }
+        requires room { length self.old.terms + length outs.now ≤ 1024 }
+        ensures terms { self.new.terms ≡ self.old.terms ++ terms_at (λ o. first_mixed (net_of net.now) + (o * (net_of net.now).qualities + quality)) (λ o. coef) outs.now }
+        ensures constant { self.new.constant ≡ self.old.constant }
+    {
+        for out in outs {
+            self.add_term(mixed_number(net, *out, quality), coef);
         }
     }
 }

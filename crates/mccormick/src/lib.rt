@@ -4,6 +4,8 @@
 #![tactic(auto)]
 
 mod sides;
+#[cfg(test)]
+mod tests;
 mod written;
 
 pub use sides::{Ends, Side, side_of};

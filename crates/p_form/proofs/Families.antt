@@ -3,7 +3,8 @@ use Rattle.std.proofs.Common.{◌≡◌, ℕ, ◌-◌, ◌*◌, ◌/◌, ◌%◌
 use Rattle.std.proofs.lemmas.Bool.Decides.{nat_tests}
 use Rattle.pool_model.specs.Network.{Net}
 use Rattle.row_model.specs.Boxes.{Box}
-use Rattle.row_model.specs.Catalogue.{p_families, row_in, mixing_row, mixed_most_row, mixed_least_row, most_limits, least_limits, no_limit}
+use Rattle.pool_model.specs.Limits.{most_limits, least_limits, no_limit}
+use Rattle.row_model.specs.Catalogue.{p_families, row_in, mixing_row, mixed_most_row, mixed_least_row}
 
 pub at_mixing : (n : Net) (b : Box) (i : ℕ) → i < n.pools * n.qualities → row_in (p_families n b) i ≡ mixing_row n (i / n.qualities) (i % n.qualities)
 at_mixing n b i h = let first : nat_lt i (n.pools * n.qualities) ≡ true = grind (arith, nat_tests) in rw first refl

@@ -6,14 +6,14 @@ ghost use Rattle.row_model.specs.Boxes.{qual_number, flow_number};
 ghost use Rattle.row_model.specs.Catalogue.{p_families, row_count, row_in, mixing_row, mixed_most_row, mixed_least_row, quality_envelope_row};
 ghost use Rattle.mccormick.specs.Shown.{shown_ends};
 ghost use Rattle.box_space.specs.Views.{IsView, box_of};
-ghost use Rattle.box_space.specs.Limits.{shown_limit};
+ghost use Rattle.blend_network.specs.Limits.{shown_limit};
 ghost use Rattle.box_space.specs.Tables.{row_of, IsTable};
 
 use crate::mixings;
-use blend_network::Network;
+use blend_network::{Bound, Limit, Network};
 use box_space::{
-    Bound, BoxView, DirectTerms, FeedTerms, Limit, MixedTerms, MixingTerms, OutTerms, QualityTerms,
-    Rate, RowKind, RowTable, count_limits, counts_in, flow_coordinate, limit_at, out_ends,
+    BoxView, DirectTerms, FeedTerms, MixedTerms, MixingTerms, OutTerms, QualityTerms, Rate,
+    RowKind, RowTable, count_limits, counts_in, flow_coordinate, limit_at, out_ends,
     quality_coordinate,
 };
 use mccormick::{Ends, side_of};
@@ -63,7 +63,7 @@ fn envelope_at(n: u32, outs: u32, qualities: u32) -> (u32, u32, u8)
 /// The quality that flows into a pool flows out of it.
 fn mixing(pool: u32, quality: u32) -> RowTable
     ensures row { (n : Net) → row_of n result ≡ mixing_row n pool quality }
-    ensures table { (n : Net) → quality < n.qualities → IsTable n result }
+    ensures table { (n : Net) → pool < n.pools → quality < n.qualities → IsTable n result }
 {
     RowTable {
         kind: RowKind::Equal,
@@ -81,7 +81,7 @@ fn mixing(pool: u32, quality: u32) -> RowTable
 /// A product's mean of a quality is at most its limit.
 fn mixed_most(u: Limit) -> RowTable
     ensures row { (n : Net) → row_of n result ≡ mixed_most_row n (shown_limit u) }
-    ensures table { (n : Net) → u.quality < n.qualities → IsTable n result }
+    ensures table { (n : Net) → u.product < n.products → u.quality < n.qualities → IsTable n result }
 {
     RowTable {
         kind: RowKind::AtLeast,
@@ -99,7 +99,7 @@ fn mixed_most(u: Limit) -> RowTable
 /// A product's mean of a quality is at least its limit.
 fn mixed_least(u: Limit) -> RowTable
     ensures row { (n : Net) → row_of n result ≡ mixed_least_row n (shown_limit u) }
-    ensures table { (n : Net) → u.quality < n.qualities → IsTable n result }
+    ensures table { (n : Net) → u.product < n.products → u.quality < n.qualities → IsTable n result }
 {
     RowTable {
         kind: RowKind::AtLeast,

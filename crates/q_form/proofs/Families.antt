@@ -3,7 +3,8 @@ use Rattle.std.proofs.Common.{◌≡◌, ℕ, ◌-◌, ◌<◌, ◌≤◌, lengt
 use Rattle.std.proofs.lemmas.Bool.Decides.{nat_tests}
 use Rattle.pool_model.specs.Network.{Net}
 use Rattle.row_model.specs.Boxes.{Box}
-use Rattle.row_model.specs.Catalogue.{q_families, row_in, proportions_row, feed_row, path_most_row, path_least_row, most_limits, least_limits, no_limit}
+use Rattle.pool_model.specs.Limits.{most_limits, least_limits, no_limit}
+use Rattle.row_model.specs.Catalogue.{q_families, row_in, proportions_row, feed_row, path_most_row, path_least_row}
 
 pub at_proportions : (n : Net) (b : Box) (i : ℕ) → i < n.pools → row_in (q_families n b) i ≡ proportions_row n i
 at_proportions n b i h = let first : nat_lt i n.pools ≡ true = grind (arith, nat_tests) in rw first refl

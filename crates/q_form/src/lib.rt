@@ -14,8 +14,8 @@ ghost use Rattle.row_model.specs.Catalogue.{q_families, row_count, row_in};
 ghost use Rattle.box_space.specs.Views.{IsView, box_of};
 ghost use Rattle.box_space.specs.Written.{IsLineOf};
 
-use blend_network::Network;
-use box_space::{Bound, BoxView, LinRow, RowKind, count_limits, counts_in};
+use blend_network::{Bound, Network};
+use box_space::{BoxView, LinRow, RowKind, count_limits, counts_in};
 
 /// How many rows the form has: in every box as many.
 pub fn count(net: &Network) -> u32

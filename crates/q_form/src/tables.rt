@@ -7,14 +7,13 @@ ghost use Rattle.mccormick.specs.Shown.{shown_ends};
 ghost use Rattle.row_model.specs.Variables.{path_count};
 ghost use Rattle.row_model.specs.Catalogue.{q_families, row_count, row_in, proportions_row, feed_row as feed_row_lem, path_most_row, path_least_row, proportion_envelope_row};
 ghost use Rattle.box_space.specs.Views.{IsView, box_of};
-ghost use Rattle.box_space.specs.Limits.{shown_limit};
+ghost use Rattle.blend_network.specs.Limits.{shown_limit};
 ghost use Rattle.box_space.specs.Tables.{row_of, IsTable};
 
-use blend_network::Network;
+use blend_network::{Bound, Limit, Network};
 use box_space::{
-    Bound, BoxView, DirectTerms, FeedTerms, Limit, MixingTerms, OutTerms, PathTerms,
-    ProportionTerms, Rate, RowKind, RowTable, count_limits, counts_in, flow_coordinate, limit_at,
-    path_arcs,
+    BoxView, DirectTerms, FeedTerms, MixingTerms, OutTerms, PathTerms, ProportionTerms, Rate,
+    RowKind, RowTable, count_limits, counts_in, flow_coordinate, limit_at, path_arcs,
 };
 use mccormick::{Ends, side_of};
 
@@ -53,7 +52,7 @@ pub(crate) fn table_at(net: &Network, v: &BoxView, n: u32) -> RowTable
 /// The proportions of a pool's feeds sum to 1.
 fn proportions(pool: u32) -> RowTable
     ensures row { (n : Net) → row_of n result ≡ proportions_row n pool }
-    ensures table { (n : Net) → IsTable n result }
+    ensures table { (n : Net) → pool < n.pools → IsTable n result }
 {
     RowTable {
         kind: RowKind::Equal,
@@ -83,7 +82,7 @@ fn feed(feed: u32) -> RowTable
 /// A product's mean of a quality is at most its limit.
 fn path_most(u: Limit) -> RowTable
     ensures row { (n : Net) → row_of n result ≡ path_most_row n (shown_limit u) }
-    ensures table { (n : Net) → u.quality < n.qualities → IsTable n result }
+    ensures table { (n : Net) → u.product < n.products → u.quality < n.qualities → IsTable n result }
 {
     RowTable {
         kind: RowKind::AtLeast,
@@ -101,7 +100,7 @@ fn path_most(u: Limit) -> RowTable
 /// A product's mean of a quality is at least its limit.
 fn path_least(u: Limit) -> RowTable
     ensures row { (n : Net) → row_of n result ≡ path_least_row n (shown_limit u) }
-    ensures table { (n : Net) → u.quality < n.qualities → IsTable n result }
+    ensures table { (n : Net) → u.product < n.products → u.quality < n.qualities → IsTable n result }
 {
     RowTable {
         kind: RowKind::AtLeast,

@@ -37,17 +37,10 @@ rising_at parts i j lt h r = omega (arith, shown-row parts i, shown-row parts j,
 pub rising_all : (parts : List Part) → ((k : ℕ) → suc k < length parts → (get_or parts k no_part).row < (get_or parts (suc k) no_part).row) → multipliers.IsRising (map shown_part parts)
 rising_all parts h i j lt k = omega (arith, shown-row parts i, shown-row parts j, rises (λ i. (get_or parts i no_part).row) (length parts) h i j lt (omega (arith, length-map parts shown_part)))
 
--- ---- signs, of a part that is read and of the same in the model
-pub signed_here : (kinds : ℕ → Kind) (xs ys : List Part) (k : ℕ) (kind : Kind) → xs ≡ ys → kind ≡ kinds (get_or xs k no_part).row
-    → multipliers.IsSigned kind (get_or xs k no_part).mult → multipliers.IsSigned (kinds (get_or ys k no_part).row) (get_or ys k no_part).mult
-signed_here kinds xs ys k kind e f h =
+-- ---- signs
+-- a part that is read, and the same in the model
+pub signed_same : (kinds : ℕ → Kind) (xs ys : List Part) (k : ℕ) → xs ≡ ys
+    → multipliers.IsSigned (kinds (get_or xs k no_part).row) (get_or xs k no_part).mult → multipliers.IsSigned (kinds (get_or ys k no_part).row) (get_or ys k no_part).mult
+signed_same kinds xs ys k e h =
     let P : List Part → Type 0 = λ zs. multipliers.IsSigned (kinds (get_or zs k no_part).row) (get_or zs k no_part).mult in
-    let Q : Kind → Type 0 = λ j. multipliers.IsSigned j (get_or xs k no_part).mult in
-    subst P e (subst Q f h)
-
-pub signed_back : (kinds : ℕ → Kind) (xs ys : List Part) (k : ℕ) (kind : Kind) → xs ≡ ys → kind ≡ kinds (get_or xs k no_part).row
-    → multipliers.IsSigned (kinds (get_or ys k no_part).row) (get_or ys k no_part).mult → multipliers.IsSigned kind (get_or xs k no_part).mult
-signed_back kinds xs ys k kind e f h =
-    let P : List Part → Type 0 = λ zs. multipliers.IsSigned (kinds (get_or zs k no_part).row) (get_or zs k no_part).mult in
-    let Q : Kind → Type 0 = λ j. multipliers.IsSigned j (get_or xs k no_part).mult in
-    subst Q (sym f) (subst P (sym e) h)
+    subst P e h

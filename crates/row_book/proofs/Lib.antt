@@ -13,3 +13,5 @@ pub mod Answered
 pub mod WeightSums
 pub mod Parts
 pub mod Least
+pub mod AgreedFaults
+pub mod Narrowing

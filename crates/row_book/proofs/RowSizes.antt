@@ -8,11 +8,12 @@ use Rattle.pool_model.specs.Starting.{lesser, least_below}
 use Rattle.row_model.specs.Boxes.{Box, Coord, prop, qual, flow, coords, coord_at, root_low, root_high, IsProper, greater, greatest_below, fed_quality, prop_number, qual_number, flow_number}
 use Rattle.row_model.specs.Variables.{PerVariable, path_count, path_feed, path_out, variables, by_number}
 use Rattle.row_model.specs.Envelopes.{Ends, Side, side}
-use Rattle.row_model.specs.Catalogue.{Family, Row, Limit, limits, no_limit, most_limits, least_limits, when, rows, row_at, catalogue, row_in, row_count, network_families, p_families, q_families, pq_families, source_row, balance_row, pool_row, maximum_row, minimum_row, mixing_row, mixed_most_row, mixed_least_row, quality_ends, quality_envelope_row, proportions_row, feed_row, path_most_row, path_least_row, proportion_ends, proportion_envelope_row, out_row, share_row}
+use Rattle.pool_model.specs.Limits.{Limit, limits, no_limit, most_limits, least_limits}
+use Rattle.pool_model.proofs.Limits.{IsSet, limits-set}
+use Rattle.row_model.specs.Catalogue.{Family, Row, when, rows, row_at, catalogue, row_in, row_count, network_families, p_families, q_families, pq_families, source_row, balance_row, pool_row, maximum_row, minimum_row, mixing_row, mixed_most_row, mixed_least_row, quality_ends, quality_envelope_row, proportions_row, feed_row, path_most_row, path_least_row, proportion_ends, proportion_envelope_row, out_row, share_row}
 use Rattle.integers.proofs.Grids.{grid-below, grid-row, grid-column}
 use Rattle.row_model.proofs.Numbering.{at_coord, HoldsByKind, by_number-each}
 use Rattle.row_model.proofs.PathSums.{path_feed-below, path_out-below, path-joined}
-use Rattle.box_space.proofs.CellLimits.{cell, cell_limits, all_cells}
 use Rattle.row_book.proofs.Families.{HoldsOfEach, each_row, each-append}
 
 -- at most 10^14 in size
@@ -142,25 +143,12 @@ pub record IsFewLimit (n : Net) (u : Limit) : Type 0 where
   pub quality : u.quality < n.qualities
   pub limit : unsigned_abs u.limit ≤ 10 ^ 12
 
-cell-few : (n : Net) (limit : ℕ → ℕ → Option ℤ) (j k : ℕ) (o : Option ℤ) → limit j k ≡ o → k < n.qualities → ((u : ℤ) → limit j k ≡ Some u → IsWithin (10 ^ 11) u) → All (IsFewLimit n) (cell limit j k)
-cell-few n limit j k None e hk h = rw e (All-nil (IsFewLimit n))
-cell-few n limit j k (Some u) e hk h = rw e (All-cons (IsFewLimit n) record { product = j; quality = k; limit = u } [] record { quality = hk; limit = within (10 ^ 11) u (omega arith) (h u e) } (All-nil (IsFewLimit n)))
-
-cells-few : (n : Net) (limit : ℕ → ℕ → Option ℤ) (products c : ℕ) → c ≤ products * n.qualities → ((j k : ℕ) (u : ℤ) → j < products → k < n.qualities → limit j k ≡ Some u → IsWithin (10 ^ 11) u)
-    → All (IsFewLimit n) (cell_limits limit n.qualities c)
-cells-few n limit products zero h each = All-nil (IsFewLimit n)
-cells-few n limit products (suc c) h each =
-    let row = grid-row products n.qualities c (omega arith) in
-    let column = grid-column products n.qualities c (omega arith) in
-    All-append (IsFewLimit n) (cell_limits limit n.qualities c) (cell limit (c / n.qualities) (c % n.qualities)) (cells-few n limit products c (omega arith) each)
-    (cell-few n limit (c / n.qualities) (c % n.qualities) (limit (c / n.qualities) (c % n.qualities)) refl column (λ u e. each (c / n.qualities) (c % n.qualities) u row column e))
-
 limit-few : (n : Net) (limit : ℕ → ℕ → Option ℤ) → ((j k : ℕ) (u : ℤ) → j < n.products → k < n.qualities → limit j k ≡ Some u → IsWithin (10 ^ 11) u)
     → (i : ℕ) → i < length (limits limit n.products n.qualities) → IsFewLimit n (get_or (limits limit n.products n.qualities) i no_limit)
 limit-few n limit each i lt =
-    let whole = all_cells limit n.qualities n.products in
-    let few = subst (λ (us : List Limit). All (IsFewLimit n) us) (sym whole) (cells-few n limit n.products (n.products * n.qualities) (omega arith) each) in
-    few i no_limit lt
+    let u = get_or (limits limit n.products n.qualities) i no_limit in
+    let is = All-get_or (IsSet limit n.products n.qualities) (limits limit n.products n.qualities) i no_limit lt (limits-set limit n.products n.qualities) in
+    record { quality = is.quality; limit = within (10 ^ 11) u.limit (omega arith) (each u.product u.quality u.limit is.product is.quality is.set) }
 
 -- ---- rows, kind by kind
 

@@ -73,7 +73,8 @@ fn has(form: Form, group: Group) -> bool
     }
 }
 
-/// Writes the row of a number in a box, in place of what stood in the row: terms by rising variable, each variable once.
+/// Writes the row of a number in a box, in place of what stood in the row: terms by rising variable, each variable once. It
+/// costs what the row's terms cost: nothing that grows with the network besides.
 pub fn row_at(net: &Network, v: &BoxView, id: u32, row: &mut LinRow) -> RowKind
     requires view { IsView (net_of net.now) v.now }
     requires known { id < rows_lem (net_of net.now) }

@@ -11,9 +11,13 @@
 #![tactic(auto)]
 
 mod catalogue;
+#[cfg(test)]
+mod expected;
 mod fault;
 mod multiplying;
 mod network_rows;
+#[cfg(test)]
+mod networks;
 mod ordered;
 mod scratch;
 mod shown;

@@ -68,7 +68,7 @@ fn source(net: &Network, source: u32) -> RowTable
 /// What flows into a pool flows out of it.
 fn balance(pool: u32) -> RowTable
     ensures row { (n : Net) → row_of n result ≡ balance_row n pool }
-    ensures table { (n : Net) → IsTable n result }
+    ensures table { (n : Net) → pool < n.pools → IsTable n result }
 {
     RowTable {
         kind: RowKind::Equal,

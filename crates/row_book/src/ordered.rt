@@ -4,7 +4,7 @@ ghost use Rattle.std.specs.Prelude.{◌≡◌, ◌≢◌, ◌^◌, ◌<◌, ◌�
 ghost use Rattle.pool_model.specs.Network.{net_of};
 ghost use Rattle.row_model.specs.Catalogue as catalogue;
 ghost use Rattle.row_model.specs.Multipliers.{IsRising, IsSigned};
-ghost use Rattle.box_space.specs.Shown.{shown_kind, shown_proof};
+ghost use Rattle.box_space.specs.Shown.{shown_proof};
 ghost use Rattle.box_space.specs.Views.{box_of, IsView};
 ghost use Rattle.row_book.specs.Faults.{IsFirstFault};
 ghost use Rattle.row_book.specs.PartRows.{kind_at};
@@ -13,7 +13,7 @@ ghost use Rattle.row_book.specs.PartSums.{AreInOrder};
 use crate::catalogue::{row_at, rows};
 use crate::fault::ProofFault;
 use blend_network::Network;
-use box_space::{BoxView, LinRow, Proof, RowKind};
+use box_space::{BoxView, LinRow, Part, Proof, RowKind};
 
 /// The first of the faults that a look at the rows' numbers and the multipliers alone shows. `row` is written over.
 pub(crate) fn check_parts(
@@ -76,20 +76,24 @@ fn are_signed(net: &Network, v: &BoxView, proof: &Proof, row: &mut LinRow) -> bo
     ensures { IsTrue result ↔ All (λ q. IsSigned (kind_at (net_of net.now) (box_of v.now) q.row) q.mult) (shown_proof proof.now).parts }
 {
     for part in &proof.parts {
-        let kind = row_at(net, v, part.row, row);
-        if !has_sign(kind, part.mult) {
+        if !has_sign(net, v, *part, row) {
             return false;
         }
     }
     true
 }
 
-/// Whether a multiplier may stand on a row of a kind.
-fn has_sign(kind: RowKind, mult: i64) -> bool
-    ensures { IsTrue result ↔ IsSigned (shown_kind kind) mult }
+/// Whether a multiplier may stand on its row. The row is written only where the multiplier is below 0, for its kind.
+fn has_sign(net: &Network, v: &BoxView, part: Part, row: &mut LinRow) -> bool
+    requires view { IsView (net_of net.now) v.now }
+    requires known { part.row < catalogue.rows (net_of net.now) }
+    ensures { IsTrue result ↔ IsSigned (kind_at (net_of net.now) (box_of v.now) part.row) part.mult }
 {
-    match kind {
-        RowKind::AtLeast => mult >= 0,
+    if part.mult >= 0 {
+        return true;
+    }
+    match row_at(net, v, part.row, row) {
+        RowKind::AtLeast => false,
         RowKind::Equal => true,
     }
 }

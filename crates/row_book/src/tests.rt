@@ -1,302 +1,168 @@
-//! Every row of a network with a pool and two products, against rows that are written out by hand.
+//! Every row of two networks against rows that are written out by hand, and how many rows there are.
 //!
-//! The variables are x 0 and 1, y 2 and 3, z 4 and 5, w 6 to 9, proportions 10 and 11, the pool's quality 12, and quality
-//! times flow 13 and 14.
+//! Of Haverly's network the variables are x 0 and 1, y 2 and 3, z 4 and 5, w 6 to 9, proportions 10 and 11, the pool's quality
+//! 12, and quality times flow 13 and 14. Of the network of two pools they are x 0 to 2, y 3 to 5, z 6 and 7, w 8 to 12,
+//! proportions 13 to 15, qualities 16 to 19, and quality times flow 20 to 25.
 
-ghost use Rattle.std.specs.Prelude.{◌≡◌, IfOk, length, map, All};
-ghost use Rattle.pool_model.specs.Rows.{IsRectangular};
-ghost use Rattle.blend_network.specs.Parts.{rows_of, source_row, product_row};
+ghost use Rattle.std.specs.Prelude.{◌≡◌, IfOk};
+ghost use Rattle.pool_model.specs.Network.{Net, net_of};
+ghost use Rattle.box_space.specs.Views.{AreEnds, IsView};
 
 use super::{in_form, row_at, rows};
-use blend_network::{Network, Parts, PoolRow, ProductRow, SourceRow};
-use box_space::{Form, LinRow, RowKind, root_box};
+use crate::expected::{
+    FLOWS, FURTHER, HAVERLY, PATHS, PROPORTION_SIDES, QUALITY_SIDES, SMALLER_PROPORTION_SIDES,
+    SMALLER_QUALITY_SIDES,
+};
+use crate::networks::{haverly, of_trials, two_pools};
+use blend_network::Network;
+use box_space::{BoxEnds, BoxView, Form, LinRow, RowKind, root_box};
+use edge_io::Memory;
 use std::alloc::{AllocError, Global};
 use std::test::Fail;
 
-pub(crate) fn source(
+/// The rows of a box, a line each.
+fn rows_text(alloc: Global, net: &Network, v: &BoxView) -> Result<String, Memory>
+    requires { IsView (net_of net.now) v.now }
+{
+    let mut row = LinRow::new(alloc)?;
+    let mut text = String::new(alloc);
+    for id in 0..rows(net) {
+        let kind = row_at(net, v, id, &mut row);
+        add_row(alloc, &mut text, kind, &row)?;
+    }
+    Ok(text)
+}
+
+/// Adds the line of a row.
+fn add_row(
     alloc: Global,
-    name: &str,
-    cost: i128,
-    sulfur: i128,
-) -> Result<SourceRow, AllocError>
-    ensures { IfOk result (λ s. length s.quality.items ≡ 1) }
+    text: &mut String,
+    kind: RowKind,
+    row: &LinRow,
+) -> Result<(), AllocError> {
+    text.push_str(match kind {
+        RowKind::AtLeast => "ge",
+        RowKind::Equal => "eq",
+    })?;
+    add_number(alloc, text, row.constant())?;
+    for term in row.terms() {
+        add_number(alloc, text, term.var.into())?;
+        add_number(alloc, text, term.coef)?;
+    }
+    text.push_str("\n")
+}
+
+/// Adds a space and a number.
+fn add_number(alloc: Global, text: &mut String, number: i128) -> Result<(), AllocError> {
+    text.push_str(format!(in alloc; " {number}")?.as_str())
+}
+
+/// Whether a text is these parts, one after another.
+fn is_made_of(text: &str, parts: &[&str]) -> bool {
+    let mut rest = text;
+    for part in parts {
+        match rest.strip_prefix(*part) {
+            Some(behind) => rest = behind,
+            None => return false,
+        }
+    }
+    rest.is_empty()
+}
+
+/// The ends of a smaller box of the network of two pools: proportions, qualities and flows.
+const SMALLER: [(i64, i64); 10] = [
+    (262_144, 786_432),
+    (524_288, 1_048_576),
+    (100, 524_288),
+    (1_200_000, 2_500_000),
+    (600_000, 800_000),
+    (1_000_000, 1_000_000),
+    (500_000, 500_000),
+    (10_000_000, 90_000_000),
+    (1, 69_999_999),
+    (20_000_000, 150_000_000),
+];
+
+/// The root box with these ends, coordinate by coordinate.
+fn box_between(alloc: Global, net: &Network, ends: &[(i64, i64)]) -> Result<BoxEnds, Memory>
+    ensures { IfOk result (λ b. AreEnds (net_of net.now) b) }
 {
-    Ok(SourceRow {
-        name: String::from_str(alloc, name)?,
-        cost,
-        max: None,
-        quality: vec![in alloc; sulfur]?,
-    })
+    let mut b = root_box(alloc, net)?;
+    let mut coord: usize = 0;
+    for (low, high) in ends {
+        narrow(&mut b, coord, *low, *high);
+        coord = coord.saturating_add(1);
+    }
+    Ok(b)
 }
 
-pub(crate) fn product(
-    alloc: Global,
-    name: &str,
-    price: i128,
-    max: i128,
-    sulfur: i128,
-) -> Result<ProductRow, AllocError>
-    ensures least { IfOk result (λ p. length p.least.items ≡ 1) }
-    ensures most { IfOk result (λ p. length p.most.items ≡ 1) }
+/// Moves the ends of a coordinate inwards, where there is such a coordinate and they lie within its ends.
+fn narrow(b: &mut BoxEnds, coord: usize, low: i64, high: i64)
+    ensures { (n : Net) → AreEnds n b.old → AreEnds n b.new }
 {
-    Ok(ProductRow {
-        name: String::from_str(alloc, name)?,
-        price,
-        min: 0,
-        max,
-        least: vec![in alloc; None]?,
-        most: vec![in alloc; Some(sulfur)]?,
-    })
-}
-
-pub(crate) fn arc(alloc: Global, from: &str, to: &str) -> Result<(String, String), AllocError> {
-    Ok((String::from_str(alloc, from)?, String::from_str(alloc, to)?))
-}
-
-/// Sources A and B feed the pool P, which sends to X and Y, and so does C.
-pub(crate) fn haverly(alloc: Global) -> Result<Parts, AllocError>
-    ensures { IfOk result (λ p. IsRectangular (rows_of p)) }
-{
-    Ok(Parts {
-        qualities: vec![in alloc; String::from_str(alloc, "sulfur")?]?,
-        sources: sources(alloc)?,
-        pools: pools(alloc)?,
-        products: products(alloc)?,
-        arcs: arcs(alloc)?,
-    })
-}
-
-fn sources(alloc: Global) -> Result<Vec<SourceRow>, AllocError>
-    ensures { IfOk result (λ v. All (λ s. length s.quality ≡ 1) (map source_row v.items)) }
-{
-    let a = source(alloc, "A", 6_000_000, 3_000_000)?;
-    let b = source(alloc, "B", 16_000_000, 1_000_000)?;
-    let c = source(alloc, "C", 10_000_000, 2_000_000)?;
-    Ok(vec![in alloc; a, b, c]?)
-}
-
-fn pools(alloc: Global) -> Result<Vec<PoolRow>, AllocError> {
-    let pool = PoolRow {
-        name: String::from_str(alloc, "P")?,
-        max: None,
-    };
-    Ok(vec![in alloc; pool]?)
-}
-
-fn products(alloc: Global) -> Result<Vec<ProductRow>, AllocError>
-    ensures least { IfOk result (λ v. All (λ p. length p.least ≡ 1) (map product_row v.items)) }
-    ensures most { IfOk result (λ v. All (λ p. length p.most ≡ 1) (map product_row v.items)) }
-{
-    let x = product(alloc, "X", 9_000_000, 100_000_000, 2_500_000)?;
-    let y = product(alloc, "Y", 15_000_000, 200_000_000, 1_500_000)?;
-    Ok(vec![in alloc; x, y]?)
-}
-
-fn arcs(alloc: Global) -> Result<Vec<(String, String)>, AllocError> {
-    let mut arcs = Vec::new(alloc);
-    for (from, to) in [
-        ("A", "P"),
-        ("B", "P"),
-        ("P", "X"),
-        ("P", "Y"),
-        ("C", "X"),
-        ("C", "Y"),
-    ] {
-        arcs.push(arc(alloc, from, to)?)?;
+    let (lows, highs) = (b.low.as_slice(), b.high.as_slice());
+    if coord >= lows.len() || coord >= highs.len() {
+        return;
     }
-    Ok(arcs)
-}
-
-/// Whether a row is equal to 0, its constant, and its terms.
-type Expected = (bool, i128, &'static [(u32, i128)]);
-
-fn expected(id: u32) -> Expected {
-    if id < 9 {
-        network_row(id)
-    } else if id < 20 {
-        quality_row(id)
-    } else if id < 41 {
-        proportion_row(id)
-    } else {
-        further_row(id)
+    if low < lows[coord] || high < low || highs[coord] < high {
+        return;
     }
-}
-
-fn network_row(id: u32) -> Expected {
-    match id {
-        0 => (false, 300_000_000, &[(0, -1)]),
-        1 => (false, 300_000_000, &[(1, -1)]),
-        2 => (false, 300_000_000, &[(4, -1), (5, -1)]),
-        3 => (true, 0, &[(0, 1), (1, 1), (2, -1), (3, -1)]),
-        4 => (false, 300_000_000, &[(2, -1), (3, -1)]),
-        5 => (false, 100_000_000, &[(2, -1), (4, -1)]),
-        6 => (false, 200_000_000, &[(3, -1), (5, -1)]),
-        7 => (false, 0, &[(2, 1), (4, 1)]),
-        8 => (false, 0, &[(3, 1), (5, 1)]),
-        _ => (false, 0, &[]),
-    }
-}
-
-fn quality_row(id: u32) -> Expected {
-    match id {
-        9 => (
-            true,
-            0,
-            &[(0, 3_000_000), (1, 1_000_000), (13, -1), (14, -1)],
-        ),
-        10 => (false, 0, &[(2, 2_500_000), (4, 500_000), (13, -1)]),
-        11 => (false, 0, &[(3, 1_500_000), (5, -500_000), (14, -1)]),
-        12 => (false, 0, &[(2, -1_000_000), (13, 1)]),
-        13 => (
-            false,
-            300_000_000_000_000,
-            &[(2, -3_000_000), (12, -100_000_000), (13, 1)],
-        ),
-        14 => (false, 0, &[(2, 3_000_000), (13, -1)]),
-        15 => (
-            false,
-            -100_000_000_000_000,
-            &[(2, 1_000_000), (12, 100_000_000), (13, -1)],
-        ),
-        16 => (false, 0, &[(3, -1_000_000), (14, 1)]),
-        17 => (
-            false,
-            600_000_000_000_000,
-            &[(3, -3_000_000), (12, -200_000_000), (14, 1)],
-        ),
-        18 => (false, 0, &[(3, 3_000_000), (14, -1)]),
-        19 => (
-            false,
-            -200_000_000_000_000,
-            &[(3, 1_000_000), (12, 200_000_000), (14, -1)],
-        ),
-        _ => (false, 0, &[]),
-    }
-}
-
-fn proportion_row(id: u32) -> Expected {
-    match id {
-        20 => (true, -1_048_576, &[(10, 1), (11, 1)]),
-        21 => (true, 0, &[(0, 1), (6, -1), (7, -1)]),
-        22 => (true, 0, &[(1, 1), (8, -1), (9, -1)]),
-        23 => (
-            false,
-            0,
-            &[
-                (2, 2_500_000),
-                (4, 500_000),
-                (6, -3_000_000),
-                (8, -1_000_000),
-            ],
-        ),
-        24 => (
-            false,
-            0,
-            &[
-                (3, 1_500_000),
-                (5, -500_000),
-                (7, -3_000_000),
-                (9, -1_000_000),
-            ],
-        ),
-        25 => (false, 0, &[(6, 1_048_576)]),
-        26 => (
-            false,
-            104_857_600_000_000,
-            &[(2, -1_048_576), (6, 1_048_576), (10, -100_000_000)],
-        ),
-        27 => (false, 0, &[(2, 1_048_576), (6, -1_048_576)]),
-        28 => (false, 0, &[(6, -1_048_576), (10, 100_000_000)]),
-        29 => (false, 0, &[(7, 1_048_576)]),
-        30 => (
-            false,
-            209_715_200_000_000,
-            &[(3, -1_048_576), (7, 1_048_576), (10, -200_000_000)],
-        ),
-        31 => (false, 0, &[(3, 1_048_576), (7, -1_048_576)]),
-        32 => (false, 0, &[(7, -1_048_576), (10, 200_000_000)]),
-        33 => (false, 0, &[(8, 1_048_576)]),
-        34 => (
-            false,
-            104_857_600_000_000,
-            &[(2, -1_048_576), (8, 1_048_576), (11, -100_000_000)],
-        ),
-        35 => (false, 0, &[(2, 1_048_576), (8, -1_048_576)]),
-        36 => (false, 0, &[(8, -1_048_576), (11, 100_000_000)]),
-        37 => (false, 0, &[(9, 1_048_576)]),
-        38 => (
-            false,
-            209_715_200_000_000,
-            &[(3, -1_048_576), (9, 1_048_576), (11, -200_000_000)],
-        ),
-        39 => (false, 0, &[(3, 1_048_576), (9, -1_048_576)]),
-        40 => (false, 0, &[(9, -1_048_576), (11, 200_000_000)]),
-        _ => (false, 0, &[]),
-    }
-}
-
-fn further_row(id: u32) -> Expected {
-    match id {
-        41 => (true, 0, &[(2, -1), (6, 1), (8, 1)]),
-        42 => (true, 0, &[(3, -1), (7, 1), (9, 1)]),
-        43 => (
-            false,
-            0,
-            &[(6, -1_048_576), (7, -1_048_576), (10, 300_000_000)],
-        ),
-        44 => (
-            false,
-            0,
-            &[(8, -1_048_576), (9, -1_048_576), (11, 300_000_000)],
-        ),
-        _ => (false, 0, &[]),
-    }
-}
-
-fn is_row(row: &LinRow, constant: i128, terms: &[(u32, i128)]) -> bool {
-    let written = row.terms();
-    row.constant() == constant
-        && written.len() == terms.len()
-        && written
-            .iter()
-            .zip(terms)
-            .all(|(t, e)| t.var == e.0 && t.coef == e.1)
+    b.low[coord] = low;
+    b.high[coord] = high;
 }
 
 #[test]
-fn rows_by_hand(rt: HostRuntime) -> Result<(), Fail> {
+fn rows_of_haverly(rt: HostRuntime) -> Result<(), Fail> {
     let alloc = rt.alloc();
     let net = Network::build(alloc, haverly(alloc)?)?;
-    assert_eq!(rt; rows(&net), 45);
     let ends = root_box(alloc, &net)?;
-    let v = ends.view();
-    let mut row = LinRow::new(alloc)?;
-    for id in 0..rows(&net) {
-        let kind = row_at(&net, &v, id, &mut row);
-        let (is_equal, constant, terms) = expected(id);
-        assert_eq!(rt; kind == RowKind::Equal, is_equal, "the kind of row {id}");
-        assert!(rt; is_row(&row, constant, terms), "row {id}");
-    }
+    let text = rows_text(alloc, &net, &ends.view())?;
+    assert_eq!(rt; text.as_str(), HAVERLY);
     Ok(())
 }
 
-/// How many rows a form has.
-fn count_in(net: &Network, form: Form) -> u32 {
-    let mut count: u32 = 0;
+#[test]
+fn rows_of_two_pools(rt: HostRuntime) -> Result<(), Fail> {
+    let alloc = rt.alloc();
+    let net = Network::build(alloc, two_pools(alloc)?)?;
+    let root = root_box(alloc, &net)?;
+    let parts = [FLOWS, QUALITY_SIDES, PATHS, PROPORTION_SIDES, FURTHER];
+    let text = rows_text(alloc, &net, &root.view())?;
+    assert!(rt; is_made_of(text.as_str(), &parts), "{text}");
+    let ends = box_between(alloc, &net, &SMALLER)?;
+    let parts = [
+        FLOWS,
+        SMALLER_QUALITY_SIDES,
+        PATHS,
+        SMALLER_PROPORTION_SIDES,
+        FURTHER,
+    ];
+    let text = rows_text(alloc, &net, &ends.view())?;
+    assert!(rt; is_made_of(text.as_str(), &parts), "{text}");
+    Ok(())
+}
+
+/// How many rows there are, and how many the forms P, Q and PQ have.
+fn counts_of(net: &Network) -> [u32; 4] {
+    let mut counts = [rows(net), 0, 0, 0];
     for id in 0..rows(net) {
-        if in_form(net, form, id) {
-            count = count.saturating_add(1);
+        for (n, form) in [(1, Form::P), (2, Form::Q), (3, Form::Pq)] {
+            if in_form(net, form, id) {
+                counts[n] = counts[n].saturating_add(1);
+            }
         }
     }
-    count
+    counts
 }
 
 #[test]
-fn rows_by_form(rt: HostRuntime) -> Result<(), Fail> {
+fn rows_are_counted(rt: HostRuntime) -> Result<(), Fail> {
     let alloc = rt.alloc();
     let net = Network::build(alloc, haverly(alloc)?)?;
-    assert_eq!(rt; count_in(&net, Form::P), 20);
-    assert_eq!(rt; count_in(&net, Form::Q), 30);
-    assert_eq!(rt; count_in(&net, Form::Pq), 34);
+    assert_eq!(rt; counts_of(&net), [45, 20, 30, 34]);
+    let net = Network::build(alloc, two_pools(alloc)?)?;
+    assert_eq!(rt; counts_of(&net), [77, 42, 39, 45]);
+    let net = Network::build(alloc, of_trials(alloc)?)?;
+    assert_eq!(rt; counts_of(&net), [743, 190, 543, 581]);
     Ok(())
 }

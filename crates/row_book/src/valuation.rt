@@ -18,8 +18,9 @@ use crate::weighing::weigh;
 use blend_network::Network;
 use box_space::{BoxView, Proof};
 
-/// What the proof shows of the box, or its first fault. It writes each row of the proof three times and goes over its terms, for
-/// signs, weight and number, and twice over the variables. It takes no memory.
+/// What the proof shows of the box, or its first fault. It takes no memory. It goes twice over the terms of the proof's rows, for
+/// the weight and for the number, and once over those of each row whose multiplier is below 0, for the row's kind; and it goes
+/// four times over the network's variables.
 pub fn value(
     net: &Network,
     v: &BoxView,

@@ -4,8 +4,8 @@ ghost use Rattle.std.specs.Prelude.{◌≡◌, IfOk};
 ghost use Rattle.pool_model.specs.Rows.{IsRectangular};
 ghost use Rattle.blend_network.specs.Parts.{rows_of};
 
-use super::tests::{arc, haverly, product, source};
 use super::{ProofFault, Scratch, Shown, value};
+use crate::networks::{arc, haverly, product, source};
 use blend_network::{Network, Parts};
 use box_space::{Part, Proof, root_box};
 use std::alloc::{AllocError, Global};
@@ -58,15 +58,16 @@ fn the_first_fault_is_named(rt: HostRuntime) -> Result<(), Fail> {
     let alloc = rt.alloc();
     let net = Network::build(alloc, haverly(alloc)?)?;
     let root = root_box(alloc, &net)?;
-    let cases = [
-        (1, (6, -1), ProofFault::Sign),
-        (1, (45, 1), ProofFault::UnknownRow),
-        (1, (6, 0), ProofFault::ZeroPart),
-        (0, (6, 1), ProofFault::ShowsNothing),
+    let cases: [(u64, &[(u32, i64)], ProofFault); 5] = [
+        (1, &[(6, -1)], ProofFault::Sign),
+        (1, &[(45, 1)], ProofFault::UnknownRow),
+        (1, &[(6, 0)], ProofFault::ZeroPart),
+        (0, &[(6, 1)], ProofFault::ShowsNothing),
+        (0, &[], ProofFault::ShowsNothing),
     ];
-    for (scale, part, fault) in cases {
+    for (scale, parts, fault) in cases {
         let mut scratch = Scratch::new(alloc, &net)?;
-        let proof = proof(alloc, scale, &[part])?;
+        let proof = proof(alloc, scale, parts)?;
         let shown = value(&net, &root.view(), &proof, &mut scratch);
         assert_eq!(rt; shown, Err(fault));
     }
@@ -78,13 +79,16 @@ fn a_weight_of_the_limit_is_narrow(rt: HostRuntime) -> Result<(), Fail> {
     let alloc = rt.alloc();
     let net = Network::build(alloc, far_apart(alloc)?)?;
     let root = root_box(alloc, &net)?;
-    let mut scratch = Scratch::new(alloc, &net)?;
-    let most = proof(alloc, 1, &[(3, 2_251_799_813_685_248)])?;
-    let shown = value(&net, &root.view(), &most, &mut scratch);
     let bound = -85_070_591_730_234_615_865_843_651_857_942_052_864;
-    assert_eq!(rt; shown, Ok(Shown::Bound(bound)));
-    let wider = proof(alloc, 1, &[(2, 1), (3, 2_251_799_813_685_248)])?;
-    let shown = value(&net, &root.view(), &wider, &mut scratch);
-    assert_eq!(rt; shown, Err(ProofFault::Wide));
+    // The product's limit, by qualities and by proportions: rows 3 and 4 have the same terms.
+    for limit in [3, 4] {
+        let mut scratch = Scratch::new(alloc, &net)?;
+        let most = proof(alloc, 1, &[(limit, 2_251_799_813_685_248)])?;
+        let shown = value(&net, &root.view(), &most, &mut scratch);
+        assert_eq!(rt; shown, Ok(Shown::Bound(bound)));
+        let wider = proof(alloc, 1, &[(2, 1), (limit, 2_251_799_813_685_248)])?;
+        let shown = value(&net, &root.view(), &wider, &mut scratch);
+        assert_eq!(rt; shown, Err(ProofFault::Wide));
+    }
     Ok(())
 }

@@ -1,7 +1,8 @@
-use Rattle.std.proofs.Common.{◌≡◌, ℕ, ◌-◌, ◌*◌, ◌/◌, ◌%◌, ap, arith, length, get_or, sym, ◌∙◌}
+use Rattle.std.proofs.Common.{◌≡◌, ℕ, ◌-◌, ◌*◌, ◌/◌, ◌%◌, ◌<◌, ap, arith, length, get_or, sym, ◌∙◌}
 use Rattle.pool_model.specs.Network.{net_of}
-use Rattle.row_model.specs.Catalogue.{mixing_row, mixed_most_row, mixed_least_row, most_limits, least_limits, no_limit}
-use Rattle.integers.proofs.Grids.{grid-column}
+use Rattle.pool_model.specs.Limits.{most_limits, least_limits, no_limit}
+use Rattle.row_model.specs.Catalogue.{mixing_row, mixed_most_row, mixed_least_row}
+use Rattle.integers.proofs.Grids.{grid-row, grid-column}
 use Rattle.box_space.specs.Views.{box_of}
 use Rattle.p_form.proofs.Families.{at_mixing, at_most, at_least}
 use Rattle.p_form.proofs.tables.table_at.Goals as goal
@@ -17,11 +18,9 @@ pub returns-then-n-mixing_rows-clause-table : goal.returns-then-n-mixing_rows-cl
 returns-then-n-mixing_rows-clause-table c =
     let n = net_of c.args.net.now in
     let counts = c.counts_in-counts.ensures.counts in
-    c.mixing.ensures.table n (omega (
-      arith,
-      counts.qualities,
-      grid-column c.counts_in-counts.result.pools c.counts_in-counts.result.qualities c.args.n (omega (arith, c.mixings-mixing_rows.ensures.value)),
-    ))
+    let among : c.args.n < c.counts_in-counts.result.pools * c.counts_in-counts.result.qualities = omega (arith, c.mixings-mixing_rows.ensures.value) in
+    c.mixing.ensures.table n (omega (arith, counts.pools, grid-row c.counts_in-counts.result.pools c.counts_in-counts.result.qualities c.args.n among))
+    (omega (arith, counts.qualities, grid-column c.counts_in-counts.result.pools c.counts_in-counts.result.qualities c.args.n among))
 
 pub returns-then-n-most-clause-row : goal.returns-then-n-most-clause-row
 returns-then-n-most-clause-row c =
@@ -41,3 +40,9 @@ returns-then-n-least-clause-row c =
     let place : c.args.n - c.mixings-mixing_rows.result - c.count_limits-most.result ≡ c.args.n - n.pools * n.qualities - length (most_limits n) = omega (arith, rows, most) in
     c.mixed_least.ensures.row n ∙ ap (mixed_least_row n) (c.limit_at-then-n-least.ensures.limit ∙ ap (λ (z : ℕ). get_or (least_limits n) z no_limit) place)
     ∙ sym (at_least n (box_of c.args.v.now) c.args.n (omega (arith, rows)) (omega (arith, rows, most)) (omega (arith, rows, most, c.count_limits-least.ensures.count)))
+
+pub returns-then-n-most-clause-table : goal.returns-then-n-most-clause-table
+returns-then-n-most-clause-table c = c.mixed_most.ensures.table (net_of c.args.net.now) c.limit_at.ensures.product c.limit_at.ensures.quality
+
+pub returns-then-n-least-clause-table : goal.returns-then-n-least-clause-table
+returns-then-n-least-clause-table c = c.mixed_least.ensures.table (net_of c.args.net.now) c.limit_at-then-n-least.ensures.product c.limit_at-then-n-least.ensures.quality

@@ -1,6 +1,7 @@
 use Rattle.std.proofs.Common.{◌≡◌, ℕ, ◌-◌, ap, arith, length, get_or, sym, ◌∙◌}
 use Rattle.pool_model.specs.Network.{net_of}
-use Rattle.row_model.specs.Catalogue.{feed_row, path_most_row, path_least_row, most_limits, least_limits, no_limit}
+use Rattle.pool_model.specs.Limits.{most_limits, least_limits, no_limit}
+use Rattle.row_model.specs.Catalogue.{feed_row, path_most_row, path_least_row}
 use Rattle.box_space.specs.Views.{box_of}
 use Rattle.q_form.proofs.Families.{at_proportions, at_feed, at_most, at_least}
 use Rattle.q_form.proofs.tables.table_at.Goals as goal
@@ -11,7 +12,7 @@ returns-then-n-counts-clause-row c =
     c.proportions.ensures.row n ∙ sym (at_proportions n (box_of c.args.v.now) c.args.n (omega (arith, c.counts_in-counts.ensures.counts.pools)))
 
 pub returns-then-n-counts-clause-table : goal.returns-then-n-counts-clause-table
-returns-then-n-counts-clause-table c = c.proportions.ensures.table (net_of c.args.net.now)
+returns-then-n-counts-clause-table c = c.proportions.ensures.table (net_of c.args.net.now) (omega (arith, c.counts_in-counts.ensures.counts.pools))
 
 pub returns-then-n-counts-2-clause-row : goal.returns-then-n-counts-2-clause-row
 returns-then-n-counts-2-clause-row c =
@@ -36,3 +37,9 @@ returns-then-n-least-clause-row c =
     let place : c.args.n - c.counts_in-counts.result.pools - c.counts_in-counts.result.feeds - c.count_limits-most.result ≡ c.args.n - n.pools - n.feeds - length (most_limits n) = omega (arith, counts.pools, counts.feeds, most) in
     c.path_least.ensures.row n ∙ ap (path_least_row n) (c.limit_at-then-n-least.ensures.limit ∙ ap (λ (z : ℕ). get_or (least_limits n) z no_limit) place)
     ∙ sym (at_least n (box_of c.args.v.now) c.args.n (omega (arith, counts.pools)) (omega (arith, counts.pools, counts.feeds)) (omega (arith, counts.pools, counts.feeds, most)) (omega (arith, counts.pools, counts.feeds, most, c.count_limits-least.ensures.count)))
+
+pub returns-then-n-most-clause-table : goal.returns-then-n-most-clause-table
+returns-then-n-most-clause-table c = c.path_most.ensures.table (net_of c.args.net.now) c.limit_at.ensures.product c.limit_at.ensures.quality
+
+pub returns-then-n-least-clause-table : goal.returns-then-n-least-clause-table
+returns-then-n-least-clause-table c = c.path_least.ensures.table (net_of c.args.net.now) c.limit_at-then-n-least.ensures.product c.limit_at-then-n-least.ensures.quality

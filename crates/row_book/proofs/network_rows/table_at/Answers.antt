@@ -5,7 +5,9 @@ use Rattle.row_book.proofs.NetworkRows.{at_balance}
 use Rattle.row_book.proofs.network_rows.table_at.Goals as goal
 
 pub returns-then-n-counts-2-clause-table : goal.returns-then-n-counts-2-clause-table
-returns-then-n-counts-2-clause-table c = c.balance.ensures.table (net_of c.args.net.now)
+returns-then-n-counts-2-clause-table c =
+    let counts = c.counts_in-counts.ensures.counts in
+    c.balance.ensures.table (net_of c.args.net.now) (omega (arith, counts.sources, counts.pools))
 
 pub returns-then-n-counts-2-clause-row : goal.returns-then-n-counts-2-clause-row
 returns-then-n-counts-2-clause-row c =

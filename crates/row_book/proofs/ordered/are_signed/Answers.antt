@@ -1,18 +1,15 @@
-use Rattle.std.proofs.Common.{◌≡◌, ◌<◌, length, get_or, arith, ap, rules, FitsSigned, true, below_more}
-use Rattle.std.proofs.lemmas.Int.{to_z-of_z}
-use mir.Syntax.{w64}
+use Rattle.std.proofs.Common.{◌≡◌, ◌<◌, length, get_or, arith, ap, sym, true, below_more}
 use Rattle.pool_model.specs.Network.{net_of}
 use Rattle.row_model.specs.Catalogue as catalogue
 use Rattle.row_model.specs.Multipliers.{IsSigned}
-use Rattle.box_space.specs.Shown.{shown_kind}
 use Rattle.box_space.specs.Views.{box_of}
 use Rattle.box_space.specs.declared.multipliers.Part.{Part}
 use Rattle.row_book.specs.PartRows.{kind_at}
-use Rattle.row_book.proofs.AllParts.{never, always, no_part, at_part, all_parts, signed_here, signed_back}
+use Rattle.row_book.proofs.AllParts.{never, always, no_part, at_part, all_parts, signed_same}
 use Rattle.row_book.proofs.ordered.are_signed.Goals as goal
 
-pub row_at-kind-requires-clause-known : goal.row_at-kind-requires-clause-known
-row_at-kind-requires-clause-known c =
+pub has_sign-requires-clause-known : goal.has_sign-requires-clause-known
+has_sign-requires-clause-known c =
     omega (
       arith,
       at_part (λ q. q.row < catalogue.rows (net_of c.args.net.now)) c.args.proof.now.parts.items c.loop-part.part-index (omega (arith, ap length c.deref-part-items.ensures.value)) c.requires.known,
@@ -21,11 +18,9 @@ row_at-kind-requires-clause-known c =
 
 pub loop-part-preserved : goal.loop-part-preserved
 loop-part-preserved c =
-    let t : Part = get_or c.deref-part-items.result.now c.loop-part.part-index no_part in
-    let mult : FitsSigned w64 t.mult = search rules in
     below_more _ _ c.loop-part.invariant
-    (signed_here (kind_at (net_of c.args.net.now) (box_of c.args.v.now)) c.deref-part-items.result.now c.args.proof.now.parts.items c.loop-part.part-index (shown_kind c.row_at-kind.result) c.deref-part-items.ensures.value c.row_at-kind.ensures.kind
-    (simp to_z-of_z at (c.has_sign.ensures.0 c.if-not-has_sign.false)))
+    (signed_same (kind_at (net_of c.args.net.now) (box_of c.args.v.now)) c.deref-part-items.result.now c.args.proof.now.parts.items c.loop-part.part-index c.deref-part-items.ensures.value
+    (c.has_sign.ensures.0 c.if-not-has_sign.false))
 
 pub returns : goal.returns
 returns c =
@@ -35,7 +30,7 @@ returns c =
 pub returns-then-not-has_sign : goal.returns-then-not-has_sign
 returns-then-not-has_sign c =
     let t : Part = get_or c.deref-part-items.result.now c.loop-part.part-index no_part in
-    let mult : FitsSigned w64 t.mult = search rules in
-    let back : ¬ IsSigned (shown_kind c.row_at-kind.result) t.mult = λ h. let yes : c.has_sign.result ≡ true = (simp to_z-of_z at c.has_sign.ensures.1) h in cc in
-    never (λ all. back (signed_back (kind_at (net_of c.args.net.now) (box_of c.args.v.now)) c.deref-part-items.result.now c.args.proof.now.parts.items c.loop-part.part-index (shown_kind c.row_at-kind.result) c.deref-part-items.ensures.value c.row_at-kind.ensures.kind
-    (at_part (λ q. IsSigned (kind_at (net_of c.args.net.now) (box_of c.args.v.now) q.row) q.mult) c.args.proof.now.parts.items c.loop-part.part-index (omega (arith, ap length c.deref-part-items.ensures.value)) all)))
+    let kinds = kind_at (net_of c.args.net.now) (box_of c.args.v.now) in
+    let back : ¬ IsSigned (kinds t.row) t.mult = λ h. let yes : c.has_sign.result ≡ true = c.has_sign.ensures.1 h in cc in
+    never (λ all. back (signed_same kinds c.args.proof.now.parts.items c.deref-part-items.result.now c.loop-part.part-index (sym c.deref-part-items.ensures.value)
+    (at_part (λ q. IsSigned (kinds q.row) q.mult) c.args.proof.now.parts.items c.loop-part.part-index (omega (arith, ap length c.deref-part-items.ensures.value)) all)))
