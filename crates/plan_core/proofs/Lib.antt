@@ -1,5 +1,4 @@
 pub mod Firsts
-pub mod Fractions
 pub mod Blends
 pub mod Tables
 pub mod Supply

@@ -1,12 +1,12 @@
 -- What all sources send out is what flows into all products, and how large the numbers of a plan are.
-use Rattle.std.proofs.Common.{◌≡◌, ◌≢◌, ℕ, zero, suc, ◌+◌, ◌*◌, ◌^◌, ◌<◌, ◌≤◌, ◌⊎◌, inl, inr, ◌==◌, if◌then◌else◌, ℤ, pos, ◌*ℤ◌, unsigned_abs, arith, refl, ap}
+use Rattle.std.proofs.Common.{◌≡◌, ℕ, ◌*◌, ◌^◌, ◌<◌, ◌≤◌, inl, inr, ℤ, pos, ◌*ℤ◌, unsigned_abs, arith, refl, ap}
 use Rattle.std.proofs.Math.Nat.{mul-le-mul, le_of_mul-le-mul_left}
 use Rattle.std.proofs.lemmas.Int.{ints}
 use Rattle.integers.specs.Sums.{sum_below, sum_at}
 use Rattle.integers.proofs.Order.{abs-mul-le}
 use Rattle.integers.proofs.AtKey.{same_or_other, sum_below-same, sum_at-mul, term-le-sum_at}
 use Rattle.integers.proofs.ByNode.{sum_below-add, sum_keys, sum_at-same_key, sum_below-most}
-use Rattle.integers.proofs.ByNode.{sum_below-nothing, abs-int_sum_at}
+use Rattle.integers.proofs.ByNode.{abs-int_sum_at}
 use Rattle.pool_model.specs.Network.{Net, IsLimited, IsWithin}
 use Rattle.pool_model.specs.Plan.{Written, weight, written_out, written_outflow, plan_of, outflow, pool_inflow, source_outflow, product_inflow}
 use Rattle.plan_core.specs.Checks.{IsShaped, Keeps}

@@ -7,12 +7,12 @@ ghost use Rattle.pool_model.specs.Network.{net_of};
 ghost use Rattle.pool_model.specs.Plan.{plan_of, cost_of};
 ghost use Rattle.plan_core.specs.Shown.{written_of};
 ghost use Rattle.plan_core.specs.Weighed.{AreSourceOutflows, AreProductInflows, HasRoom};
-ghost use Rattle.std.specs.Int.{int_div_euclid, int_rem_euclid};
 
 use crate::plan::{Cost, WrittenPlan};
 use crate::qualities::weighted;
 use crate::sums::{MAX_PRODUCTS, MAX_SOURCES};
 use blend_network::Network;
+use exact_num::compare_ratio;
 use std::cmp::Ordering;
 
 /// Which of two costs is less, as fractions.
@@ -21,31 +21,7 @@ pub fn compare_cost(a: &Cost, b: &Cost) -> Ordering
     requires b { 0 < b.now.base }
     ensures { result ≡ int_cmp (pos b.now.base *ℤ a.now.num) (pos a.now.base *ℤ b.now.num) }
 {
-    match whole(a).cmp(&whole(b)) {
-        Ordering::Equal => {
-            let left = u128::from(rest(a)) * u128::from(b.base);
-            let right = u128::from(rest(b)) * u128::from(a.base);
-            left.cmp(&right)
-        }
-        unequal => unequal,
-    }
-}
-
-/// The cost in whole picos, rounded down.
-fn whole(cost: &Cost) -> i128
-    requires { 0 < cost.now.base }
-    ensures { result ≡ int_div_euclid cost.now.num (pos cost.now.base) }
-{
-    cost.num.div_euclid(i128::from(cost.base))
-}
-
-/// What is left of the cost above whole picos, over its base.
-fn rest(cost: &Cost) -> u64
-    requires { 0 < cost.now.base }
-    ensures rest { pos result ≡ int_rem_euclid cost.now.num (pos cost.now.base) }
-    ensures size { result < cost.now.base }
-{
-    cost.num.rem_euclid(i128::from(cost.base)) as u64
+    compare_ratio(a.num, a.base.into(), b.num, b.base.into())
 }
 
 /// What the plan costs, from what flows out of each source and into each product.

@@ -3,7 +3,8 @@
 ghost use Rattle.std.specs.Prelude.{◌≡◌, ℕ, ◌<◌, ◌≤◌, ◌==◌, ◌^◌, ◌&&◌, Option, Some, None, IfOk, length};
 ghost use Rattle.pool_model.specs.Network.{net_of};
 ghost use Rattle.pool_model.specs.Paths.{paths_of, path_at};
-ghost use Rattle.pool_model.specs.Starting.{tabulate, feeds_before, first_weight, zero_plan as zero_written, simple_plan as simple_written, IsWay, through, straight, suits as suits_lem, is_above, is_below, all_below, direct_flow as direct_flow_lem, path_flow as path_flow_lem, alone as alone_lem};
+ghost use Rattle.integers.specs.Numbers.{tabulate};
+ghost use Rattle.pool_model.specs.Starting.{feeds_before, first_weight, zero_plan as zero_written, simple_plan as simple_written, IsWay, through, straight, suits as suits_lem, is_above, is_below, all_below, direct_flow as direct_flow_lem, path_flow as path_flow_lem, alone as alone_lem};
 ghost use Rattle.plan_core.specs.Shown.{written_of, way_of, IsInRange};
 ghost use Rattle.plan_core.specs.Weights.{weight_on};
 

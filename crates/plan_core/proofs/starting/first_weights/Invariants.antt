@@ -1,6 +1,7 @@
 use Rattle.std.proofs.Common.{◌≡◌}
 use Rattle.pool_model.specs.Network.{net_of}
-use Rattle.pool_model.specs.Starting.{tabulate, first_weight}
+use Rattle.integers.specs.Numbers.{tabulate}
+use Rattle.pool_model.specs.Starting.{first_weight}
 use Rattle.plan_core.proofs.starting.first_weights.Given as goal
 
 abbrev pub invariant-loop-feed : goal.invariant-loop-feed

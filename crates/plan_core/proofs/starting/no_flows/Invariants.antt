@@ -1,5 +1,5 @@
 use Rattle.std.proofs.Common.{◌≡◌}
-use Rattle.pool_model.specs.Starting.{tabulate}
+use Rattle.integers.specs.Numbers.{tabulate}
 use Rattle.plan_core.proofs.starting.no_flows.Given as goal
 
 abbrev pub invariant-loop-arc : goal.invariant-loop-arc

@@ -1,5 +1,6 @@
 use Rattle.std.proofs.Common.{◌≡◌}
-use Rattle.pool_model.specs.Starting.{tabulate, alone}
+use Rattle.integers.specs.Numbers.{tabulate}
+use Rattle.pool_model.specs.Starting.{alone}
 use Rattle.plan_core.proofs.starting.one_flow.Given as goal
 
 abbrev pub invariant-loop-arc : goal.invariant-loop-arc

@@ -1,6 +1,6 @@
 use Rattle.std.proofs.Common.{◌≡◌}
 use Rattle.pool_model.specs.Network.{net_of}
-use Rattle.pool_model.specs.Starting.{tabulate}
+use Rattle.integers.specs.Numbers.{tabulate}
 use Rattle.plan_core.specs.Weights.{weight_on}
 use Rattle.plan_core.proofs.starting.weights_on.Given as goal
 
