@@ -13,7 +13,10 @@ use Rattle.row_model.specs.Multipliers.{Proof, Shown, shown_by}
 use Rattle.row_model.specs.Trees.{Split, no_split, split_at, left_node, right_node, nodes, is_cut, box_of, Tree, IsTree, raised, own, bound_after, node_bound}
 use Rattle.row_model.specs.Entries.{Searched, after, split_of, IsSplitEntryInOrder, IsSearched}
 use Rattle.row_model.proofs.TreeLaw.{length_before, same_node, other_leaf}
-use Rattle.row_model.proofs.EntryLaw.{box_before, box_left, box_right, searched-kept}
+use Rattle.row_model.proofs.EntryLaw.{length-more, box_before, box_left, box_right, searched-kept}
+use Rattle.box_tree.specs.declared.span.Span.{Span}
+use Rattle.box_tree.specs.Spans.{IsSpanOf}
+use Rattle.box_tree.proofs.Spans.{spans-more}
 use Rattle.box_tree.specs.Kept.{Kept, searched_of, IsKeptOf}
 use Rattle.box_tree.specs.Taken.{grown, IsTaken}
 
@@ -63,13 +66,10 @@ proof_at proofs left right t node long = elim (where_node t node) [
 abbrev searched_with : Searched → List Split → (ℕ → Option Proof) → Searched
 searched_with s splits proof = record s { tree = record { splits = splits; proof = proof } }
 
-grown-made : (k : Kept) (split : Split) (left right : Option Proof) (lb rb : Option ℤ) → length k.proofs ≡ nodes k.splits → searched_of (grown k split left right lb rb) ≡ after (searched_of k) (split_of split left right)
-grown-made k split left right lb rb long = ap (searched_with (searched_of k) (k.splits ++ split ∷ [])) (fun_ext (λ node. proof_at k.proofs left right (length k.splits) node long))
+grown-made : (k : Kept) (split : Split) (span : Span) (left right : Option Proof) (lb rb : Option ℤ) → length k.proofs ≡ nodes k.splits → searched_of (grown k split span left right lb rb) ≡ after (searched_of k) (split_of split left right)
+grown-made k split span left right lb rb long = ap (searched_with (searched_of k) (k.splits ++ split ∷ [])) (fun_ext (λ node. proof_at k.proofs left right (length k.splits) node long))
 
 -- ---- bounds
-
-length-more : (splits : List Split) (s : Split) → length (splits ++ s ∷ []) ≡ suc (length splits)
-length-more splits s = omega (arith, length-append splits (s ∷ []))
 
 module _ (n : Net) (s : Searched) (split : Split) (left right : Option Proof) (is : IsTree n s.tree) where
   own-old : (node : ℕ) → node < nodes s.tree.splits → own n (after s (split_of split left right)).tree node ≡ own n s.tree node
@@ -177,17 +177,20 @@ mark_old cuts splits split node lt same = elim (same_or_other node split.leaf) [
 
 -- ---- all of it
 
-pub split-taken : (n : Net) (k : Kept) (split : Split) (left right : Option Proof) (lb rb : Option ℤ) → IsKeptOf n k → length k.proofs ≡ nodes k.splits → IsSplitEntryInOrder n (searched_of k) split left right
+pub split-taken : (n : Net) (k : Kept) (split : Split) (span : Span) (left right : Option Proof) (lb rb : Option ℤ) → IsKeptOf n k → IsSplitEntryInOrder n (searched_of k) split left right
+    → IsSpanOf (box_of n k.splits split.leaf) split.coord span
     → lb ≡ raised (get_or k.bounds split.leaf None) (option_map (shown_by n (left_of (box_of n k.splits split.leaf) split.coord split.cut)) left)
     → rb ≡ raised (get_or k.bounds split.leaf None) (option_map (shown_by n (right_of (box_of n k.splits split.leaf) split.coord split.cut)) right)
-    → IsTaken n (split_of split left right) k (grown k split left right lb rb)
-split-taken n k split left right lb rb is long order left_is right_is =
+    → IsTaken n (split_of split left right) k (grown k split span left right lb rb)
+split-taken n k split span left right lb rb is order ends left_is right_is =
     let s = searched_of k in
     let t = length k.splits in
     let there = order.cuts.leaf.there in
-    let made = grown-made k split left right lb rb long in
+    let made = grown-made k split span left right lb rb is.proved in
     let more = length-more k.splits split in
     let above : (o : Option Shown) → raised (get_or k.bounds split.leaf None) o ≡ raised (node_bound n s.tree split.leaf) o = λ o. ap (λ (b : Option ℤ). raised b o) (is.bounds split.leaf there) in
+    let one : length (span ∷ []) ≡ 1 = refl in
+    let proofs : length (left ∷ right ∷ []) ≡ 2 = refl in
     let two : length (lb ∷ rb ∷ []) ≡ 2 = refl in
     let marks : length (false ∷ false ∷ []) ≡ 2 = refl in
     let set_long = length-set k.cuts split.leaf true in
@@ -196,7 +199,10 @@ split-taken n k split left right lb rb is long order left_is right_is =
       made = made;
       kept = record {
         searched = subst (λ (z : Searched). IsSearched n z) (sym made) (searched-kept n s (split_of split left right) is.searched order);
+        proved = omega (arith, length-append k.proofs (left ∷ right ∷ []), is.proved, more, proofs);
         bounded = omega (arith, length-append k.bounds (lb ∷ rb ∷ []), is.bounded, more, two);
+        spanned = omega (arith, length-append k.spans (span ∷ []), is.spanned, more, one);
+        spans = λ t h. spans-more n k split span is there (leaf_below n s split left right is.searched.tree) ends t (omega (arith, h, more));
         marked = omega (arith, length-append (set k.cuts split.leaf true) (false ∷ false ∷ []), is.marked, more, marks, set_long);
         bounds = λ node h. subst (λ (z : Searched). get_or (k.bounds ++ lb ∷ rb ∷ []) node None ≡ node_bound n z.tree node) (sym made) (elim (where_node t node) [
           | inl e ↦ at_left k.bounds lb rb None t is.bounded node e

@@ -6,22 +6,22 @@ use Rattle.std.proofs.lemmas.List.{length-set, get_or-map, length-map}
 use Rattle.integers.proofs.Ring.{additive}
 use Rattle.integers.proofs.AtKey.{same_or_other, chosen, passed}
 use Rattle.pool_model.specs.Network.{Net, IsLimited}
-use Rattle.row_model.specs.Boxes.{Box, coords, root, IsProper, left_of, right_of}
+use Rattle.row_model.specs.Boxes.{Box, coords, root, left_of, right_of}
 use Rattle.row_model.specs.Trees.{Split, no_split, split_at, left_node, right_node, nodes, box_of, Tree, IsTree}
 use Rattle.row_model.proofs.TreeLaw.{box_is, left_box, right_box, length_before}
 use Rattle.row_model.proofs.TreeBound.{node-proper}
-use Rattle.box_space.specs.Views.{ends_of}
+use Rattle.box_space.specs.Views.{AreEndsOf}
+use Rattle.box_space.proofs.Halving.{agree-ends}
 use Rattle.box_space.specs.Shown.{shown_split}
 use Rattle.box_space.specs.declared.boxes.BoxEnds.{BoxEnds}
 use Rattle.box_space.specs.declared.coordinates.Split.{Split as HeldSplit}
-use Rattle.box_tree.specs.Ends.{Agree, AreEndsOf}
 
 -- ---- the box of a child
 
-leaf_before : (n : Net) (tree : Tree) (t : ℕ) → IsTree n tree → t < length tree.splits → (split_at tree.splits t).leaf < left_node t
+pub leaf_before : (n : Net) (tree : Tree) (t : ℕ) → IsTree n tree → t < length tree.splits → (split_at tree.splits t).leaf < left_node t
 leaf_before n tree t is h = omega (arith, (is.splits t h).leaf.there, length_before tree.splits t (omega arith))
 
-child_left : (n : Net) (tree : Tree) (t : ℕ) → IsTree n tree → t < length tree.splits
+pub child_left : (n : Net) (tree : Tree) (t : ℕ) → IsTree n tree → t < length tree.splits
     → box_of n tree.splits (left_node t) ≡ left_of (box_of n tree.splits (split_at tree.splits t).leaf) (split_at tree.splits t).coord (split_at tree.splits t).cut
 child_left n tree t is h =
     let s = split_at tree.splits t in
@@ -29,7 +29,7 @@ child_left n tree t is h =
     ∙ left_box n tree.splits t
     ∙ ap (λ (b : Box). left_of b s.coord s.cut) (sym (box_is n tree.splits t s.leaf (omega arith) (leaf_before n tree t is h)))
 
-child_right : (n : Net) (tree : Tree) (t : ℕ) → IsTree n tree → t < length tree.splits
+pub child_right : (n : Net) (tree : Tree) (t : ℕ) → IsTree n tree → t < length tree.splits
     → box_of n tree.splits (right_node t) ≡ right_of (box_of n tree.splits (split_at tree.splits t).leaf) (split_at tree.splits t).coord (split_at tree.splits t).cut
 child_right n tree t is h =
     let s = split_at tree.splits t in
@@ -174,19 +174,6 @@ so_far-right n tree node at t low high is e lt so_far =
 
 -- ---- the ends at the root
 
-proper-same : (n : Net) (b c : Box) → Agree n c b → IsProper n b → IsProper n c
-proper-same n b c a h = record {
-  in_order = λ i lt. subst (λ (z : ℤ). z ≤ℤ c.high i) (sym (a.low i lt)) (subst (λ (z : ℤ). b.low i ≤ℤ z) (sym (a.high i lt)) (h.in_order i lt));
-  low = λ i lt. subst (λ (z : ℤ). (root n).low i ≤ℤ z) (sym (a.low i lt)) (h.low i lt);
-  high = λ i lt. subst (λ (z : ℤ). z ≤ℤ (root n).high i) (sym (a.high i lt)) (h.high i lt);
-}
-
-pub agree-ends : (n : Net) (b : Box) (e : BoxEnds) → IsProper n b → length e.low.items ≡ coords n → length e.high.items ≡ coords n → Agree n (ends_of e) b → AreEndsOf n b e
-agree-ends n b e proper lows highs agree = record {
-  proper = record { lows = lows; highs = highs; proper = proper-same n b (ends_of e) agree proper };
-  agree = agree;
-}
-
 pub so_far-last : (n : Net) (tree : Tree) (node at : ℕ) (e : BoxEnds) → IsLimited n → IsTree n tree → node < nodes tree.splits → at ≡ 0 → IsSoFar n tree.splits node at e.low.items e.high.items
     → AreEndsOf n (box_of n tree.splits node) e
 so_far-last n tree node at e lim is there last so_far =
@@ -207,7 +194,7 @@ held_at held splits t e h =
     sym (get_or-map shown_split held t no_held no_split (subst (λ (l : ℕ). t < l) (ap (λ (xs : List Split). length xs) (sym e) ∙ length-map held shown_split) h))
     ∙ ap (λ (xs : List Split). get_or xs t no_split) e
 
-parent_below : (at l : ℕ) → 0 < at → at < 2 * l + 1 → (at - 1) / 2 < l
+pub parent_below : (at l : ℕ) → 0 < at → at < 2 * l + 1 → (at - 1) / 2 < l
 parent_below at l h k = omega arith
 
 pub walked-left : (n : Net) (tree : Tree) (node at : ℕ) (low high : List ℤ) (held : List HeldSplit) → IsTree n tree → map shown_split held ≡ tree.splits → 0 < at → at % 2 ≡ 1 → IsSoFar n tree.splits node at low high

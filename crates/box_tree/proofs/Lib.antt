@@ -3,9 +3,8 @@ pub mod Started
 pub mod Innermost
 pub mod Scans
 pub mod Viewed
-pub mod Halving
 pub mod Rooting
 pub mod Refusals
 pub mod Improving
 pub mod Growing
-pub mod Agreeing
+pub mod Spans

@@ -1,5 +1,5 @@
 -- No fault comes before the first one that is found.
-use Rattle.std.proofs.Common.{◌≢◌, ℕ, ◌<◌, ◌≤◌, inl, inr, length, Option, Some, None, arith, refl}
+use Rattle.std.proofs.Common.{◌≢◌, ℕ, ◌<◌, ◌≤◌, inl, inr, length, Option, Some, None, arith, refl, sym, subst}
 use Rattle.std.specs.Prelude.{Result, Ok, Err, IfErr}
 use Rattle.std.specs.Option.{ForSome}
 use Rattle.integers.proofs.Ring.{additive}
@@ -12,10 +12,10 @@ use Rattle.row_model.specs.Boxes.{Box, root, coords, left_of, right_of}
 use Rattle.row_model.specs.Multipliers.{Proof, IsInOrder}
 use Rattle.row_model.specs.Trees.{Split, IsLeaf, box_of, CutsLeaf}
 use Rattle.row_model.specs.Entries.{Entry, Searched, root_proof, split_of, improve, IsCheaper, IsRootInOrder, IsSplitEntryInOrder, IsPlanInOrder, IsEntryInOrder}
+use Rattle.row_book.proofs.AgreedFaults.{no-fault}
 use Rattle.row_book.specs.Faults as proofs
 use Rattle.row_book.specs.declared.fault.ProofFault.{ProofFault}
-use Rattle.row_book.specs.declared.fault.ProofFault.TheVariants.{Order, UnknownRow, Sign, ZeroPart, Wide, ShowsNothing}
-use Rattle.box_tree.specs.EntryFaults.{IsInside, IsProofFault, IsHalfFault, SplitHas, RootHas, PlanHas, place, IsFirstFault}
+use Rattle.box_tree.specs.EntryFaults.{IsInside, IsProofFault, IsBadProof, IsHalfFault, SplitHas, RootHas, PlanHas, place, IsFirstFault}
 use Rattle.box_tree.specs.declared.entry.EntryFault.{EntryFault}
 use Rattle.box_tree.specs.declared.entry.EntryFault.TheVariants.{NotALeaf, BadCoord, CutOutside, TooManySplits, BadProof, BadPlan, PlanNotBetter, RootLate, Memory}
 
@@ -73,15 +73,17 @@ bad-half n s split left right f cuts few h = record {
   first = clear n s split left right 5 record { leaf = λ lt. cuts.leaf; coord = λ lt. cuts.coord; inside = λ lt. record { low = cuts.low; high = cuts.high }; few = λ lt. few; end = omega arith };
 }
 
--- ---- proofs of the root
+-- the same by what a half's proof was answered with
+pub bad-left : (n : Net) (s : Searched) (split : Split) (left right : Option Proof) (fault : EntryFault) → CutsLeaf n s.tree.splits (box_of n s.tree.splits split.leaf) split → length s.tree.splits < 20000
+    → IsBadProof n (left_of (box_of n s.tree.splits split.leaf) split.coord split.cut) left fault → IsFirstFault n s (split_of split left right) fault
+bad-left n s split left right fault cuts few bad = subst (λ (f : EntryFault). IsFirstFault n s (split_of split left right) f) (sym bad.is) (bad-half n s split left right bad.found cuts few (inl bad.first))
 
-no-proof-fault : (n : Net) (b : Box) (proof : Proof) (f : ProofFault) → IsInOrder n b proof → ¬ proofs.Holds n b proof f
-no-proof-fault n b proof Order is h = h is.rising
-no-proof-fault n b proof UnknownRow is h = h is.known
-no-proof-fault n b proof Sign is h = h is.signed
-no-proof-fault n b proof ZeroPart is h = h is.nonzero
-no-proof-fault n b proof Wide is h = omega (arith, h, is.narrow)
-no-proof-fault n b proof ShowsNothing is h = let above = is.shows h.0 in omega (arith, additive, above, h.1)
+pub bad-right : (n : Net) (s : Searched) (split : Split) (left right : Option Proof) (fault : EntryFault) → CutsLeaf n s.tree.splits (box_of n s.tree.splits split.leaf) split → length s.tree.splits < 20000
+    → ForSome left (IsInOrder n (left_of (box_of n s.tree.splits split.leaf) split.coord split.cut)) → IsBadProof n (right_of (box_of n s.tree.splits split.leaf) split.coord split.cut) right fault
+    → IsFirstFault n s (split_of split left right) fault
+bad-right n s split left right fault cuts few order bad = subst (λ (f : EntryFault). IsFirstFault n s (split_of split left right) f) (sym bad.is) (bad-half n s split left right bad.found cuts few (inr (order, bad.first)))
+
+-- ---- proofs of the root
 
 pub bad-root : (n : Net) (s : Searched) (proof : Proof) (f : ProofFault) → proofs.IsFirstFault n (root n) proof f → IsFirstFault n s (root_proof proof) (BadProof f)
 bad-root n s proof f h = record { holds = h; first = none }
@@ -105,7 +107,7 @@ root-late n s proof is h = record { holds = h; first = none }
     none BadCoord lt has = has
     none CutOutside lt has = has
     none TooManySplits lt has = has
-    none (BadProof g) lt has = no-proof-fault n (root n) proof g is has.holds
+    none (BadProof g) lt has = no-fault n (root n) proof g is has.holds
     none (BadPlan g) lt has = has
     none PlanNotBetter lt has = has
     none RootLate lt has = omega (arith, lt)
@@ -155,7 +157,7 @@ not-better n s w is o h = record { holds = h; first = none }
 
 no-half-fault : (n : Net) (b : Box) (o : Option Proof) (f : ProofFault) → ForSome o (IsInOrder n b) → ¬ IsProofFault n b o f
 no-half-fault n b None f is h = h
-no-half-fault n b (Some proof) f is h = no-proof-fault n b proof f (is proof refl) h.holds
+no-half-fault n b (Some proof) f is h = no-fault n b proof f (is proof refl) h.holds
 
 split-refused : (n : Net) (s : Searched) (split : Split) (left right : Option Proof) (f : EntryFault) → SplitHas n s split left right f → ¬ IsSplitEntryInOrder n s split left right
 split-refused n s split left right NotALeaf h is = h is.cuts.leaf
@@ -176,7 +178,7 @@ root-refused n s proof NotALeaf h is = h
 root-refused n s proof BadCoord h is = h
 root-refused n s proof CutOutside h is = h
 root-refused n s proof TooManySplits h is = h
-root-refused n s proof (BadProof f) h is = no-proof-fault n (root n) proof f is.shows h.holds
+root-refused n s proof (BadProof f) h is = no-fault n (root n) proof f is.shows h.holds
 root-refused n s proof (BadPlan f) h is = h
 root-refused n s proof PlanNotBetter h is = h
 root-refused n s proof RootLate h is = elim h [ inl a ↦ a is.unproved | inr b ↦ cc (b, is.uncut) ]

@@ -7,7 +7,7 @@ use Rattle.pool_model.specs.Network.{Net}
 use Rattle.pool_model.specs.Starting.{reach_bound}
 use Rattle.row_model.specs.Boxes.{Box, root}
 use Rattle.row_model.specs.Multipliers.{Proof, shown_by, IsInOrder}
-use Rattle.row_model.specs.Trees.{Split, split_at, nodes, is_cut, Tree, IsTree, raised, own, box_after, box_of, bound_after, node_bound}
+use Rattle.row_model.specs.Trees.{Split, split_at, is_cut, Tree, IsTree, raised, own, box_after, box_of, bound_after, node_bound}
 use Rattle.row_model.specs.Entries.{Searched, after, root_proof, IsRootInOrder, IsSearched}
 use Rattle.row_model.proofs.EntryLaw.{searched-kept}
 use Rattle.box_tree.specs.Kept.{Kept, searched_of, IsKeptOf}
@@ -44,12 +44,12 @@ first_bound n tree l node e f = ap (λ (m : ℕ). bound_after n tree m node) e �
 first_box : (n : Net) (splits : List Split) (l : ℕ) → l ≡ 0 → box_after n splits l 0 ≡ root n
 first_box n splits l e = ap (λ (m : ℕ). box_after n splits m 0) e
 
-pub root-taken : (n : Net) (k : Kept) (proof : Proof) (bound : Option ℤ) → IsKeptOf n k → length k.proofs ≡ nodes k.splits → IsInOrder n (root n) proof → get_or k.proofs 0 None ≡ None → get_or k.cuts 0 false ≡ false
+pub root-taken : (n : Net) (k : Kept) (proof : Proof) (bound : Option ℤ) → IsKeptOf n k → IsInOrder n (root n) proof → get_or k.proofs 0 None ≡ None → get_or k.cuts 0 false ≡ false
     → bound ≡ raised (get_or k.bounds 0 None) (Some (shown_by n (root n) proof)) → IsTaken n (root_proof proof) k (rooted k proof bound)
-root-taken n k proof bound is long shows unproved unmarked bound_is =
+root-taken n k proof bound is shows unproved unmarked bound_is =
     let s = searched_of k in
     let new = (after s (root_proof proof)).tree in
-    let made = rooted-made k proof bound (omega (arith, long)) in
+    let made = rooted-made k proof bound (omega (arith, is.proved)) in
     let uncut : is_cut k.splits 0 ≡ false = sym (is.cuts 0 (omega arith)) ∙ unmarked in
     let order : IsRootInOrder n s proof = record { shows = shows; unproved = unproved; uncut = uncut } in
     let only = no_splits n s.tree is.searched.tree uncut in
@@ -65,8 +65,11 @@ root-taken n k proof bound is long shows unproved unmarked bound_is =
       made = made;
       kept = record {
         searched = subst (λ (z : Searched). IsSearched n z) (sym made) (searched-kept n s (root_proof proof) is.searched order);
+        proved = length-set k.proofs 0 (Some proof) ∙ is.proved;
         bounded = long_set ∙ is.bounded;
         marked = is.marked;
+        spanned = is.spanned;
+        spans = is.spans;
         bounds = λ node h. subst (λ (z : Searched). get_or (set k.bounds 0 bound) node None ≡ node_bound n z.tree node) (sym made)
             (let first : node ≡ 0 = omega (arith, h, only) in
             ap (λ (i : ℕ). get_or (set k.bounds 0 bound) i None) first ∙ get_or-set_same k.bounds 0 bound None (omega (arith, is.bounded)) ∙ now ∙ sym (first_bound n new (length k.splits) node only first));

@@ -7,6 +7,7 @@ use Rattle.std.proofs.lemmas.Option.{none-some}
 use borrow.Author.Differences.{up, down}
 use Rattle.integers.proofs.Ring.{additive}
 use Rattle.pool_model.specs.Network.{Net}
+use Rattle.pool_model.proofs.Reach.{least_below-same}
 use Rattle.pool_model.specs.Starting.{lesser, least_below}
 use Rattle.row_model.specs.Trees.{nodes, leaf_bound, node_bound, tree_bound, is_cut, IsLeastLeaf}
 use Rattle.box_tree.specs.Kept.{Kept, searched_of, kept_leaf_bound, IsKeptOf}
@@ -15,12 +16,6 @@ pub kept-leaf : (n : Net) (k : Kept) (node : ℕ) → IsKeptOf n k → node < no
 kept-leaf n k node is h =
     ap (λ (b : Bool). if b then None else get_or k.bounds node None) (is.cuts node h)
     ∙ ap (λ (o : Option ℤ). if is_cut k.splits node then None else o) (is.bounds node h)
-
-least_below-same : (f g : ℕ → Option ℤ) (n : ℕ) → ((i : ℕ) → i < n → f i ≡ g i) → least_below f n ≡ least_below g n
-least_below-same f g zero h = refl
-least_below-same f g (suc n) h =
-    ap (λ (o : Option ℤ). lesser o (f n)) (least_below-same f g n (λ i lt. h i (omega arith)))
-    ∙ ap (λ (o : Option ℤ). lesser (least_below g n) o) (h n (omega arith))
 
 pub kept-bound : (n : Net) (k : Kept) → IsKeptOf n k → least_below (kept_leaf_bound k) (length k.bounds) ≡ tree_bound n (searched_of k).tree
 kept-bound n k is =

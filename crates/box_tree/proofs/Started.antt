@@ -8,11 +8,12 @@ use Rattle.box_space.specs.Shown.{shown_split, shown_proof}
 use Rattle.box_space.specs.declared.coordinates.Split.{Split}
 use Rattle.box_space.specs.declared.multipliers.Proof.{Proof as HeldProof}
 use Rattle.row_model.specs.Trees.{node_bound, IsTree}
+use Rattle.box_tree.specs.declared.span.Span.{Span}
 use Rattle.box_tree.specs.Kept.{Kept, searched_of, IsKeptOf}
 
 -- what is kept at the start
 abbrev pub kept_first : Net → Kept
-kept_first n = record { splits = []; proofs = None ∷ []; bounds = Some (reach_bound n) ∷ []; cuts = false ∷ []; best = None; cost = None }
+kept_first n = record { splits = []; spans = []; proofs = None ∷ []; bounds = Some (reach_bound n) ∷ []; cuts = false ∷ []; best = None; cost = None }
 
 pub no_proof : (node : ℕ) → get_or (let xs : List (Option Proof) = None ∷ [] in xs) node None ≡ None
 no_proof zero = refl
@@ -37,6 +38,9 @@ first-cut (suc node) = refl
 pub first-kept : (n : Net) → IsKeptOf n (kept_first n)
 first-kept n = record {
   searched = record { tree = first-tree n; written = λ w e. absurd (none-some w e); obeys = λ w e. absurd (none-some w e) };
+  spanned = refl;
+  spans = λ t h. absurd (omega arith);
+  proved = refl;
   bounded = refl;
   marked = refl;
   bounds = λ node h. first-bound n node (omega arith);
@@ -45,11 +49,12 @@ first-kept n = record {
 }
 
 -- the same, as code holds it
-pub first-held : (n : Net) (splits : List Split) (proofs : List (Option HeldProof)) (bounds : List (Option ℤ)) (cuts : List Bool)
-    → splits ≡ [] → proofs ≡ None ∷ [] → bounds ≡ Some (reach_bound n) ∷ [] → cuts ≡ false ∷ []
-    → IsKeptOf n record { splits = map shown_split splits; proofs = map (option_map shown_proof) proofs; bounds = bounds; cuts = cuts; best = None; cost = None }
-first-held n splits proofs bounds cuts e f g h =
-    subst (λ (xs : List Split). IsKeptOf n record { splits = map shown_split xs; proofs = map (option_map shown_proof) proofs; bounds = bounds; cuts = cuts; best = None; cost = None }) (sym e)
-    (subst (λ (xs : List (Option HeldProof)). IsKeptOf n record { splits = []; proofs = map (option_map shown_proof) xs; bounds = bounds; cuts = cuts; best = None; cost = None }) (sym f)
-    (subst (λ (xs : List (Option ℤ)). IsKeptOf n record { splits = []; proofs = None ∷ []; bounds = xs; cuts = cuts; best = None; cost = None }) (sym g)
-    (subst (λ (xs : List Bool). IsKeptOf n record { splits = []; proofs = None ∷ []; bounds = Some (reach_bound n) ∷ []; cuts = xs; best = None; cost = None }) (sym h) (first-kept n))))
+pub first-held : (n : Net) (splits : List Split) (spans : List Span) (proofs : List (Option HeldProof)) (bounds : List (Option ℤ)) (cuts : List Bool)
+    → splits ≡ [] → spans ≡ [] → proofs ≡ None ∷ [] → bounds ≡ Some (reach_bound n) ∷ [] → cuts ≡ false ∷ []
+    → IsKeptOf n record { splits = map shown_split splits; spans = spans; proofs = map (option_map shown_proof) proofs; bounds = bounds; cuts = cuts; best = None; cost = None }
+first-held n splits spans proofs bounds cuts e s f g h =
+    subst (λ (xs : List Split). IsKeptOf n record { splits = map shown_split xs; spans = spans; proofs = map (option_map shown_proof) proofs; bounds = bounds; cuts = cuts; best = None; cost = None }) (sym e)
+    (subst (λ (xs : List Span). IsKeptOf n record { splits = []; spans = xs; proofs = map (option_map shown_proof) proofs; bounds = bounds; cuts = cuts; best = None; cost = None }) (sym s)
+    (subst (λ (xs : List (Option HeldProof)). IsKeptOf n record { splits = []; spans = []; proofs = map (option_map shown_proof) xs; bounds = bounds; cuts = cuts; best = None; cost = None }) (sym f)
+    (subst (λ (xs : List (Option ℤ)). IsKeptOf n record { splits = []; spans = []; proofs = None ∷ []; bounds = xs; cuts = cuts; best = None; cost = None }) (sym g)
+    (subst (λ (xs : List Bool). IsKeptOf n record { splits = []; spans = []; proofs = None ∷ []; bounds = Some (reach_bound n) ∷ []; cuts = xs; best = None; cost = None }) (sym h) (first-kept n)))))

@@ -23,6 +23,12 @@ abbrev pub IsProofFault : Net → Box → Option Proof → ProofFault → Type 0
 IsProofFault n b None fault = ⊥
 IsProofFault n b (Some proof) fault = proofs.IsFirstFault n b proof fault
 
+-- There is a proof, and this is the answer for its first fault in the box.
+pub record IsBadProof (n : Net) (b : Box) (proof : Option Proof) (fault : EntryFault) : Type 0 where
+  pub found : ProofFault
+  pub is : fault ≡ BadProof found
+  pub first : IsProofFault n b proof found
+
 -- the first fault of the left half's proof, or of the right half's where the left one is in order
 abbrev pub IsHalfFault : Net → Box → Split → Option Proof → Option Proof → ProofFault → Type 0
 IsHalfFault n b s left right fault =

@@ -5,15 +5,18 @@ use Rattle.pool_model.specs.Plan.{Written}
 use Rattle.plan_core.specs.Checks.{IsCostOf}
 use Rattle.plan_core.specs.declared.plan.Cost.{Cost}
 use Rattle.row_model.specs.Multipliers.{Proof}
-use Rattle.row_model.specs.Trees.{Split, nodes, is_cut, node_bound}
+use Rattle.row_model.specs.Trees.{Split, split_at, nodes, is_cut, box_of, node_bound}
 use Rattle.row_model.specs.Entries.{Searched, IsSearched}
 use Rattle.row_book.specs.Fitting.{Fits}
 use Rattle.row_book.specs.declared.scratch.Scratch.{Scratch}
+use Rattle.box_tree.specs.declared.span.Span.{Span}
+use Rattle.box_tree.specs.Spans.{no_span, IsSpanOf}
 
--- The splits; for each node its proof, its bound, None where it holds no plan, and whether a split cuts it; the best plan,
--- and what it costs.
+-- The splits, and for each the ends of its leaf at its coordinate; for each node its proof, its bound, None where it holds no plan,
+-- and whether a split cuts it; the best plan, and what it costs.
 pub record Kept : Type 0 where
   pub splits : List Split
+  pub spans : List Span
   pub proofs : List (Option Proof)
   pub bounds : List (Option ℤ)
   pub cuts : List Bool
@@ -40,11 +43,15 @@ IsKeptCost n None (Some cost) = ⊥
 IsKeptCost n (Some plan) None = ⊥
 IsKeptCost n (Some plan) (Some cost) = IsCostOf n plan cost
 
--- What is kept is a network's: splits, proofs and plan are in order there, and each bound, mark and cost is the one it stands for.
+-- What is kept is a network's: splits, proofs and plan are in order there, and all ends, bounds, marks and the cost are the ones that
+-- they stand for.
 pub record IsKeptOf (n : Net) (k : Kept) : Type 0 where
   pub searched : IsSearched n (searched_of k)
+  pub spanned : length k.spans ≡ length k.splits
+  pub proved : length k.proofs ≡ nodes k.splits
   pub bounded : length k.bounds ≡ nodes k.splits
   pub marked : length k.cuts ≡ nodes k.splits
+  pub spans : (t : ℕ) → t < length k.splits → IsSpanOf (box_of n k.splits (split_at k.splits t).leaf) (split_at k.splits t).coord (get_or k.spans t no_span)
   pub bounds : (node : ℕ) → node < nodes k.splits → get_or k.bounds node None ≡ node_bound n (searched_of k).tree node
   pub cuts : (node : ℕ) → node < nodes k.splits → get_or k.cuts node false ≡ is_cut k.splits node
   pub cost : IsKeptCost n k.best k.cost
@@ -54,9 +61,10 @@ pub record IsOf (n : Net) (t : Held) : Type 0 where
   pub kept : IsKeptOf n t.kept
   pub scratch : Fits n t.scratch
 
--- there are as many proofs, bounds and marks as nodes, and no more splits than there may be
-pub record AreSized (splits proofs bounds cuts : ℕ) : Type 0 where
+-- there are ends for each split, as many proofs, bounds and marks as nodes, and no more splits than there may be
+pub record AreSized (splits spans proofs bounds cuts : ℕ) : Type 0 where
   pub few : splits ≤ 20000
+  pub spanned : spans ≡ splits
   pub proved : proofs ≡ 2 * splits + 1
   pub bounded : bounds ≡ 2 * splits + 1
   pub marked : cuts ≡ 2 * splits + 1

@@ -1,5 +1,5 @@
 pub mod Kept
 pub mod Shown
 pub mod EntryFaults
-pub mod Ends
+pub mod Spans
 pub mod Taken

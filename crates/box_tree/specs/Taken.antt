@@ -6,6 +6,7 @@ use Rattle.plan_core.specs.declared.plan.Cost.{Cost}
 use Rattle.row_model.specs.Multipliers.{Proof}
 use Rattle.row_model.specs.Trees.{Split}
 use Rattle.row_model.specs.Entries.{Entry, after, IsEntryInOrder}
+use Rattle.box_tree.specs.declared.span.Span.{Span}
 use Rattle.box_tree.specs.Kept.{Kept, searched_of, IsKeptOf}
 
 -- the entry was in order on what was kept, and what is kept now is what it makes of it
@@ -22,10 +23,11 @@ improved k plan cost = record k { best = Some plan; cost = Some cost }
 abbrev pub rooted : Kept → Proof → Option ℤ → Kept
 rooted k proof bound = record k { proofs = slice_set k.proofs 0 (Some proof); bounds = slice_set k.bounds 0 bound }
 
--- a split at the end, two nodes with their proofs and bounds, and the mark of the node that is cut
-abbrev pub grown : Kept → Split → (left right : Option Proof) → (left_bound right_bound : Option ℤ) → Kept
-grown k split left right left_bound right_bound = record {
+-- a split and the ends of its leaf at the end, two nodes with their proofs and bounds, and the mark of the node that is cut
+abbrev pub grown : Kept → Split → Span → (left right : Option Proof) → (left_bound right_bound : Option ℤ) → Kept
+grown k split span left right left_bound right_bound = record {
   splits = k.splits ++ split ∷ [];
+  spans = k.spans ++ span ∷ [];
   proofs = k.proofs ++ left ∷ right ∷ [];
   bounds = k.bounds ++ left_bound ∷ right_bound ∷ [];
   cuts = slice_set k.cuts split.leaf true ++ false ∷ false ∷ [];

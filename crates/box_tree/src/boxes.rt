@@ -1,15 +1,18 @@
-//! The box of a node.
+//! The box of a node, and its ends at one coordinate.
 
 ghost use Rattle.std.specs.Prelude.{◌≡◌, ◌<◌, IfOk, get_or, pos, length};
 ghost use Rattle.std.specs.Int.{int_min, int_max};
 ghost use Rattle.pool_model.specs.Network.{net_of};
+ghost use Rattle.row_model.specs.Boxes.{coords};
 ghost use Rattle.row_model.specs.Trees as trees;
 ghost use Rattle.box_tree.specs.Kept.{IsOf};
-ghost use Rattle.box_tree.specs.Ends.{AreEndsOf};
+ghost use Rattle.box_tree.specs.Spans.{IsSpanOf};
+ghost use Rattle.box_space.specs.Views.{AreEndsOf};
 
+use crate::span::Span;
 use crate::tree::Tree;
 use blend_network::Network;
-use box_space::{BoxEnds, root_box};
+use box_space::{BoxEnds, coord_at, root_box, root_ends};
 use edge_io::Memory;
 
 impl Tree {
@@ -34,5 +37,39 @@ impl Tree {
             at = split.leaf;
         }
         Ok(BoxEnds { low, high })
+    }
+
+    /// The ends of a node's box at a coordinate: those that the innermost split above the node on this coordinate leaves, or the
+    /// root's. It goes from the node up to that split, and takes no memory.
+    pub(crate) fn span_of(&self, net: &Network, node: u32, coord: u32) -> Span
+        requires tree { IsOf (net_of net.now) self.now }
+        requires there { node < trees.nodes self.now.kept.splits }
+        requires known { coord < coords (net_of net.now) }
+        ensures { IsSpanOf (trees.box_of (net_of net.now) self.now.kept.splits node) coord result }
+    {
+        let splits = self.splits.as_slice();
+        let spans = self.spans.as_slice();
+        let mut at = node;
+        while at > 0 {
+            let above = (at as usize - 1) / 2;
+            let split = splits[above];
+            if split.coord == coord {
+                let Span { low, high } = spans[above];
+                return if at % 2 == 1 {
+                    Span {
+                        low,
+                        high: split.cut,
+                    }
+                } else {
+                    Span {
+                        low: split.cut,
+                        high,
+                    }
+                };
+            }
+            at = split.leaf;
+        }
+        let (low, high) = root_ends(net, coord_at(net, coord));
+        Span { low, high }
     }
 }

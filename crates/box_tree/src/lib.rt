@@ -13,6 +13,7 @@ mod boxes;
 mod entry;
 mod leaves;
 mod raising;
+mod span;
 mod splitting;
 #[cfg(test)]
 mod tests;

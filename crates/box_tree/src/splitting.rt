@@ -3,25 +3,26 @@
 ghost use Rattle.std.specs.Prelude.{◌≡◌, ◌≢◌, ◌<◌, ◌↔◌, IfOk, IfErr, IsTrue, length, option_map, Option};
 ghost use Rattle.std.specs.Option.{ForSome};
 ghost use Rattle.pool_model.specs.Network.{Net, net_of};
-ghost use Rattle.row_model.specs.Boxes.{left_of, right_of};
 ghost use Rattle.row_model.specs.Multipliers as multipliers;
 ghost use Rattle.row_model.specs.Trees as trees;
 ghost use Rattle.row_model.specs.Entries.{split_of};
 ghost use Rattle.box_space.specs.Shown.{shown_proof, shown_split};
-ghost use Rattle.box_space.specs.Views.{ends_of, AreEnds};
+ghost use Rattle.box_space.specs.Views.{AreEndsOf};
 ghost use Rattle.row_book.specs.Fitting.{Fits};
 ghost use Rattle.row_book.specs.Results as results;
-ghost use Rattle.box_tree.specs.Ends.{AreEndsOf};
-ghost use Rattle.box_tree.specs.EntryFaults.{IsFirstFault, IsInside, IsProofFault};
+ghost use Rattle.box_tree.specs.EntryFaults.{IsFirstFault, IsBadProof};
 ghost use Rattle.box_tree.specs.Kept.{searched_of, IsOf};
+ghost use Rattle.box_tree.specs.Spans.{half_of, IsSpanOf};
 ghost use Rattle.box_tree.specs.Taken.{IsTaken, grown};
 
 use crate::entry::EntryFault;
 use crate::raising::raised;
+use crate::span::{Side, Span};
 use crate::tree::Tree;
 use blend_network::Network;
-use box_space::{BoxEnds, Proof, Split, coords, halves};
-use row_book::{ProofFault, Scratch, Shown, value};
+use box_space::{BoxEnds, Proof, Split, coords};
+use edge_io::Memory;
+use row_book::{Shown, value};
 use std::alloc::AllocError;
 
 /// The greatest number of splits.
@@ -49,10 +50,9 @@ impl Tree {
         ensures unchanged { IfErr result (λ _. self.new.kept ≡ self.old.kept) }
         ensures scratch { Fits (net_of net.now) self.new.scratch }
     {
-        let _counts = net.counts();
-        let (left_box, right_box) = self.halves_of(net, &split)?;
-        let left_shown = show(net, &left_box, &left, &mut self.scratch)?;
-        let right_shown = show(net, &right_box, &right, &mut self.scratch)?;
+        let span = self.cut_span(net, &split)?;
+        let left_shown = self.show_half(net, &split, Side::Left, &left)?;
+        let right_shown = self.show_half(net, &split, Side::Right, &right)?;
         let above = self.node_bound(split.leaf);
         let left = Child {
             proof: left,
@@ -62,18 +62,17 @@ impl Tree {
             proof: right,
             bound: raised(above, right_shown),
         };
-        self.grow(split, left, right)?;
+        self.grow(split, span, left, right)?;
         Ok(())
     }
 
-    /// The halves of a leaf's box, or the first fault of the split itself.
-    fn halves_of(&self, net: &Network, split: &Split) -> Result<(BoxEnds, BoxEnds), EntryFault>
+    /// The ends that a split cuts between, or the first fault of the split itself.
+    fn cut_span(&self, net: &Network, split: &Split) -> Result<Span, EntryFault>
         requires { IsOf (net_of net.now) self.now }
+        ensures span { IfOk result (IsSpanOf (trees.box_of (net_of net.now) self.now.kept.splits split.now.leaf) split.now.coord) }
         ensures cuts { IfOk result (λ _. trees.CutsLeaf (net_of net.now) self.now.kept.splits (trees.box_of (net_of net.now) self.now.kept.splits split.now.leaf) (shown_split split.now)) }
         ensures few { IfOk result (λ _. length self.now.kept.splits < 20000) }
-        ensures left { IfOk result (λ h. AreEndsOf (net_of net.now) (left_of (trees.box_of (net_of net.now) self.now.kept.splits split.now.leaf) split.now.coord split.now.cut) h.0) }
-        ensures right { IfOk result (λ h. AreEndsOf (net_of net.now) (right_of (trees.box_of (net_of net.now) self.now.kept.splits split.now.leaf) split.now.coord split.now.cut) h.1) }
-        ensures fault { IfErr result (λ f. f ≢ EntryFault.Memory → (left right : Option multipliers.Proof) → IsFirstFault (net_of net.now) (searched_of self.now.kept) (split_of (shown_split split.now) left right) f) }
+        ensures fault { IfErr result (λ f. (left right : Option multipliers.Proof) → IsFirstFault (net_of net.now) (searched_of self.now.kept) (split_of (shown_split split.now) left right) f) }
     {
         if !self.is_leaf(split.leaf) {
             return Err(EntryFault::NotALeaf);
@@ -81,14 +80,59 @@ impl Tree {
         if split.coord >= coords(net) {
             return Err(EntryFault::BadCoord);
         }
-        let ends = self.box_of(net, split.leaf)?;
-        if !is_inside(&ends, split) {
+        let span = self.span_of(net, split.leaf, split.coord);
+        if !span.has_inside(split.cut) {
             return Err(EntryFault::CutOutside);
         }
         if self.splits.len() >= MAX_SPLITS {
             return Err(EntryFault::TooManySplits);
         }
-        Ok(halves(self.alloc, &ends, split.coord, split.cut)?)
+        Ok(span)
+    }
+
+    /// What the proof of a split's half shows of the half's box, where it has one.
+    fn show_half(
+        &mut self,
+        net: &Network,
+        split: &Split,
+        side: Side,
+        proof: &Option<Proof>,
+    ) -> Result<Option<Shown>, EntryFault>
+        requires tree { IsOf (net_of net.now) self.old }
+        requires cuts { trees.CutsLeaf (net_of net.now) self.old.kept.splits (trees.box_of (net_of net.now) self.old.kept.splits split.now.leaf) (shown_split split.now) }
+        ensures in_order { IfOk result (λ _. ForSome (option_map shown_proof proof.now) (multipliers.IsInOrder (net_of net.now) (half_of side (trees.box_of (net_of net.now) self.old.kept.splits split.now.leaf) split.now.coord split.now.cut))) }
+        ensures shown { IfOk result (λ s. option_map results.shown s ≡ option_map (multipliers.shown_by (net_of net.now) (half_of side (trees.box_of (net_of net.now) self.old.kept.splits split.now.leaf) split.now.coord split.now.cut)) (option_map shown_proof proof.now)) }
+        ensures fault { IfErr result (λ f. f ≢ EntryFault.Memory → IsBadProof (net_of net.now) (half_of side (trees.box_of (net_of net.now) self.old.kept.splits split.now.leaf) split.now.coord split.now.cut) (option_map shown_proof proof.now) f) }
+        ensures kept { self.new.kept ≡ self.old.kept }
+        ensures scratch { Fits (net_of net.now) self.new.scratch }
+    {
+        match proof {
+            None => Ok(None),
+            Some(proof) => {
+                let _counts = net.counts();
+                let ends = self.half_box(net, split, side)?;
+                Ok(Some(value(net, &ends.view(), proof, &mut self.scratch)?))
+            }
+        }
+    }
+
+    /// The box of a split's half.
+    fn half_box(&self, net: &Network, split: &Split, side: Side) -> Result<BoxEnds, Memory>
+        requires tree { IsOf (net_of net.now) self.now }
+        requires cuts { trees.CutsLeaf (net_of net.now) self.now.kept.splits (trees.box_of (net_of net.now) self.now.kept.splits split.now.leaf) (shown_split split.now) }
+        ensures { IfOk result (AreEndsOf (net_of net.now) (half_of side (trees.box_of (net_of net.now) self.now.kept.splits split.now.leaf) split.now.coord split.now.cut)) }
+    {
+        let mut ends = self.box_of(net, split.leaf)?;
+        match side {
+            Side::Left => {
+                ends.high[split.coord as usize] = split.cut;
+                Ok(ends)
+            }
+            Side::Right => {
+                ends.low[split.coord as usize] = split.cut;
+                Ok(ends)
+            }
+        }
     }
 
     /// Whether a node is one of the tree, and is not cut.
@@ -102,18 +146,26 @@ impl Tree {
     }
 
     /// Adds a split and its two nodes, or leaves the tree as it was where there is no memory for them.
-    fn grow(&mut self, split: Split, left: Child, right: Child) -> Result<(), AllocError>
+    fn grow(
+        &mut self,
+        split: Split,
+        span: Span,
+        left: Child,
+        right: Child,
+    ) -> Result<(), AllocError>
         requires leaf { split.leaf < length self.old.kept.cuts }
         requires few { length self.old.kept.splits < 20000 }
-        ensures grown { IfOk result (λ _. self.new.kept ≡ grown self.old.kept (shown_split split) (option_map shown_proof left.proof) (option_map shown_proof right.proof) left.bound right.bound) }
+        ensures grown { IfOk result (λ _. self.new.kept ≡ grown self.old.kept (shown_split split) span (option_map shown_proof left.proof) (option_map shown_proof right.proof) left.bound right.bound) }
         ensures unchanged { IfErr result (λ _. self.new.kept ≡ self.old.kept) }
         ensures scratch { self.new.scratch ≡ self.old.scratch }
     {
         self.splits.reserve(1)?;
+        self.spans.reserve(1)?;
         self.proofs.reserve(2)?;
         self.bounds.reserve(2)?;
         self.cuts.reserve(2)?;
         self.splits.push_reserved(split);
+        self.spans.push_reserved(span);
         self.proofs.push_reserved(left.proof);
         self.proofs.push_reserved(right.proof);
         self.bounds.push_reserved(left.bound);
@@ -122,35 +174,5 @@ impl Tree {
         self.cuts.push_reserved(false);
         self.cuts.push_reserved(false);
         Ok(())
-    }
-}
-
-/// Whether the cut lies strictly inside the box.
-fn is_inside(ends: &BoxEnds, split: &Split) -> bool
-    requires low { split.now.coord < length ends.now.low.items }
-    requires high { split.now.coord < length ends.now.high.items }
-    ensures { IsTrue result ↔ IsInside (ends_of ends.now) (shown_split split.now) }
-{
-    let view = ends.view();
-    view.low_at(split.coord) < split.cut && split.cut < view.high_at(split.coord)
-}
-
-/// What a half's proof shows of its box, where it has one.
-fn show(
-    net: &Network,
-    ends: &BoxEnds,
-    proof: &Option<Proof>,
-    scratch: &mut Scratch,
-) -> Result<Option<Shown>, ProofFault>
-    requires view { AreEnds (net_of net.now) ends.now }
-    requires fits { Fits (net_of net.now) scratch.old }
-    ensures in_order { IfOk result (λ _. ForSome (option_map shown_proof proof.now) (multipliers.IsInOrder (net_of net.now) (ends_of ends.now))) }
-    ensures shown { IfOk result (λ s. option_map results.shown s ≡ option_map (multipliers.shown_by (net_of net.now) (ends_of ends.now)) (option_map shown_proof proof.now)) }
-    ensures fault { IfErr result (IsProofFault (net_of net.now) (ends_of ends.now) (option_map shown_proof proof.now)) }
-    ensures fits { Fits (net_of net.now) scratch.new }
-{
-    match proof {
-        None => Ok(None),
-        Some(proof) => Ok(Some(value(net, &ends.view(), proof, scratch)?)),
     }
 }

@@ -1,8 +1,10 @@
-//! A tree over two feeds to one pool, entry by entry, and a long chain.
+//! A tree over two feeds to one pool, entry by entry, and the longest chain of splits.
 
 ghost use Rattle.std.specs.Prelude.{◌≡◌, IfOk, length, map, All};
 ghost use Rattle.pool_model.specs.Rows.{IsRectangular};
+ghost use Rattle.pool_model.specs.Network.{net_of};
 ghost use Rattle.blend_network.specs.Parts.{rows_of, source_row};
+ghost use Rattle.box_tree.specs.Kept.{IsOf};
 
 use super::{Entry, EntryFault, Tree};
 use blend_network::{Network, Parts, PoolRow, ProductRow, SourceRow};
@@ -120,5 +122,29 @@ fn an_entry_out_of_order_is_refused(rt: HostRuntime) -> Result<(), Fail> {
     let same = tree.apply(&net, Entry::Improve(zero_plan(alloc, &net)?));
     assert_eq!(rt; same, Err(EntryFault::PlanNotBetter));
     assert_eq!(rt; tree.splits().len(), 1);
+    Ok(())
+}
+
+/// Split number t, from 0 to 19,999, cuts node 2t at t + 1 millionths of what flows from P to X.
+fn split_20_000_times(net: &Network, tree: &mut Tree) -> Result<(), EntryFault>
+    requires { IsOf (net_of net.now) tree.old }
+    ensures { IsOf (net_of net.now) tree.new }
+{
+    for t in 0..20_000 {
+        tree.apply(net, split(2 * t, 3, i64::from(t) + 1))?;
+    }
+    Ok(())
+}
+
+#[test]
+fn twenty_thousand_splits_are_taken_and_no_more(rt: HostRuntime) -> Result<(), Fail> {
+    let alloc = rt.alloc();
+    let net = Network::build(alloc, two_feeds(alloc)?)?;
+    let mut tree = Tree::start(alloc, &net)?;
+    split_20_000_times(&net, &mut tree)?;
+    let one_more = tree.apply(&net, split(40_000, 3, 20_001));
+    assert_eq!(rt; one_more, Err(EntryFault::TooManySplits));
+    assert_eq!(rt; tree.splits().len(), 20_000);
+    assert_eq!(rt; tree.bound(), Some(-300_000_000_000_000));
     Ok(())
 }

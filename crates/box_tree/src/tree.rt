@@ -8,6 +8,7 @@ ghost use Rattle.row_model.specs.Entries as entries;
 ghost use Rattle.box_space.specs.Shown.{shown_proof, shown_split};
 ghost use Rattle.box_tree.specs.Kept.{IsOf, searched_of};
 
+use crate::span::Span;
 use blend_network::Network;
 use box_space::{Proof, Split};
 use edge_io::Memory;
@@ -24,10 +25,12 @@ pub(crate) struct Best {
 }
 
 /// A tree of boxes. Node 0 is the root, which holds all plans; split number t, from 0, cuts its node into the nodes 2t + 1, left,
-/// and 2t + 2, right. It keeps each node's proof, its bound and whether it is cut, and the cheapest plan so far.
+/// and 2t + 2, right. It keeps each split's ends, each node's proof, its bound and whether it is cut, and the cheapest plan so far.
 #[derive(Drop)]
 pub struct Tree {
     pub(crate) splits: Vec<Split>,
+    /// Of each split: the ends of its node at its coordinate.
+    pub(crate) spans: Vec<Span>,
     pub(crate) proofs: Vec<Option<Proof>>,
     /// Of each node, in picos: None where it holds no plan.
     pub(crate) bounds: Vec<Option<i128>>,
@@ -48,6 +51,7 @@ impl Model for Tree {
     ghost view = { λ t. record {
       kept = record {
         splits = map shown_split t.splits.items;
+        spans = t.spans.items;
         proofs = map (option_map shown_proof) t.proofs.items;
         bounds = t.bounds.items;
         cuts = t.cuts.items;
@@ -57,7 +61,7 @@ impl Model for Tree {
       scratch = t.scratch;
     } };
 
-    ghost invariant = { λ t. AreSized (length t.splits.items) (length t.proofs.items) (length t.bounds.items) (length t.cuts.items) };
+    ghost invariant = { λ t. AreSized (length t.splits.items) (length t.spans.items) (length t.proofs.items) (length t.bounds.items) (length t.cuts.items) };
 }
 
 impl Tree {
@@ -68,6 +72,7 @@ impl Tree {
     {
         Ok(Tree {
             splits: Vec::new(alloc),
+            spans: Vec::new(alloc),
             proofs: vec![in alloc; None]?,
             bounds: vec![in alloc; Some(net.reach_bound())]?,
             cuts: vec![in alloc; false]?,

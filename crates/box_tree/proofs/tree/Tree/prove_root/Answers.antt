@@ -1,19 +1,20 @@
-use Rattle.std.proofs.Common.{◌≡◌, rules, get_or, length, Option, Some, None, ℤ, option_map, false, ap, subst, ◌∙◌}
+use Rattle.std.proofs.Common.{◌≡◌, rules, get_or, Option, Some, None, ℤ, false, ap, ◌∙◌}
 use Rattle.std.proofs.lemmas.Result.{err_from_is_err_and}
 use Rattle.pool_model.specs.Network.{net_of}
 use Rattle.row_model.specs.Boxes.{root}
-use Rattle.box_space.specs.Shown.{shown_proof, shown_split}
+use Rattle.box_space.specs.Shown.{shown_proof}
 use Rattle.box_space.specs.Views.{box_of}
 use Rattle.row_model.specs.Multipliers.{Shown, shown_by}
-use Rattle.row_model.specs.Trees.{nodes, raised}
+use Rattle.row_model.specs.Trees.{raised}
 use Rattle.row_model.specs.Entries.{root_proof}
 use Rattle.row_book.specs.Results.{shown}
 use Rattle.box_tree.specs.Taken.{rooted}
 use Rattle.box_tree.specs.Kept.{Kept, Held, searched_of}
-use Rattle.box_tree.proofs.Agreeing.{in_order-same, shown-same, fault-same}
+use Rattle.row_model.proofs.Agreement.{in_order-same, shown-same}
+use Rattle.row_book.proofs.AgreedFaults.{fault-same}
 use Rattle.box_tree.proofs.Rooting.{root-taken, late}
 use Rattle.box_tree.proofs.Refusals.{bad-root, root-late}
-use Rattle.box_tree.proofs.Viewed.{root-view, sized, taken-now}
+use Rattle.box_tree.proofs.Viewed.{root-view, taken-now}
 use Rattle.box_tree.proofs.tree.Tree.prove_root.Goals as goal
 
 pub returns-in_err-shown-clause-fault : goal.returns-in_err-shown-clause-fault
@@ -41,11 +42,10 @@ returns-clause-taken c =
     let limited = c.counts-counts.ensures.limited in
     let agree = root-view n c.view.result c.in_ok-ends.ends c.view.ensures.low c.view.ensures.high c.in_ok-ends.ensures.root in
     let same = ap (λ (v : Held). v.kept) c.self.view_is in
-    let long : length k.proofs ≡ nodes k.splits = subst (λ (v : Held). length v.kept.proofs ≡ nodes v.kept.splits) c.self.view_is (sized (option_map shown_proof) shown_split c.self.inside.proofs.items c.self.inside.splits.items c.self.invariant.proved) in
     let is_open : (get_or k.proofs 0 None ≡ None) × (get_or k.cuts 0 false ≡ false) = search rules in
     let shows : shown c.in_ok-shown.shown ≡ shown_by n (root n) proof = c.in_ok-shown.ensures.ok.1 ∙ shown-same n (box_of c.view.result) (root n) proof limited agree in
     let before : c.node_bound.result ≡ get_or k.bounds 0 None = c.node_bound.ensures.kept ∙ ap (λ (z : Kept). get_or z.bounds 0 None) same in
     let bound_is : c.raised-bound.result ≡ raised (get_or k.bounds 0 None) (Some (shown_by n (root n) proof)) =
     c.raised-bound.ensures ∙ ap (λ (o : Option ℤ). raised o (Some (shown c.in_ok-shown.shown))) before ∙ ap (λ (z : Shown). raised (get_or k.bounds 0 None) (Some z)) shows in
     taken-now n (root_proof proof) k (rooted k proof c.raised-bound.result) c.set_root.new.self.kept (c.set_root.ensures.kept ∙ ap (λ (z : Kept). rooted z proof c.raised-bound.result) same)
-    (root-taken n k proof c.raised-bound.result c.requires.kept long (in_order-same n (box_of c.view.result) (root n) proof limited agree c.in_ok-shown.ensures.ok.0) is_open.0 is_open.1 bound_is)
+    (root-taken n k proof c.raised-bound.result c.requires.kept (in_order-same n (box_of c.view.result) (root n) proof limited agree c.in_ok-shown.ensures.ok.0) is_open.0 is_open.1 bound_is)
