@@ -9,11 +9,12 @@ use Rattle.integers.proofs.AtKey.{same_or_other}
 use Rattle.pool_model.specs.Network.{Net}
 use Rattle.row_model.specs.Boxes.{root}
 use Rattle.row_model.specs.Trees.{Split, split_at, nodes, is_cut, IsLeaf, box_after, box_of, IsSplitInOrder}
-use Rattle.row_model.proofs.TreeLaw.{length_before, box_is, box_kept, same_node, other_leaf}
+use Rattle.row_model.proofs.TreeLaw.{length_before, cut_more, leaf_kept, box_is, box_kept, same_node, other_leaf}
 use Rattle.box_space.specs.declared.boxes.BoxEnds.{BoxEnds}
-use Rattle.cert_checker.specs.Holding.{AreMarks, AreHeld, AreEndsOf, AreSplitHalves, holding}
+use Rattle.box_space.specs.Views.{AreEndsOf}
+use Rattle.cert_checker.specs.Holding.{AreMarks, AreHeld, AreSplitHalves, holding}
 use Rattle.cert_checker.specs.Trees.{AreInOrder}
-use Rattle.cert_checker.proofs.Splitting.{cut-more, new-leaf, leaf-kept, leaf-was, leaf-other, leaf-there, order-more}
+use Rattle.cert_checker.proofs.Splitting.{new-leaf, leaf-was, leaf-other, leaf-there, order-more}
 
 either : (b : Bool) → (b ≡ true) ⊎ (b ≡ false)
 either true = inl refl
@@ -37,15 +38,15 @@ pub mark-more : (splits : List Split) (t : ℕ) (marks : List Bool) → t < leng
 mark-more splits t marks h there same node lt = elim (same_or_other node (split_at splits t).leaf) [
   | inl e ↦ subst (λ m. get_or (set marks (split_at splits t).leaf true) m false ≡ is_cut (take (t + 1) splits) m) (sym e)
       (get_or-set_same marks (split_at splits t).leaf true false there
-      ∙ sym (cut-more splits t (split_at splits t).leaf h ∙ or_true (is_cut (take t splits) (split_at splits t).leaf) ((split_at splits t).leaf == (split_at splits t).leaf) (same_node (split_at splits t).leaf)))
+      ∙ sym (cut_more splits t (split_at splits t).leaf h ∙ or_true (is_cut (take t splits) (split_at splits t).leaf) ((split_at splits t).leaf == (split_at splits t).leaf) (same_node (split_at splits t).leaf)))
   | inr d ↦ get_or-set_other marks (split_at splits t).leaf node true false d ∙ same node lt
-      ∙ sym (cut-more splits t node h ∙ or_false_right (is_cut (take t splits) node) ((split_at splits t).leaf == node) (other_leaf (split_at splits t).leaf node (λ e. d (sym e))))
+      ∙ sym (cut_more splits t node h ∙ or_false_right (is_cut (take t splits) node) ((split_at splits t).leaf == node) (other_leaf (split_at splits t).leaf node (λ e. d (sym e))))
 ]
 
 pub mark-kept : (splits : List Split) (t : ℕ) (marks : List Bool) → t < length splits → length marks ≤ (split_at splits t).leaf → ((node : ℕ) → node < length marks → get_or marks node false ≡ is_cut (take t splits) node)
     → (node : ℕ) → node < length marks → get_or marks node false ≡ is_cut (take (t + 1) splits) node
 mark-kept splits t marks h far same node lt =
-    same node lt ∙ sym (cut-more splits t node h ∙ or_false_right (is_cut (take t splits) node) ((split_at splits t).leaf == node) (other_leaf (split_at splits t).leaf node (omega arith)))
+    same node lt ∙ sym (cut_more splits t node h ∙ or_false_right (is_cut (take t splits) node) ((split_at splits t).leaf == node) (other_leaf (split_at splits t).leaf node (omega arith)))
 
 -- ---- lists of what is held
 
@@ -162,7 +163,7 @@ module _ (n : Net) (splits : List Split) (t : ℕ) (marks : List Bool) (boxes : 
     | inl at ↦ absurd (clash (get_or (set boxes (split_at splits t).leaf None) (split_at splits t).leaf None) x (subst (λ m. get_or (set boxes (split_at splits t).leaf None) m None ≡ Some x) at e) (get_or-set_same boxes (split_at splits t).leaf None None (omega (arith, room, leaf-there n splits t there order))))
     | inr d ↦
         let was = holds.held node x (sym (get_or-set_other boxes (split_at splits t).leaf node None None d) ∙ e) in
-        (leaf-kept splits t node there was.0 (λ same. d (sym same)), subst (λ b. AreEndsOf n b x) (sym (ap (λ m. box_after n splits m node) (add-one t) ∙ box_kept n splits t node h)) was.1)
+        (leaf_kept splits t node there was.0 (λ same. d (sym same)), subst (λ b. AreEndsOf n b x) (sym (ap (λ m. box_after n splits m node) (add-one t) ∙ box_kept n splits t node h)) was.1)
   ]
 
   held_left : (x : BoxEnds) → left ≡ x → IsLeaf (take (t + 1) splits) (2 * t + 1) × AreEndsOf n (box_after n splits (t + 1) (2 * t + 1)) x

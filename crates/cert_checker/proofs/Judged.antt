@@ -5,19 +5,18 @@ use Rattle.std.proofs.lemmas.List.{get_or_append_left}
 use Rattle.std.proofs.Math.Seq.{get_or-append_seam}
 use Rattle.integers.proofs.AtKey.{same_or_other}
 use Rattle.pool_model.specs.Network.{Net, IsLimited}
-use Rattle.row_model.specs.Boxes.{Box}
+use Rattle.row_model.specs.Boxes.{Box, Agree}
 use Rattle.row_model.specs.Multipliers.{Proof, IsInOrder, shown_by}
 use Rattle.row_model.specs.Trees.{Tree, box_of, own}
+use Rattle.row_model.proofs.Agreement.{in_order-same, shown-same}
+use Rattle.row_book.proofs.AgreedFaults.{fault-same}
 use Rattle.row_book.specs.Results.{shown}
 use Rattle.row_book.specs.declared.shown.Shown.{Shown}
 use Rattle.row_book.specs.declared.fault.ProofFault.{ProofFault}
 use Rattle.cert_checker.specs.declared.judge.Judge.{Judge}
-use Rattle.cert_checker.specs.Holding.{Agree}
 use Rattle.cert_checker.specs.Refusals.{IsWrongProof}
 use Rattle.cert_checker.specs.Trees.{AreProved}
 use Rattle.cert_checker.specs.Judging.{Fault, HasFault, IsJudgedBy, AreOwn, AreJudged}
-use Rattle.cert_checker.proofs.Agreement.{order-same, shown-same}
-use Rattle.cert_checker.proofs.Faults.{fault-same}
 
 pub judged-start : (n : Net) (tree : Tree) (j : Judge) → length j.shown.items ≡ 0 → j.fault ≡ None → AreJudged n tree 0 j
 judged-start n tree j long none = record {
@@ -36,7 +35,7 @@ module _ (n : Net) (tree : Tree) (limited : IsLimited n) (m : ℕ) (b : Box) (ag
   proved_more : (o : Option Proof) → o ≡ tree.proof m → AreProved n tree m → ForSome o (IsInOrder n b) → AreProved n tree (m + 1)
   proved_more o at before here node proof h has = elim (same_or_other node m) [
     | inl e ↦ subst (λ k. IsInOrder n (box_of n tree.splits k) proof) (sym e)
-        (order-same n b (box_of n tree.splits m) limited agree proof (of_some n b o proof here (at ∙ subst (λ k. tree.proof k ≡ Some proof) e has)))
+        (in_order-same n b (box_of n tree.splits m) proof limited agree (of_some n b o proof here (at ∙ subst (λ k. tree.proof k ≡ Some proof) e has)))
     | inr d ↦ before node proof (omega arith) has
   ]
 
@@ -46,7 +45,7 @@ module _ (n : Net) (tree : Tree) (limited : IsLimited n) (m : ℕ) (b : Box) (ag
     own_is = λ node h. elim (same_or_other node m) [
       | inl e ↦ subst (λ k. option_map shown (get_or (list ++ (entry ∷ [])) k None) ≡ own n tree k) (sym e)
           (ap (option_map shown) (ap (λ k. get_or (list ++ (entry ∷ [])) k None) (sym before.long) ∙ get_or-append_seam list entry [] None) ∙ here
-          ∙ ap (λ f. option_map f (tree.proof m)) (λ i. λ proof. shown-same n b (box_of n tree.splits m) limited agree proof i))
+          ∙ ap (λ f. option_map f (tree.proof m)) (λ i. λ proof. shown-same n b (box_of n tree.splits m) proof limited agree i))
       | inr d ↦ ap (option_map shown) (get_or_append_left list (entry ∷ []) None node (omega (arith, before.long))) ∙ before.own_is node (omega arith)
     ];
   }

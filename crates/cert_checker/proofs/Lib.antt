@@ -1,6 +1,4 @@
 -- Lemmas behind the checker.
-pub mod Agreement
-pub mod Faults
 pub mod Splitting
 pub mod Held
 pub mod Cutting

@@ -22,7 +22,7 @@ use Rattle.cert_checker.specs.declared.refusal.Refusal.TheVariants.{Text, Shape,
 use Rattle.cert_checker.specs.Refusals.{HasPlanFault, IsWrongKind, IsWrongCost, IsWrongBound, IsWrongGap, Refuses, stage, number, IsFirstRefusal}
 use Rattle.cert_checker.specs.Trees.{AreSplits, ArePlaced, AreProved, IsFirstSplit, IsFirstPlace, IsBoundOf, IsTreeRefusal}
 use Rattle.cert_checker.specs.Claims.{IsClaimCost, IsPlanRefusal, IsOtherCost, AreClaimed, IsClaimRefusal}
-use Rattle.cert_checker.proofs.Faults.{no-fault}
+use Rattle.row_book.proofs.AgreedFaults.{no-fault}
 use Rattle.cert_checker.proofs.Lines.{all-placed}
 
 -- a certificate gives no cause of this stage

@@ -4,23 +4,15 @@ use Rattle.std.proofs.lemmas.List.{get_or_append_left, get_or_default}
 use Rattle.std.proofs.Math.Seq.{get_or-append_seam}
 use Rattle.integers.proofs.AtKey.{same_or_other}
 use Rattle.pool_model.specs.Network.{Net}
+use Rattle.pool_model.proofs.Reach.{least_below-same}
 use Rattle.pool_model.specs.Starting.{lesser, least_below, reach_bound}
 use Rattle.row_model.specs.Trees.{Tree, split_at, left_node, right_node, nodes, is_cut, raised, own, bound_after, leaf_bound, tree_bound}
-use Rattle.row_model.proofs.TreeLaw.{same_node, other_leaf}
+use Rattle.row_model.proofs.TreeBound.{old_bound, new_left, new_right}
 use Rattle.row_book.specs.Results.{shown}
 use Rattle.row_book.specs.declared.shown.Shown.{Shown}
 use Rattle.cert_checker.specs.Holding.{AreMarks}
 use Rattle.cert_checker.specs.Judging.{AreOwn}
 use Rattle.cert_checker.specs.Trees.{AreBounds}
-
-old_bound : (n : Net) (tree : Tree) (t node : ℕ) → node < 2 * t + 1 → bound_after n tree (suc t) node ≡ bound_after n tree t node
-old_bound n tree t node h = cc (other_leaf node (left_node t) (omega arith), other_leaf node (right_node t) (omega arith))
-
-new_left : (n : Net) (tree : Tree) (t : ℕ) → bound_after n tree (suc t) (left_node t) ≡ raised (bound_after n tree t (split_at tree.splits t).leaf) (own n tree (left_node t))
-new_left n tree t = cc (same_node (left_node t))
-
-new_right : (n : Net) (tree : Tree) (t : ℕ) → bound_after n tree (suc t) (right_node t) ≡ raised (bound_after n tree t (split_at tree.splits t).leaf) (own n tree (right_node t))
-new_right n tree t = cc (other_leaf (right_node t) (left_node t) (omega arith), same_node (right_node t))
 
 pub root-bound : (n : Net) (tree : Tree) (list : List (Option Shown)) (m : ℕ) (x : Option Shown) (first : Option ℤ) → AreOwn n tree list m → 0 < m → x ≡ get_or list 0 x
     → first ≡ raised (Some (reach_bound n)) (option_map shown x) → (node : ℕ) → node < 1 → get_or (first ∷ []) node None ≡ bound_after n tree 0 node
@@ -83,14 +75,10 @@ least-cut f i least e none = e ∙ sym (ap (least_below f) (add-one i) ∙ ap (l
 pub least-more : (f : ℕ → Option ℤ) (i : ℕ) (least x : Option ℤ) → least ≡ least_below f i → f i ≡ x → lesser least x ≡ least_below f (i + 1)
 least-more f i least x e here = ap (λ o. lesser o x) e ∙ sym (ap (least_below f) (add-one i) ∙ ap (lesser (least_below f i)) here)
 
-least_same : (f g : ℕ → Option ℤ) (n : ℕ) → ((i : ℕ) → i < n → f i ≡ g i) → least_below f n ≡ least_below g n
-least_same f g zero h = refl
-least_same f g (suc n) h = ap (λ o. lesser o (f n)) (least_same f g n (λ i lt. h i (omega arith))) ∙ ap (lesser (least_below g n)) (h n (omega arith))
-
 -- the least of the bounds of the nodes that are not marked is the tree's
 pub least-tree : (n : Net) (tree : Tree) (bounds : List (Option ℤ)) (marks : List Bool) → AreBounds n tree bounds → AreMarks tree.splits marks
     → least_below (λ node. if get_or marks node false then None else get_or bounds node None) (length marks) ≡ tree_bound n tree
 least-tree n tree bounds marks is marked =
     ap (least_below (λ node. if get_or marks node false then None else get_or bounds node None)) marked.long
-    ∙ least_same (λ node. if get_or marks node false then None else get_or bounds node None) (leaf_bound n tree) (nodes tree.splits)
+    ∙ least_below-same (λ node. if get_or marks node false then None else get_or bounds node None) (leaf_bound n tree) (nodes tree.splits)
     (λ node h. ap (λ t. if t then None else get_or bounds node None) (marked.same node h) ∙ ap (λ b. if is_cut tree.splits node then None else b) (is.bound_is node h))

@@ -5,7 +5,7 @@ use Rattle.std.proofs.lemmas.List.Folds.{list_any_more}
 use Rattle.integers.proofs.AtKey.{same_or_other}
 use Rattle.pool_model.specs.Network.{Net}
 use Rattle.row_model.specs.Trees.{Split, no_split, split_at, is_cut, IsLeaf, IsSplitInOrder}
-use Rattle.row_model.proofs.TreeLaw.{length_before, same_node, other_leaf}
+use Rattle.row_model.proofs.TreeLaw.{length_before, same_node, cut_more, uncut_later}
 use Rattle.box_space.specs.declared.coordinates.Split as declared
 use Rattle.box_space.specs.Shown.{shown_split}
 use Rattle.cert_checker.specs.Trees.{AreInOrder}
@@ -13,13 +13,6 @@ use Rattle.cert_checker.specs.Trees.{AreInOrder}
 -- a split that is read from a list
 pub split-is : (splits : List declared.Split) (t : ℕ) (d : declared.Split) → t < length splits → split_at (map shown_split splits) t ≡ shown_split (get_or splits t d)
 split-is splits t d h = get_or-map shown_split splits t d no_split h
-
--- one split more
-pub cut-more : (splits : List Split) (t node : ℕ) → t < length splits → is_cut (take (t + 1) splits) node ≡ (is_cut (take t splits) node || ((split_at splits t).leaf == node))
-cut-more splits t node h = list_any_more (λ s. s.leaf == node) splits t no_split h
-
-or_false : (a b : Bool) → a ≡ false → b ≡ false → (a || b) ≡ false
-or_false a b h k = cc
 
 or_true : (a b : Bool) → b ≡ true → (a || b) ≡ true
 or_true true b h = refl
@@ -39,38 +32,22 @@ named-cut [] t h = absurd (omega arith)
 named-cut (s ∷ splits) zero h = cc (same_node s.leaf)
 named-cut (s ∷ splits) (suc t) h = or_true (s.leaf == (split_at splits t).leaf) (is_cut splits (split_at splits t).leaf) (named-cut splits t (omega arith))
 
--- no split of the first ones cuts a node that comes later
-pub uncut-later : (n : Net) (splits : List Split) (t node : ℕ) → t ≤ length splits → 2 * t ≤ node + 1 → AreInOrder n splits t → is_cut (take t splits) node ≡ false
-uncut-later n splits zero node h later order = refl
-uncut-later n splits (suc t) node h later order =
-    let leaf = (order t (omega arith)).leaf in
-    ap (λ m. is_cut (take m splits) node) (sym (add-one t))
-    ∙ cut-more splits t node (omega arith)
-    ∙ or_false (is_cut (take t splits) node) ((split_at splits t).leaf == node) (uncut-later n splits t node (omega arith) (omega arith) (λ i lt. order i (omega arith)))
-    (other_leaf (split_at splits t).leaf node (omega (arith, leaf.there, length_before splits t (omega arith))))
-
 pub new-leaf : (n : Net) (splits : List Split) (t node : ℕ) → t ≤ length splits → node < 2 * t + 1 → 2 * t ≤ node + 1 → AreInOrder n splits t → IsLeaf (take t splits) node
 new-leaf n splits t node h lt later order = record {
   there = omega (arith, length_before splits t (omega arith));
-  uncut = uncut-later n splits t node h later order;
+  uncut = uncut_later n splits t node h later order;
 }
 
--- a leaf that the next split leaves whole is one of the next tree, and was one before it
-pub leaf-kept : (splits : List Split) (t node : ℕ) → t < length splits → IsLeaf (take t splits) node → (split_at splits t).leaf ≢ node → IsLeaf (take (t + 1) splits) node
-leaf-kept splits t node h leaf other = record {
-  there = omega (arith, leaf.there, length_before splits t (omega arith), length_before splits (t + 1) (omega arith));
-  uncut = cut-more splits t node h ∙ or_false (is_cut (take t splits) node) ((split_at splits t).leaf == node) leaf.uncut (other_leaf (split_at splits t).leaf node other);
-}
-
+-- a leaf that the next split leaves whole was one before it
 pub leaf-was : (splits : List Split) (t node : ℕ) → t < length splits → node < 2 * t + 1 → IsLeaf (take (t + 1) splits) node → IsLeaf (take t splits) node
 leaf-was splits t node h lt leaf = record {
   there = omega (arith, length_before splits t (omega arith));
-  uncut = or_left (is_cut (take t splits) node) ((split_at splits t).leaf == node) (sym (cut-more splits t node h) ∙ leaf.uncut);
+  uncut = or_left (is_cut (take t splits) node) ((split_at splits t).leaf == node) (sym (cut_more splits t node h) ∙ leaf.uncut);
 }
 
 pub leaf-other : (splits : List Split) (t node : ℕ) → t < length splits → IsLeaf (take (t + 1) splits) node → (split_at splits t).leaf ≢ node
 leaf-other splits t node h leaf e =
-    let no = or_right (is_cut (take t splits) node) ((split_at splits t).leaf == node) (sym (cut-more splits t node h) ∙ leaf.uncut) in
+    let no = or_right (is_cut (take t splits) node) ((split_at splits t).leaf == node) (sym (cut_more splits t node h) ∙ leaf.uncut) in
     let yes : ((split_at splits t).leaf == node) ≡ true = subst (λ m. ((split_at splits t).leaf == m) ≡ true) e (same_node (split_at splits t).leaf) in
     absurd (cc)
 

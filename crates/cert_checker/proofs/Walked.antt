@@ -10,7 +10,8 @@ use Rattle.row_book.specs.Fitting.{Fits}
 use Rattle.cert_format.specs.Cert.{NodeProof}
 use Rattle.cert_format.specs.Valid.{proof_of}
 use Rattle.cert_checker.specs.declared.judge.Judge.{Judge}
-use Rattle.cert_checker.specs.Holding.{AreMarks, AreHeld, AreEndsOf, AreSplitHalves, holding}
+use Rattle.box_space.specs.Views.{AreEndsOf}
+use Rattle.cert_checker.specs.Holding.{AreMarks, AreHeld, AreSplitHalves, holding}
 use Rattle.cert_checker.specs.Judging.{IsNext, IsJudgedBy, AreJudged}
 use Rattle.cert_checker.specs.Trees.{tree_with, AreInOrder}
 use Rattle.cert_checker.proofs.Splitting.{order-more}

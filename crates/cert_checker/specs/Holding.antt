@@ -1,20 +1,10 @@
 -- Boxes that are held while a tree is walked.
 use Rattle.std.specs.Prelude.{◌≡◌, ◌≢◌, ℕ, ◌<◌, List, length, take, get_or, slice_set, Bool, true, false, if◌then◌else◌, Option, None, Some, ◌<ℤ◌}
 use Rattle.pool_model.specs.Network.{Net}
-use Rattle.row_model.specs.Boxes.{Box, coords}
+use Rattle.row_model.specs.Boxes.{coords}
 use Rattle.row_model.specs.Trees.{Split, left_node, right_node, nodes, is_cut, IsLeaf, box_of, box_after}
-use Rattle.box_space.specs.Views.{ends_of, AreEnds}
+use Rattle.box_space.specs.Views.{ends_of, AreEndsOf}
 use Rattle.box_space.specs.declared.boxes.BoxEnds.{BoxEnds}
-
--- two boxes have the same ends at each coordinate
-pub record Agree (n : Net) (a b : Box) : Type 0 where
-  pub low : (c : ℕ) → c < coords n → a.low c ≡ b.low c
-  pub high : (c : ℕ) → c < coords n → a.high c ≡ b.high c
-
--- the ends that are held are those of a box
-pub record AreEndsOf (n : Net) (box : Box) (b : BoxEnds) : Type 0 where
-  pub proper : AreEnds n b
-  pub agree : Agree n (ends_of b) box
 
 -- for each node whether some split cuts it
 pub record AreMarks (splits : List Split) (marks : List Bool) : Type 0 where

@@ -25,3 +25,6 @@ pub use checking::check;
 pub use laws::valid_law;
 pub use refusal::Refusal;
 pub use verdict::Verdict;
+
+#[cfg(test)]
+mod tests;

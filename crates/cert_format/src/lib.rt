@@ -12,6 +12,7 @@
 mod certificate;
 mod fault;
 mod laws;
+mod ranges;
 mod reading;
 mod writing;
 
@@ -19,6 +20,7 @@ pub use cert_text::TextFault;
 pub use certificate::{Certificate, Claim, NodeProof};
 pub use fault::ReadCert;
 pub use laws::text_law;
+pub use ranges::cert_law;
 pub use reading::read_cert;
 pub use writing::write_cert;
 

@@ -5,9 +5,9 @@ use Rattle.std.proofs.lemmas.List.{length-map}
 use Rattle.pool_model.specs.Network.{Net, net_of}
 use Rattle.row_model.specs.Trees.{Split, split_at, IsLeaf, box_after}
 use Rattle.box_space.specs.Shown.{shown_split}
-use Rattle.box_space.specs.Views.{AreHalves}
+use Rattle.box_space.specs.Views.{AreHalves, AreEndsOf}
 use Rattle.box_space.specs.declared.boxes.BoxEnds.{BoxEnds}
-use Rattle.cert_checker.specs.Holding.{AreHeld, AreEndsOf, IsInside}
+use Rattle.cert_checker.specs.Holding.{AreHeld, IsInside}
 use Rattle.cert_checker.proofs.Splitting.{split-is}
 use Rattle.cert_checker.proofs.Cutting.{order-inside, inside-order, halves-are}
 use Rattle.cert_checker.proofs.leaves.cut_leaf.Goals as goal
@@ -45,7 +45,7 @@ returns-then-is_inside-clause-halves c =
     let at : split_at splits c.args.t ≡ s = split-is c.args.splits.now c.args.t record { leaf = 0; coord = 0; cut = pos 0 } c.requires.there in
     let h = held_of n splits c.args.t c.args.boxes.now.items s c.in-Some.ends c.requires.held at c.in-Some.ensures.value in
     halves-are n splits c.args.t c.in-Some.ends c.in_ok-halves.field-0.0 c.in_ok-halves.field-0.1 (omega (arith, length-map c.args.splits.now shown_split, c.requires.there)) h.1
-    (subst (IsInside n c.in-Some.ends) (sym at) (c.if-is_inside.ensures.inside refl))
+    (order-inside n splits c.args.t c.in-Some.ends h.0 h.1 (subst (IsInside n c.in-Some.ends) (sym at) (c.if-is_inside.ensures.inside refl)))
     (subst (λ x. AreHalves c.in-Some.ends c.in_ok-halves.field-0.0 c.in_ok-halves.field-0.1 x.coord x.cut) (sym at) (let f : FitsSigned w64 (get_or c.args.splits.now c.args.t record { leaf = 0; coord = 0; cut = pos 0 }).cut = search rules in (simp to_z-of_z at c.in_ok-halves.ensures)))
 
 pub returns-then-is_inside-clause-cut : goal.returns-then-is_inside-clause-cut
