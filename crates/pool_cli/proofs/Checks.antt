@@ -1,5 +1,5 @@
 -- How a check of a certificate ends.
-use Rattle.std.proofs.Common.{◌≡◌, ◌≢◌, ℕ, inl, inr, List, ◌∷◌, [], length, Option, Some, Result, Err, codes, refl, sym, ap, subst, ◌∙◌, arith}
+use Rattle.std.proofs.Common.{◌≡◌, ◌≢◌, ℕ, inl, inr, List, ◌∷◌, [], length, ◌≤◌, Option, Some, Result, Err, codes, refl, sym, ap, subst, ◌∙◌, arith}
 use Rattle.edge_io.specs.Counts.{Grows, Rose}
 use Rattle.edge_io.specs.Files.{file_of, HasFile}
 use Rattle.pool_model.specs.Network.{Network, net_of}
@@ -14,7 +14,7 @@ use Rattle.pool_cli.specs.declared.status.Status.TheVariants as statuses
 use Rattle.pool_cli.specs.Words.{Asks, AsksCheck}
 use Rattle.pool_cli.specs.Reads.{ReadsUnder}
 use Rattle.pool_cli.specs.Verdicts.{accepted_line, refused_line}
-use Rattle.pool_cli.specs.Checking.{RejectsUnder, ValidUnder, VerifiesUnder}
+use Rattle.pool_cli.specs.Checking.{most_bytes, RejectsUnder, ValidUnder, VerifiesUnder}
 use Rattle.pool_cli.specs.Checked.{ChecksAs, IsOfCheck, IsStatusOf, IsUnaccepted, IsUnreadable}
 use Rattle.pool_cli.specs.Running.{IsCutShort, IsUnread, Took}
 use Rattle.pool_cli.proofs.Causes.{some_same, one_network, refused_unread}
@@ -58,19 +58,19 @@ by_certificate files net cert network before mid after statuses.MinimumNotYet re
 
 -- the certificate is refused
 pub by_refusal : (files : Option (List (List ℕ × List ℕ))) (net cert : List ℕ) (network : Network) (bytes : List ℕ) (before after : ℕ) (refusal : Refusal) (s : Status) → ReadsUnder files net network → HasFile files cert bytes
-    → IsRefused (net_of network) bytes refusal → IsStatusOf refusal s → IsUnaccepted files net cert before after s
-by_refusal files net cert network bytes before after refusal statuses.Closed reads file refused h = absurd h
-by_refusal files net cert network bytes before after refusal statuses.Stopped reads file refused h = absurd h
-by_refusal files net cert network bytes before after refusal statuses.Accepted reads file refused h = absurd h
-by_refusal files net cert network bytes before after refusal (statuses.Refused told) reads file refused (is, own) =
-    subst (λ (r : Refusal). RejectsUnder files net cert r) (sym is) (record { network = network; bytes = bytes; reads = reads; file = file; refused = refused; own = own })
-by_refusal files net cert network bytes before after refusal statuses.WriteFault reads file refused h = absurd h
-by_refusal files net cert network bytes before after refusal statuses.Usage reads file refused h = absurd h
-by_refusal files net cert network bytes before after refusal (statuses.NetworkRefused cause) reads file refused h = absurd h
-by_refusal files net cert network bytes before after refusal statuses.CertTooLong reads file refused h = absurd h
-by_refusal files net cert network bytes before after refusal statuses.ReadFault reads file refused h = absurd h
-by_refusal files net cert network bytes before after refusal statuses.OutOfMemory reads file refused h = tt
-by_refusal files net cert network bytes before after refusal statuses.MinimumNotYet reads file refused h = absurd h
+    → length bytes ≤ most_bytes → IsRefused (net_of network) bytes refusal → IsStatusOf refusal s → IsUnaccepted files net cert before after s
+by_refusal files net cert network bytes before after refusal statuses.Closed reads file short refused h = absurd h
+by_refusal files net cert network bytes before after refusal statuses.Stopped reads file short refused h = absurd h
+by_refusal files net cert network bytes before after refusal statuses.Accepted reads file short refused h = absurd h
+by_refusal files net cert network bytes before after refusal (statuses.Refused told) reads file short refused (is, own) =
+    subst (λ (r : Refusal). RejectsUnder files net cert r) (sym is) (record { network = network; bytes = bytes; reads = reads; file = file; short = short; refused = refused; own = own })
+by_refusal files net cert network bytes before after refusal statuses.WriteFault reads file short refused h = absurd h
+by_refusal files net cert network bytes before after refusal statuses.Usage reads file short refused h = absurd h
+by_refusal files net cert network bytes before after refusal (statuses.NetworkRefused cause) reads file short refused h = absurd h
+by_refusal files net cert network bytes before after refusal statuses.CertTooLong reads file short refused h = absurd h
+by_refusal files net cert network bytes before after refusal statuses.ReadFault reads file short refused h = absurd h
+by_refusal files net cert network bytes before after refusal statuses.OutOfMemory reads file short refused h = tt
+by_refusal files net cert network bytes before after refusal statuses.MinimumNotYet reads file short refused h = absurd h
 
 -- ---- a valid certificate is accepted, or the run is cut short
 

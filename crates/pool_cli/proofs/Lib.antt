@@ -5,3 +5,4 @@ pub mod Refusals
 pub mod Causes
 pub mod Takings
 pub mod Checks
+pub mod Decided

@@ -23,6 +23,7 @@ pub record VerifiesUnder (files : Option (List (List ℕ × List ℕ))) (net cer
   pub bytes : List ℕ
   pub reads : ReadsUnder files net network
   pub file : HasFile files cert bytes
+  pub short : length bytes ≤ most_bytes
   pub accepted : IsAccepted (net_of network) bytes verdict
   pub follows : (c : Cert) → Spells bytes c → Follows (net_of network) c.claim
 
@@ -38,6 +39,7 @@ pub record RejectsUnder (files : Option (List (List ℕ × List ℕ))) (net cert
   pub bytes : List ℕ
   pub reads : ReadsUnder files net network
   pub file : HasFile files cert bytes
+  pub short : length bytes ≤ most_bytes
   pub refused : IsRefused (net_of network) bytes refusal
   pub own : refusal ≢ refusals.Memory
 
@@ -62,3 +64,13 @@ pub record ValidUnder (files : List (List ℕ × List ℕ)) (net cert : List ℕ
   pub short : length bytes ≤ most_bytes
   pub spelled : Spells bytes certificate
   pub valid : IsValid (net_of network) certificate
+
+-- the bytes under the second name are not too many, and are of no certificate that is valid for the network in the file of the
+-- first
+pub record InvalidUnder (files : List (List ℕ × List ℕ)) (net cert : List ℕ) : Type 0 where
+  pub network : Network
+  pub bytes : List ℕ
+  pub reads : ReadsUnder (Some files) net network
+  pub file : HasFile (Some files) cert bytes
+  pub short : length bytes ≤ most_bytes
+  pub none : (c : Cert) → Spells bytes c → ¬ IsValid (net_of network) c

@@ -10,7 +10,7 @@ use Rattle.network_json.specs.declared.fault.ReadNet.{ReadNet}
 use Rattle.network_json.specs.declared.fault.ReadNet.TheVariants as causes
 use Rattle.network_json.specs.Reading.{IsRefusal}
 use Rattle.cert_format.specs.Cert.{Cert}
-use Rattle.cert_format.specs.Text.{text_of}
+use Rattle.cert_checker.specs.Answers.{Spells}
 use Rattle.pool_cli.specs.Solution.{IsSolution, HasMinimum}
 use Rattle.pool_cli.specs.Words.{Asks, AsksCheck, NamesNetwork}
 use Rattle.pool_cli.specs.Reads.{ReadsUnder}
@@ -25,7 +25,7 @@ pub record AnswersUnder (files : Option (List (List ℕ × List ℕ))) (name : L
   pub reads : ReadsUnder files name network
   pub minima : HasNoMinima (net_of network)
   pub solution : IsSolution (net_of network) closed certificate
-  pub spelled : text ≡ text_of certificate
+  pub spelled : Spells text certificate
 
 -- the texts that solve the network in the file of this name, by the status
 abbrev pub SolvesAs : Option (List (List ℕ × List ℕ)) → List ℕ → Status → List ℕ → Type 0

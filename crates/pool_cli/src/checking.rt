@@ -1,17 +1,19 @@
 //! The check of a certificate in a file.
 
-ghost use Rattle.std.specs.Prelude.{◌≡◌, ◌⊎◌, ℕ, List, Some, IsTrue, IfOk, IfErr};
-ghost use Rattle.edge_io.specs.Counts.{Rose};
+ghost use Rattle.std.specs.Prelude.{◌≡◌, ◌⊎◌, ◌≤◌, ℕ, List, length, Some, IsTrue, IfOk, IfErr};
+ghost use Rattle.edge_io.specs.Counts.{Grows, Rose};
 ghost use Rattle.edge_io.specs.Files.{HasFile};
 ghost use Rattle.network_json.specs.declared.fault.ReadNet.{ReadNet};
 ghost use Rattle.pool_cli.specs.Verdicts.{accepted_line, refused_line};
-ghost use Rattle.pool_cli.specs.Checking.{LongUnder, ValidUnder, VerifiesUnder};
-ghost use Rattle.pool_cli.specs.Running.{IsCutShort, IsOwnCause, RefusesUnder, Took};
+ghost use Rattle.pool_cli.specs.Checking.{most_bytes, InvalidUnder, LongUnder, ValidUnder, VerifiesUnder};
+ghost use Rattle.pool_cli.specs.Reads.{ReadsUnder};
+ghost use Rattle.pool_cli.specs.Running.{IsCutShort, IsNetworkRefused, IsOwnCause, ReadsNone, RefusesUnder, Took};
 ghost use Rattle.pool_cli.specs.Checked.{ChecksAs, IsAcceptance, IsDenial, IsOfCheck, IsStatusOf, IsUnaccepted, IsUnreadable};
 
 use crate::command::network_under;
 use crate::status::Status;
 use crate::verdict::{write_refused, write_verdict};
+use blend_network::Network;
 use cert_checker::{Refusal, Verdict};
 use edge_io::{Shelf, ShelfFault, Sink};
 use std::alloc::Global;
@@ -36,7 +38,10 @@ pub(crate) fn check<S: Shelf, K: Sink>(
     ensures cert_too_long { (told : List (List ℕ × List ℕ)) → S.files shelf.old ≡ Some told → result ≡ Status.CertTooLong → LongUnder told net.now cert.now }
     ensures read_fault { result ≡ Status.ReadFault → Rose (S.faults shelf.old) (S.faults shelf.new) }
     ensures write_fault { result ≡ Status.WriteFault → Rose (K.faults out.old) (K.faults out.new) }
+    ensures no_network { (told : List (List ℕ × List ℕ)) → S.files shelf.old ≡ Some told → ReadsNone told net.now → IsNetworkRefused result ⊎ IsCutShort result }
+    ensures too_long { (told : List (List ℕ × List ℕ)) → S.files shelf.old ≡ Some told → LongUnder told net.now cert.now → (result ≡ Status.CertTooLong) ⊎ IsCutShort result }
     ensures valid { (told : List (List ℕ × List ℕ)) → S.files shelf.old ≡ Some told → ValidUnder told net.now cert.now → IsAcceptance result ⊎ IsCutShort result }
+    ensures invalid { (told : List (List ℕ × List ℕ)) → S.files shelf.old ≡ Some told → InvalidUnder told net.now cert.now → IsDenial result ⊎ IsCutShort result }
 {
     match verdict_under(alloc, net, cert, shelf) {
         Ok(verdict) => print_verdict(&verdict, out),
@@ -62,14 +67,30 @@ fn verdict_under<S: Shelf>(
     ensures valid { (told : List (List ℕ × List ℕ)) → S.files shelf.old ≡ Some told → ValidUnder told net.now cert.now → IfErr result IsCutShort }
 {
     let network = network_under(alloc, net, shelf)?;
+    verdict_for(alloc, &network, cert, shelf)
+}
+
+/// The verdict on the certificate in the file of this name for a network that was read.
+fn verdict_for<S: Shelf>(
+    alloc: Global,
+    network: &Network,
+    cert: &str,
+    shelf: &mut S,
+) -> Result<Verdict, Status>
+    requires { IsTrue (S.admits shelf.old cert.now) }
+    ensures verifies { (net : List ℕ) → ReadsUnder (S.files shelf.old) net network.now → IfOk result (VerifiesUnder (S.files shelf.old) net cert.now) }
+    ensures unaccepted { (net : List ℕ) (before : ℕ) → ReadsUnder (S.files shelf.old) net network.now → Grows before (S.faults shelf.old) → IfErr result (IsUnaccepted (S.files shelf.old) net cert.now before (S.faults shelf.new)) }
+    ensures valid { (net : List ℕ) (told : List (List ℕ × List ℕ)) → ReadsUnder (S.files shelf.old) net network.now → S.files shelf.old ≡ Some told → ValidUnder told net cert.now → IfErr result IsCutShort }
+{
     let bytes = certificate_under(alloc, cert, shelf)?;
-    cert_checker::check(alloc, &network, &bytes).map_err(refusal_status)
+    cert_checker::check(alloc, network, &bytes).map_err(refusal_status)
 }
 
 /// The bytes of the certificate in the file of this name.
 fn certificate_under<S: Shelf>(alloc: Global, name: &str, shelf: &mut S) -> Result<Vec<u8>, Status>
     requires { IsTrue (S.admits shelf.old name.now) }
     ensures found { IfOk result (λ v. HasFile (S.files shelf.old) name.now v.items) }
+    ensures short { IfOk result (λ v. length v.items ≤ most_bytes) }
     ensures unreadable { IfErr result (IsUnreadable (S.files shelf.old) name.now (S.faults shelf.old) (S.faults shelf.new)) }
 {
     match shelf.read_all(alloc, name, MOST_BYTES) {

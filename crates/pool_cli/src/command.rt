@@ -2,18 +2,18 @@
 
 ghost use Rattle.std.specs.Prelude.{◌≡◌, ◌≢◌, ◌↔◌, ◌⊎◌, ℕ, List, Some, IsTrue, IfOk, IfErr, map, string_bytes};
 ghost use Rattle.edge_io.specs.Counts.{Grows, Rose};
-ghost use Rattle.cert_format.specs.Cert.{IsShaped};
+ghost use Rattle.cert_format.specs.Cert.{IsCert};
 ghost use Rattle.cert_format.specs.Shown.{view};
 ghost use Rattle.cert_format.specs.Text.{text_of};
 ghost use Rattle.network_json.specs.declared.fault.ReadNet.{ReadNet};
-ghost use Rattle.pool_cli.specs.Words.{AskNothing, Asks, AsksCheck};
+ghost use Rattle.pool_cli.specs.Words.{AskNothing, Asks, AsksCheck, NamesNetwork};
 ghost use Rattle.pool_model.specs.Network as model;
 ghost use Rattle.pool_model.specs.Network.{net_of};
 ghost use Rattle.pool_model.specs.Starting.{HasNoMinima};
 ghost use Rattle.pool_cli.specs.Solution.{HasMinimum};
 ghost use Rattle.pool_cli.specs.Reads.{ReadsUnder};
-ghost use Rattle.pool_cli.specs.Checking.{ValidUnder};
-ghost use Rattle.pool_cli.specs.Checked.{IsAcceptance, IsLong};
+ghost use Rattle.pool_cli.specs.Checking.{InvalidUnder, LongUnder, ValidUnder};
+ghost use Rattle.pool_cli.specs.Checked.{IsAcceptance, IsDenial, IsLong};
 ghost use Rattle.pool_cli.specs.Running.{AnswersUnder, DemandsUnder, IsAnswer, IsClosedBy, IsCutShort, IsDemanding, IsNetworkRefused, IsOfSolve, IsOwnCause, IsPrinted, IsReason, IsRefused, IsRefusalOf, IsUnread, ReadsNone, RefusesUnder, SolvesAs, Took};
 
 use crate::checking::check;
@@ -48,15 +48,19 @@ pub fn run<S: Shelf, K: Sink>(alloc: Global, words: &[String], shelf: &mut S, ou
     ensures read_fault { result ≡ Status.ReadFault → Rose (S.faults shelf.old) (S.faults shelf.new) }
     ensures write_fault { result ≡ Status.WriteFault → Rose (K.faults out.old) (K.faults out.new) }
 
-    // Which status comes, by what the file says that the words name, where the run isn't cut short.
-    ensures no_network { (told : List (List ℕ × List ℕ)) (name : List ℕ) → S.files shelf.old ≡ Some told → Asks (map string_bytes words.now) name → ReadsNone told name →
+    // Which status comes, by what the files say that the words name, where the run isn't cut short.
+    ensures no_network { (told : List (List ℕ × List ℕ)) (name : List ℕ) → S.files shelf.old ≡ Some told → NamesNetwork (map string_bytes words.now) name → ReadsNone told name →
         IsNetworkRefused result ⊎ IsCutShort result }
     ensures some_minimum { (told : List (List ℕ × List ℕ)) (name : List ℕ) (network : model.Network) → S.files shelf.old ≡ Some told → Asks (map string_bytes words.now) name → ReadsUnder (Some told) name network → HasMinimum (net_of network) →
         (result ≡ Status.MinimumNotYet) ⊎ IsCutShort result }
     ensures no_minimum { (told : List (List ℕ × List ℕ)) (name : List ℕ) (network : model.Network) → S.files shelf.old ≡ Some told → Asks (map string_bytes words.now) name → ReadsUnder (Some told) name network → HasNoMinima (net_of network) →
         IsPrinted result ⊎ IsCutShort result }
+    ensures too_long { (told : List (List ℕ × List ℕ)) (net cert : List ℕ) → S.files shelf.old ≡ Some told → AsksCheck (map string_bytes words.now) net cert → LongUnder told net cert →
+        (result ≡ Status.CertTooLong) ⊎ IsCutShort result }
     ensures valid { (told : List (List ℕ × List ℕ)) (net cert : List ℕ) → S.files shelf.old ≡ Some told → AsksCheck (map string_bytes words.now) net cert → ValidUnder told net cert →
         IsAcceptance result ⊎ IsCutShort result }
+    ensures invalid { (told : List (List ℕ × List ℕ)) (net cert : List ℕ) → S.files shelf.old ≡ Some told → AsksCheck (map string_bytes words.now) net cert → InvalidUnder told net cert →
+        IsDenial result ⊎ IsCutShort result }
 {
     match asked(words) {
         None => Status::Usage,
@@ -86,7 +90,7 @@ fn solve<S: Shelf, K: Sink>(alloc: Global, name: &str, shelf: &mut S, out: &mut 
 fn solution_under<S: Shelf>(alloc: Global, name: &str, shelf: &mut S) -> Result<Solution, Status>
     requires { IsTrue (S.admits shelf.old name.now) }
     ensures answers { IfOk result (λ s. AnswersUnder (S.files shelf.old) name.now s.closed (text_of (view s.certificate))) }
-    ensures shaped { IfOk result (λ s. IsShaped (view s.certificate)) }
+    ensures certificate { IfOk result (λ s. IsCert (view s.certificate)) }
     ensures reason { IfErr result (IsReason (S.files shelf.old) name.now (S.faults shelf.old) (S.faults shelf.new)) }
 {
     let net = network_under(alloc, name, shelf)?;
@@ -126,7 +130,7 @@ fn refusal(cause: ReadNet) -> Status
 
 /// Writes a solution's certificate.
 fn print<K: Sink>(solution: &Solution, out: &mut K) -> Status
-    requires { IsShaped (view solution.now.certificate) }
+    requires { IsCert (view solution.now.certificate) }
     ensures took { Took (λ status text. IsClosedBy solution.now.closed status × (text ≡ text_of (view solution.now.certificate))) result (K.taken out.old) (K.taken out.new) }
     ensures printed { IsPrinted result }
     ensures write_fault { result ≡ Status.WriteFault → Rose (K.faults out.old) (K.faults out.new) }

@@ -23,4 +23,6 @@ pub use command::run;
 pub use status::{Status, write_message};
 
 #[cfg(test)]
+mod check_cases;
+#[cfg(test)]
 mod tests;

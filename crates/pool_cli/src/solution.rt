@@ -4,7 +4,7 @@ ghost use Rattle.std.specs.Prelude.{◌≡◌, ◌≤◌, ◌^◌, ◌*◌, IfOk
 ghost use Rattle.pool_model.specs.Network.{net_of};
 ghost use Rattle.pool_model.specs.Starting.{HasNoMinima};
 ghost use Rattle.plan_core.specs.Shown.{written_of};
-ghost use Rattle.cert_format.specs.Cert.{IsShaped};
+ghost use Rattle.cert_format.specs.Cert.{IsCert};
 ghost use Rattle.cert_format.specs.Shown.{view};
 ghost use Rattle.pool_cli.specs.Solution.{IsSolution, IsCheapest};
 ghost use Rattle.pool_cli.specs.Running.{IsUnsolved};
@@ -12,7 +12,7 @@ ghost use Rattle.pool_cli.specs.Running.{IsUnsolved};
 use crate::starting::{cheapest_way, has_minimum, way_cost};
 use crate::status::Status;
 use blend_network::Network;
-use cert_format::{Certificate, Claim};
+use cert_format::{Certificate, Claim, cert_law};
 use edge_io::Memory;
 use plan_core::{WrittenPlan, simple_plan, zero_plan};
 use std::alloc::Global;
@@ -37,7 +37,7 @@ struct Start {
 /// The certificate of the network's cheapest starting plan.
 pub(crate) fn solution_of(alloc: Global, net: &Network) -> Result<Solution, Status>
     ensures solved { IfOk result (λ s. IsSolution (net_of net.now) s.closed (view s.certificate)) }
-    ensures shaped { IfOk result (λ s. IsShaped (view s.certificate)) }
+    ensures certificate { IfOk result (λ s. IsCert (view s.certificate)) }
     ensures minima { IfOk result (λ _. HasNoMinima (net_of net.now)) }
     ensures unsolved { IfErr result (IsUnsolved (net_of net.now)) }
 {
@@ -73,24 +73,26 @@ fn claimed(alloc: Global, net: &Network, start: Start) -> Solution
     requires cheapest { IsCheapest (net_of net.now) (written_of start.plan) start.cost }
     requires size { unsigned_abs start.cost ≤ 2 * 10 ^ 24 }
     ensures solved { IsSolution (net_of net.now) result.closed (view result.certificate) }
-    ensures shaped { IsShaped (view result.certificate) }
+    ensures certificate { IsCert (view result.certificate) }
 {
     let Start { plan, cost } = start;
     let bound = net.reach_bound();
     let gap = cost - bound;
-    Solution {
-        certificate: Certificate {
-            shape: net.counts(),
-            claim: Claim::Gap {
-                plan,
-                cost,
-                base: 1,
-                bound,
-                gap,
-            },
-            splits: Vec::new(alloc),
-            proofs: Vec::new(alloc),
+    let certificate = Certificate {
+        shape: net.counts(),
+        claim: Claim::Gap {
+            plan,
+            cost,
+            base: 1,
+            bound,
+            gap,
         },
+        splits: Vec::new(alloc),
+        proofs: Vec::new(alloc),
+    };
+    cert_law(&certificate);
+    Solution {
+        certificate,
         closed: gap <= ASKED_GAP,
     }
 }

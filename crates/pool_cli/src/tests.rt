@@ -4,8 +4,16 @@ use std::alloc::{AllocError, Global};
 use std::test::Fail;
 
 /// A source that sells at 6, and a product that pays 9 and takes 100.
-const ONE_PRODUCT: &str =
+pub(crate) const ONE_PRODUCT: &str =
     r#"{"version":1,"qualities":["sulfur"],"sources":[{"name":"A","cost":6,"max":100,"quality":{"sulfur":3}}],"products":[{"name":"X","price":9,"max":100,"most":{"sulfur":3}}],"arcs":[["A","X"]]}"#;
+
+/// Two sources that feed a pool, and a product that takes any quality.
+pub(crate) const TWO_FEEDS: &str =
+    r#"{"version":1,"qualities":["sulfur"],"sources":[{"name":"A","cost":6,"quality":{"sulfur":3}},{"name":"B","cost":16,"quality":{"sulfur":1}}],"pools":[{"name":"P"}],"products":[{"name":"X","price":9,"max":100}],"arcs":[["A","P"],["B","P"],["P","X"]]}"#;
+
+/// The first network of Haverly (1978).
+pub(crate) const HAVERLY_1: &str =
+    r#"{"version":1,"title":"Haverly 1","qualities":["sulfur"],"sources":[{"name":"A","cost":6,"quality":{"sulfur":3}},{"name":"B","cost":16,"quality":{"sulfur":1}},{"name":"C","cost":10,"quality":{"sulfur":2}}],"pools":[{"name":"P"}],"products":[{"name":"X","price":9,"max":100,"most":{"sulfur":"2.5"}},{"name":"Y","price":15,"max":200,"most":{"sulfur":"1.5"}}],"arcs":[["A","P"],["B","P"],["P","X"],["P","Y"],["C","X"],["C","Y"]]}"#;
 
 /// Networks, and what `solve` answers and prints: one product; one that takes nothing; nothing at all; two sources that
 /// feed a pool; the first network of Haverly (1978), of which no way alone earns; and waste water, where a path and a direct
@@ -27,12 +35,12 @@ const SOLVED: [(&str, u8, &str); 6] = [
         "poolcert 1\nkind gap\nshape 0 0 0 0 0 0 0\nplan 1 1\nweights\noutflows\ndirect\nsplits 0\nproofs 0\ncost 0 1\nbound 0\ngap 0 1\nend\n",
     ),
     (
-        r#"{"version":1,"qualities":["sulfur"],"sources":[{"name":"A","cost":6,"quality":{"sulfur":3}},{"name":"B","cost":16,"quality":{"sulfur":1}}],"pools":[{"name":"P"}],"products":[{"name":"X","price":9,"max":100}],"arcs":[["A","P"],["B","P"],["P","X"]]}"#,
+        TWO_FEEDS,
         0,
         "poolcert 1\nkind gap\nshape 2 1 1 1 2 1 0\nplan 1 1\nweights 1 0\noutflows 100000000\ndirect\nsplits 0\nproofs 0\ncost -300000000000000 1\nbound -300000000000000\ngap 0 1\nend\n",
     ),
     (
-        r#"{"version":1,"title":"Haverly 1","qualities":["sulfur"],"sources":[{"name":"A","cost":6,"quality":{"sulfur":3}},{"name":"B","cost":16,"quality":{"sulfur":1}},{"name":"C","cost":10,"quality":{"sulfur":2}}],"pools":[{"name":"P"}],"products":[{"name":"X","price":9,"max":100,"most":{"sulfur":"2.5"}},{"name":"Y","price":15,"max":200,"most":{"sulfur":"1.5"}}],"arcs":[["A","P"],["B","P"],["P","X"],["P","Y"],["C","X"],["C","Y"]]}"#,
+        HAVERLY_1,
         10,
         "poolcert 1\nkind gap\nshape 3 1 2 1 2 2 2\nplan 1 1\nweights 1 0\noutflows 0 0\ndirect 0 0\nsplits 0\nproofs 0\ncost 0 1\nbound -2100000000000000\ngap 2100000000000000 1\nend\n",
     ),
@@ -126,92 +134,5 @@ fn says_which_side_failed(rt: HostRuntime) -> Result<(), Fail> {
         small.taken(),
         b"poolcert 1\nkind gap\nshape 1 0 1 1 0 0 1\n".as_slice()
     );
-    Ok(())
-}
-
-/// The certificate of the first network: what is before the number of its direct, what is between that and its bound, and
-/// what is behind it.
-const PARTS: [&str; 3] = [
-    "poolcert 1\nkind gap\nshape 1 0 1 1 0 0 1\nplan 1 1\nweights\noutflows\ndirect ",
-    "\nsplits 0\nproofs 0\ncost -300000000000000 1\nbound ",
-    "\ngap 0 1\nend",
-];
-
-/// What is written for the direct and the bound, what is behind the last line, and what `check` answers and prints: the
-/// certificate as it is; a bound that is one pico too high, and one that is too low; no last line feed; a number that begins
-/// with 0; a byte too many.
-const CHECKED: [(&str, &str, &str, u8, &str); 6] = [
-    (
-        "100000000",
-        "-300000000000000",
-        "\n",
-        0,
-        "accepted gap cost -300000000000000 base 1 bound -300000000000000 gap 0\n",
-    ),
-    ("100000000", "-299999999999999", "\n", 1, "refused bound\n"),
-    ("100000000", "-300000000000001", "\n", 1, "refused bound\n"),
-    ("100000000", "-300000000000000", "", 1, "refused text 13\n"),
-    (
-        "0100000000",
-        "-300000000000000",
-        "\n",
-        1,
-        "refused text 7\n",
-    ),
-    (
-        "100000000",
-        "-300000000000000",
-        "\n ",
-        1,
-        "refused text 14\n",
-    ),
-];
-
-/// The status of `check net cert` for the first network.
-fn checked(
-    alloc: Global,
-    certificate: Vec<u8>,
-    failing: u64,
-    sink: &mut MemSink,
-) -> Result<Status, AllocError> {
-    let mut words = Vec::new(alloc);
-    words.push(String::from_str(alloc, "check")?)?;
-    words.push(String::from_str(alloc, "net")?)?;
-    words.push(String::from_str(alloc, "cert")?)?;
-    let mut files = Vec::new(alloc);
-    files.push((
-        String::from_str(alloc, "net")?,
-        Vec::from_slice(alloc, ONE_PRODUCT.as_bytes())?,
-    ))?;
-    files.push((String::from_str(alloc, "cert")?, certificate))?;
-    let mut calls = Vec::new(alloc);
-    calls.push(failing)?;
-    let mut shelf = MemShelf::new(files, calls);
-    Ok(run(alloc, &words, &mut shelf, sink))
-}
-
-#[test]
-fn checks_a_certificate(rt: HostRuntime) -> Result<(), Fail> {
-    let alloc = rt.alloc();
-    for (direct, bound, end, code, line) in CHECKED {
-        let mut certificate = String::new(alloc);
-        for part in [PARTS[0], direct, PARTS[1], bound, PARTS[2], end] {
-            certificate.push_str(part)?;
-        }
-        let mut sink = MemSink::new(alloc, Vec::new(alloc));
-        let status = checked(alloc, certificate.into_bytes(), 2, &mut sink)?;
-        assert_eq!(rt; sink.taken(), line.as_bytes());
-        assert_eq!(rt; status.code(), code);
-    }
-    Ok(())
-}
-
-#[test]
-fn a_failed_read_of_the_certificate_is_a_read_fault(rt: HostRuntime) -> Result<(), Fail> {
-    let alloc = rt.alloc();
-    let mut sink = MemSink::new(alloc, Vec::new(alloc));
-    let status = checked(alloc, Vec::new(alloc), 1, &mut sink)?;
-    assert_eq!(rt; status.code(), 20);
-    assert_eq!(rt; sink.taken(), b"".as_slice());
     Ok(())
 }

@@ -23,8 +23,8 @@ returns-clause-solved c =
     claimed_solves (net_of c.args.net.now) (written_of c.args.start.plan) c.args.start.cost c.reach_bound-bound.result a b (to_z w128 (of_z w128 (a -ℤ b))) c.counts.result (map shown_split c.new.result.items) (map shown_node_proof c.new-2.result.items)
     c.counts.ensures.limited c.requires.cheapest c.reach_bound-bound.ensures.bound (to_z-of_z w128 c.args.start.cost cost) (to_z-of_z w128 c.reach_bound-bound.result bound) gap c.counts.ensures.counts (ap (map shown_split) uncut) (ap (map shown_node_proof) unproved)
 
-pub returns-clause-shaped : goal.returns-clause-shaped
-returns-clause-shaped c =
+pub cert_law-requires : goal.cert_law-requires
+cert_law-requires c =
     let uncut : c.new.result.items ≡ [] = search rules in
     let unproved : c.new-2.result.items ≡ [] = search rules in
     let counts = sym c.counts.ensures.counts in
