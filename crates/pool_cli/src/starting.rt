@@ -2,13 +2,14 @@
 
 ghost use Rattle.std.specs.Prelude.{◌≡◌, ℕ, ◌<◌, ◌≤◌, ◌^◌, ◌*◌, pos, ◌≤ℤ◌, ◌<ℤ◌, ◌-ℤ◌, ◌*ℤ◌, true, false, Some, length, unsigned_abs};
 ghost use Rattle.pool_model.specs.Network.{net_of, IsLimited};
-ghost use Rattle.pool_model.specs.Paths.{paths_of, path_at};
+ghost use Rattle.pool_model.specs.Paths.{paths_of};
 ghost use Rattle.pool_model.specs.Starting.{HasNoMinima};
 ghost use Rattle.plan_core.specs.Shown.{IsInRange};
 ghost use Rattle.pool_cli.specs.Cheapest.{direct_cost as direct_cost_lem, path_cost as path_cost_lem, way_cost as way_cost_lem, IsLeastBelow, IsLeastWay};
 ghost use Rattle.pool_cli.specs.Solution.{HasMinimum};
 
 use blend_network::Network;
+use box_space::path_ends;
 use plan_core::{Way, direct_flow, path_flow};
 
 /// What the simple plan of a way costs, in picos over 1.
@@ -31,21 +32,6 @@ fn path_cost(net: &Network, path: u32) -> i128
 {
     let (source, product) = path_ends(net, path);
     earned(margin(net, source, product), path_flow(net, path))
-}
-
-/// The source and the product of a path.
-fn path_ends(net: &Network, path: u32) -> (u32, u32)
-    requires { path < length (paths_of (net_of net.now)) }
-    ensures source { result.0 ≡ (net_of net.now).feed_source (path_at (net_of net.now) path).feed }
-    ensures product { result.1 ≡ (net_of net.now).out_product (path_at (net_of net.now) path).out }
-    ensures sources { result.0 < (net_of net.now).sources }
-    ensures products { result.1 < (net_of net.now).products }
-{
-    let _counts = net.counts();
-    let (feed, out) = net.path(path);
-    let (source, _) = net.feed(feed);
-    let (_, product) = net.out(out);
-    (source, product)
 }
 
 /// What the simple plan of a direct costs, in picos over 1.
