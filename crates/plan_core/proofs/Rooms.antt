@@ -6,7 +6,7 @@ use mir.Syntax.{w64}
 use mir.Val.{to_z, of_z}
 use Rattle.pool_model.specs.Network.{Net, IsLimited}
 use Rattle.pool_model.specs.Plan.{Written, plan_of, written_outflow, outflow, product_inflow}
-use Rattle.plan_core.specs.Checks.{IsShaped, Keeps, KeepsEach, IsFirstOf, IsAboveMost, IsBelowLeast}
+use Rattle.plan_core.specs.Checks.{IsShaped, Keeps, KeepsEach, IsFirstBroken, IsAboveMost, IsBelowLeast}
 use Rattle.plan_core.specs.Weighed.{AreQualities, written_quality, IsAbove, IsBelow, IsFirstBelow}
 use Rattle.plan_core.specs.declared.fault.PlanFault.TheVariants.{QualityOver, QualityUnder}
 use Rattle.plan_core.proofs.Blends.{outflow-plan_of, above_most, most_above, below_least, least_below}
@@ -50,14 +50,14 @@ module _ (n : Net) (w : Written) (j inflow : ℕ) (columns : List (List ℤ)) (l
   at_under : (k : ℕ) → k < n.qualities → IsBelowLeast n (plan_of n w) j k → IsBelow (n.least j k) inflow (get_or (get_or columns k []) j (pos 0))
   at_under k lt h = same_below (n.least j k) (product_inflow n (plan_of n w) j) inflow (written_quality n w j k) (get_or (get_or columns k []) j (pos 0)) (sym flow) (sym (are k lt j in_products)) (least_below n w j k limited.out_pools shaped.base.0 h)
 
-  pub first_over : (k : ℕ) → IsFirstBelow (λ k. IsAbove (n.most j k) inflow (get_or (get_or columns k []) j (pos 0))) n.qualities (Some k) → IsFirstOf n w (λ k. QualityOver j k) (QualityOver j k)
-  first_over k h = record { at = k; is = refl; breaks = (in_products, h.0, over_at k h.0 h.1); first = λ m lt broken. h.2 m lt (at_over m broken.1 broken.2) }
+  pub first_over : (k : ℕ) → IsFirstBelow (λ k. IsAbove (n.most j k) inflow (get_or (get_or columns k []) j (pos 0))) n.qualities (Some k) → IsFirstBroken n w (λ k. QualityOver j k) (QualityOver j k)
+  first_over k h = record { at = k; is = refl; has = (in_products, h.0, over_at k h.0 h.1); first = λ m lt broken. h.2 m lt (at_over m broken.1 broken.2) }
 
   pub none_over : IsFirstBelow (λ k. IsAbove (n.most j k) inflow (get_or (get_or columns k []) j (pos 0))) n.qualities None → Keeps n w (λ k. QualityOver j k)
   none_over h = λ k broken. h k broken.1 (at_over k broken.1 broken.2)
 
-  pub first_under : (k : ℕ) → IsFirstBelow (λ k. IsBelow (n.least j k) inflow (get_or (get_or columns k []) j (pos 0))) n.qualities (Some k) → IsFirstOf n w (λ k. QualityUnder j k) (QualityUnder j k)
-  first_under k h = record { at = k; is = refl; breaks = (in_products, h.0, under_at k h.0 h.1); first = λ m lt broken. h.2 m lt (at_under m broken.1 broken.2) }
+  pub first_under : (k : ℕ) → IsFirstBelow (λ k. IsBelow (n.least j k) inflow (get_or (get_or columns k []) j (pos 0))) n.qualities (Some k) → IsFirstBroken n w (λ k. QualityUnder j k) (QualityUnder j k)
+  first_under k h = record { at = k; is = refl; has = (in_products, h.0, under_at k h.0 h.1); first = λ m lt broken. h.2 m lt (at_under m broken.1 broken.2) }
 
   pub none_under : IsFirstBelow (λ k. IsBelow (n.least j k) inflow (get_or (get_or columns k []) j (pos 0))) n.qualities None → Keeps n w (λ k. QualityUnder j k)
   none_under h = λ k broken. h k broken.1 (at_under k broken.1 broken.2)

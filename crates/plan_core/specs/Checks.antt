@@ -1,5 +1,6 @@
 -- When a written plan breaks a rule of its network, which of these counts first, and what a plan without a fault costs.
-use Rattle.std.specs.Prelude.{◌≡◌, ◌≢◌, ℕ, ◌*◌, ◌<◌, ◌≤◌, ◌⊎◌, length, Some, ℤ, ◌<ℤ◌}
+use Rattle.std.specs.Prelude.{◌≡◌, ◌≢◌, ℕ, ◌*◌, ◌<◌, ◌≤◌, ◌⊎◌, List, [], ◌∷◌, length, Some, ℤ, ◌<ℤ◌}
+use Rattle.faults.specs.First.{IsFirst, IsFirstOf}
 use Rattle.integers.specs.Sums.{sum_at}
 use Rattle.pool_model.specs.Network.{Net}
 use Rattle.pool_model.specs.Plan.{Plan, Written, weight, IsWritten, plan_of, outflow, source_outflow, product_inflow, quality_inflow, quality_room, Obeys, cost_of}
@@ -40,47 +41,35 @@ Breaks n w (QualityUnder j k) = (j < n.products) × (k < n.qualities) × IsBelow
 
 -- ---- order
 
--- the place of the rule among all rules
-abbrev pub rule : PlanFault → ℕ
-rule Shape = 1
-rule (WeightSum _) = 2
-rule (SourceOver _) = 3
-rule (PoolOver _) = 4
-rule (ProductOver _) = 5
-rule (ProductUnder _) = 6
-rule (QualityOver _ _) = 7
-rule (QualityUnder _ _) = 8
+-- the number of the rule
+abbrev pub number : PlanFault → ℕ
+number Shape = 1
+number (WeightSum _) = 2
+number (SourceOver _) = 3
+number (PoolOver _) = 4
+number (ProductOver _) = 5
+number (ProductUnder _) = 6
+number (QualityOver _ _) = 7
+number (QualityUnder _ _) = 8
 
--- the source, pool or product that it is about
-abbrev pub node : PlanFault → ℕ
-node Shape = 0
-node (WeightSum l) = l
-node (SourceOver i) = i
-node (PoolOver l) = l
-node (ProductOver j) = j
-node (ProductUnder j) = j
-node (QualityOver j _) = j
-node (QualityUnder j _) = j
+-- the source, pool or product that it is about, then the quality
+abbrev pub about : PlanFault → List ℕ
+about Shape = []
+about (WeightSum l) = l ∷ []
+about (SourceOver i) = i ∷ []
+about (PoolOver l) = l ∷ []
+about (ProductOver j) = j ∷ []
+about (ProductUnder j) = j ∷ []
+about (QualityOver j k) = j ∷ k ∷ []
+about (QualityUnder j k) = j ∷ k ∷ []
 
--- the quality that it is about
-abbrev pub quality : PlanFault → ℕ
-quality Shape = 0
-quality (WeightSum _) = 0
-quality (SourceOver _) = 0
-quality (PoolOver _) = 0
-quality (ProductOver _) = 0
-quality (ProductUnder _) = 0
-quality (QualityOver _ k) = k
-quality (QualityUnder _ k) = k
-
--- One fault comes before another: by the rule, then by the node, then by the quality.
-abbrev pub IsBefore : PlanFault → PlanFault → Type 0
-IsBefore f g = (rule f < rule g) ⊎ ((rule f ≡ rule g) × ((node f < node g) ⊎ ((node f ≡ node g) × (quality f < quality g))))
+-- rules go by their numbers, then by what they are about
+abbrev pub rank : PlanFault → List ℕ
+rank f = number f ∷ about f
 
 -- a rule that the plan breaks, where it breaks none before it
-pub record IsFirstFault (n : Net) (w : Written) (f : PlanFault) : Type 0 where
-  pub breaks : Breaks n w f
-  pub first : (g : PlanFault) → IsBefore g f → ¬ Breaks n w g
+abbrev pub IsFirstFault : Net → Written → PlanFault → Type 0
+IsFirstFault n w = IsFirst rank (Breaks n w)
 
 -- ---- one rule at a time
 
@@ -88,12 +77,9 @@ pub record IsFirstFault (n : Net) (w : Written) (f : PlanFault) : Type 0 where
 abbrev pub Keeps : Net → Written → (ℕ → PlanFault) → Type 0
 Keeps n w fault = (i : ℕ) → ¬ Breaks n w (fault i)
 
--- the first node at which the plan breaks a rule
-pub record IsFirstOf (n : Net) (w : Written) (fault : ℕ → PlanFault) (f : PlanFault) : Type 0 where
-  pub at : ℕ
-  pub is : f ≡ fault at
-  pub breaks : Breaks n w (fault at)
-  pub first : (i : ℕ) → i < at → ¬ Breaks n w (fault i)
+-- the fault of the first node at which the plan breaks a rule
+abbrev pub IsFirstBroken : Net → Written → (ℕ → PlanFault) → PlanFault → Type 0
+IsFirstBroken n w fault = IsFirstOf fault (λ i. Breaks n w (fault i))
 
 -- the same for a rule about products and qualities
 abbrev pub KeepsEach : Net → Written → (ℕ → ℕ → PlanFault) → Type 0
@@ -101,7 +87,7 @@ KeepsEach n w fault = (j : ℕ) → Keeps n w (fault j)
 
 pub record IsFirstOfEach (n : Net) (w : Written) (fault : ℕ → ℕ → PlanFault) (f : PlanFault) : Type 0 where
   pub product : ℕ
-  pub quality : IsFirstOf n w (fault product) f
+  pub quality : IsFirstBroken n w (fault product) f
   pub first : (j : ℕ) → j < product → Keeps n w (fault j)
 
 -- The first fault about qualities: all that are too high come before those that are too low.

@@ -3,7 +3,7 @@
 ghost use Rattle.std.specs.Prelude.{◌≡◌, ℕ, ◌*◌, ◌<◌, ◌≤◌, ◌^◌, ◌↔◌, [], get_or, pos, unsigned_abs, IfOk, IfErr, IfSome, IsTrue};
 ghost use Rattle.pool_model.specs.Network.{net_of, IsLimited, IsWithin};
 ghost use Rattle.plan_core.specs.Shown.{written_of};
-ghost use Rattle.plan_core.specs.Checks.{IsShaped, Breaks, Keeps, KeepsEach, IsFirstOf, IsFirstQuality, IsFirstFault, IsCostOf};
+ghost use Rattle.plan_core.specs.Checks.{IsShaped, Breaks, Keeps, KeepsEach, IsFirstBroken, IsFirstQuality, IsFirstFault, IsCostOf};
 ghost use Rattle.plan_core.specs.Weighed.{ArePoolOutflows, AreSourceOutflows, AreProductInflows, HasRoom, IsAbove, IsBelow, IsFirstBelow};
 
 use crate::cost::cost;
@@ -68,7 +68,7 @@ fn is_base(base: u32, most: u32) -> bool
 fn check_weight_sums(net: &Network, plan: &WrittenPlan) -> Result<(), PlanFault>
     requires { IsShaped (net_of net.now) (written_of plan.now) }
     ensures keeps { IfOk result (λ _. Keeps (net_of net.now) (written_of plan.now) (λ l. PlanFault.WeightSum l)) }
-    ensures first { IfErr result (IsFirstOf (net_of net.now) (written_of plan.now) (λ l. PlanFault.WeightSum l)) }
+    ensures first { IfErr result (IsFirstBroken (net_of net.now) (written_of plan.now) (λ l. PlanFault.WeightSum l)) }
 {
     let [_, pools, _, _, _, _, _] = net.counts();
     let sums = weight_sums(net, plan);
@@ -88,7 +88,7 @@ fn check_sources(
 ) -> Result<(), PlanFault>
     requires { AreSourceOutflows (net_of net.now) (written_of plan.now) outflows.now }
     ensures keeps { IfOk result (λ _. Keeps (net_of net.now) (written_of plan.now) (λ i. PlanFault.SourceOver i)) }
-    ensures first { IfErr result (IsFirstOf (net_of net.now) (written_of plan.now) (λ i. PlanFault.SourceOver i)) }
+    ensures first { IfErr result (IsFirstBroken (net_of net.now) (written_of plan.now) (λ i. PlanFault.SourceOver i)) }
 {
     let [sources, _, _, _, _, _, _] = net.counts();
     let denominator = plan.denominator();
@@ -109,7 +109,7 @@ fn check_pools(
     requires shaped { IsShaped (net_of net.now) (written_of plan.now) }
     requires through { ArePoolOutflows (net_of net.now) (written_of plan.now) through.now }
     ensures keeps { IfOk result (λ _. Keeps (net_of net.now) (written_of plan.now) (λ l. PlanFault.PoolOver l)) }
-    ensures first { IfErr result (IsFirstOf (net_of net.now) (written_of plan.now) (λ l. PlanFault.PoolOver l)) }
+    ensures first { IfErr result (IsFirstBroken (net_of net.now) (written_of plan.now) (λ l. PlanFault.PoolOver l)) }
 {
     let [_, pools, _, _, _, _, _] = net.counts();
     for pool in 0..pools {
@@ -128,7 +128,7 @@ fn check_maxima(
 ) -> Result<(), PlanFault>
     requires { AreProductInflows (net_of net.now) (written_of plan.now) inflows.now }
     ensures keeps { IfOk result (λ _. Keeps (net_of net.now) (written_of plan.now) (λ j. PlanFault.ProductOver j)) }
-    ensures first { IfErr result (IsFirstOf (net_of net.now) (written_of plan.now) (λ j. PlanFault.ProductOver j)) }
+    ensures first { IfErr result (IsFirstBroken (net_of net.now) (written_of plan.now) (λ j. PlanFault.ProductOver j)) }
 {
     let [_, _, products, _, _, _, _] = net.counts();
     let denominator = plan.denominator();
@@ -148,7 +148,7 @@ fn check_minima(
 ) -> Result<(), PlanFault>
     requires { AreProductInflows (net_of net.now) (written_of plan.now) inflows.now }
     ensures keeps { IfOk result (λ _. Keeps (net_of net.now) (written_of plan.now) (λ j. PlanFault.ProductUnder j)) }
-    ensures first { IfErr result (IsFirstOf (net_of net.now) (written_of plan.now) (λ j. PlanFault.ProductUnder j)) }
+    ensures first { IfErr result (IsFirstBroken (net_of net.now) (written_of plan.now) (λ j. PlanFault.ProductUnder j)) }
 {
     let [_, _, products, _, _, _, _] = net.counts();
     let denominator = plan.denominator();

@@ -1,5 +1,10 @@
 //! The rules that a written plan may break.
 
+ghost use Rattle.std.specs.Prelude.{◌∷◌};
+ghost use Rattle.plan_core.specs.Checks.{number, about};
+
+use faults::Ranked;
+
 /// The first rule that a written plan breaks, by the order below and then by its numbers.
 #[derive(Clone, Copy, Debug, PartialEq, Eq)]
 pub enum PlanFault {
@@ -19,4 +24,8 @@ pub enum PlanFault {
     QualityOver(u32, u32),
     /// This product's mean of this quality is below its least.
     QualityUnder(u32, u32),
+}
+
+impl Ranked for PlanFault {
+    ghost rank = { λ f. number f ∷ about f };
 }

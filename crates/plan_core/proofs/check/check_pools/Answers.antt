@@ -15,7 +15,7 @@ returns-then-room-through-clause-first c =
     record {
       at = l;
       is = refl;
-      breaks = (among, pool_over n (written_of c.args.plan.now) l c.room.result (get_or c.args.through.now l 0) room (c.requires.through l among) c.requires.shaped.base.0 c.if-room-through.true);
+      has = (among, pool_over n (written_of c.args.plan.now) l c.room.result (get_or c.args.through.now l 0) room (c.requires.through l among) c.requires.shaped.base.0 c.if-room-through.true);
       first = c.loop-pool.invariant;
     }
 

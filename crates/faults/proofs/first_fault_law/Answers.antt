@@ -1,0 +1,6 @@
+use Rattle.std.proofs.Common.{IsTrue}
+use Rattle.faults.proofs.First.{one-rank}
+use Rattle.faults.proofs.first_fault_law.Goals as goal
+
+pub returns : goal.returns
+returns g c holds = one-rank g.F.Ranked.rank (λ f. IsTrue (holds f))
