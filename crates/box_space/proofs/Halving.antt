@@ -6,18 +6,18 @@ use Rattle.pool_model.specs.Network.{Net}
 use Rattle.row_model.specs.Boxes.{Box, Agree, coords, IsProper, left_of, right_of}
 use Rattle.row_model.proofs.Halves.{left-proper, right-proper}
 use Rattle.row_model.proofs.Agreement.{agree-back, proper-same}
-use Rattle.box_space.specs.Views.{ends_of, AreEndsOf}
+use Rattle.box_space.specs.Views.{shown_box_ends, AreEndsOf}
 use Rattle.box_space.specs.declared.boxes.BoxEnds.{BoxEnds}
 
-pub agree-ends : (n : Net) (b : Box) (e : BoxEnds) → IsProper n b → length e.low.items ≡ coords n → length e.high.items ≡ coords n → Agree n (ends_of e) b → AreEndsOf n b e
+pub agree-ends : (n : Net) (b : Box) (e : BoxEnds) → IsProper n b → length e.low.items ≡ coords n → length e.high.items ≡ coords n → Agree n (shown_box_ends e) b → AreEndsOf n b e
 agree-ends n b e proper lows highs agree = record {
-  proper = record { lows = lows; highs = highs; proper = proper-same n b (ends_of e) (agree-back n (ends_of e) b agree) proper };
+  proper = record { lows = lows; highs = highs; proper = proper-same n b (shown_box_ends e) (agree-back n (shown_box_ends e) b agree) proper };
   agree = agree;
 }
 
 -- a box is proper that proper ends stand for
 box-proper : (n : Net) (b : Box) (e : BoxEnds) → AreEndsOf n b e → IsProper n b
-box-proper n b e ends = proper-same n (ends_of e) b ends.agree ends.proper.proper
+box-proper n b e ends = proper-same n (shown_box_ends e) b ends.agree ends.proper.proper
 
 -- a list with one number set is the function that is changed there
 set_is : (xs : List ℤ) (coord c : ℕ) (cut : ℤ) (f : ℕ → ℤ) → coord < length xs → get_or xs c (pos 0) ≡ f c → get_or (set xs coord cut) c (pos 0) ≡ (if c == coord then cut else f c)

@@ -6,4 +6,3 @@ pub mod Written
 pub mod Forms
 pub mod Variables
 pub mod Views
-pub mod Shown

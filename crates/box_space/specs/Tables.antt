@@ -6,7 +6,7 @@ use Rattle.row_model.specs.Catalogue.{when, Row}
 use Rattle.box_space.specs.Numbers.{first_paths, first_proportions, first_qualities, first_mixed}
 use Rattle.box_space.specs.Lines.{terms_from}
 use Rattle.box_space.specs.declared.terms.Term.{Term}
-use Rattle.box_space.specs.Shown.{shown_kind}
+use Rattle.box_space.specs.Views.{shown_kind}
 use Rattle.box_space.specs.declared.table.Rate.{Rate}
 use Rattle.box_space.specs.declared.table.Rate.TheVariants.{Plain, Less, Below, Above}
 use Rattle.box_space.specs.declared.table.FeedTerms.{FeedTerms}

@@ -4,7 +4,7 @@ use Rattle.pool_model.specs.Network.{Net}
 use Rattle.row_model.specs.Variables.{variables, by_number}
 use Rattle.row_model.specs.Catalogue.{Row}
 use Rattle.box_space.specs.Lines.{Line, terms_from}
-use Rattle.box_space.specs.Shown.{shown_kind}
+use Rattle.box_space.specs.Views.{shown_kind}
 use Rattle.box_space.specs.declared.rows.RowKind.{RowKind}
 
 -- The terms are the variables whose coefficient in the row is not 0, by rising number, each with its coefficient; the

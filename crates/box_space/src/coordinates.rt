@@ -3,7 +3,7 @@
 ghost use Rattle.std.specs.Prelude.{◌≡◌, ◌<◌, ◌≤◌};
 ghost use Rattle.pool_model.specs.Network.{net_of, IsLimited};
 ghost use Rattle.row_model.specs.Boxes.{coords as coords_lem, coord_at as coord_at_lem};
-ghost use Rattle.box_space.specs.Shown.{shown_coord};
+ghost use Rattle.box_space.specs.Views.{shown_coord};
 ghost use Rattle.box_space.specs.Forms.{cuts, IsCoord};
 
 use crate::counts::{counts_in, grid};

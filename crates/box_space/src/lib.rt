@@ -3,7 +3,7 @@
 //! A box has a least and a greatest end for each coordinate of a plan. [`Coord`] names a coordinate, and [`Split`] cuts a box
 //! at one. A [`Proof`] is multipliers on rows, which show a bound on what plans in a box cost.
 //!
-//! Contracts see these types as the data of `row_model`, by `specs/Shown.antt`.
+//! Contracts see these types as the data of `row_model`, by `specs/Views.antt`.
 #![tactic(auto)]
 
 mod arcs;

@@ -5,8 +5,7 @@ ghost use Rattle.pool_model.specs.Network.{net_of};
 ghost use Rattle.pool_model.specs.Starting.{lesser as lesser_lem, least_below};
 ghost use Rattle.row_model.specs.Boxes.{root_low, root_high, greater as greater_lem, greatest_below, fed_quality as fed_quality_lem};
 ghost use Rattle.box_space.specs.Forms.{IsCoord};
-ghost use Rattle.box_space.specs.Shown.{shown_coord};
-ghost use Rattle.box_space.specs.Views.{AreRoot, AreEnds};
+ghost use Rattle.box_space.specs.Views.{shown_coord, AreRoot, AreEnds};
 
 use crate::arcs::{feed_ends, out_ends};
 use crate::boxes::BoxEnds;

@@ -5,7 +5,7 @@ ghost use Rattle.std.specs.Int.{int_min, int_max};
 ghost use Rattle.pool_model.specs.Network.{net_of, IsLimited};
 ghost use Rattle.row_model.specs.Variables.{PerVariable, variables, by_number, lows, highs, costs, least_product, greatest_product};
 ghost use Rattle.box_space.specs.Variables.{at_variable, IsVariable};
-ghost use Rattle.box_space.specs.Views.{IsView, box_of};
+ghost use Rattle.box_space.specs.Views.{IsView, shown_box};
 
 use crate::arcs::{direct_ends, feed_ends, out_ends, path_arcs};
 use crate::boxes::BoxView;
@@ -155,8 +155,8 @@ fn less(cost: i64, price: i64) -> i64
 pub fn var_ends(net: &Network, v: &BoxView, var: u32) -> (i128, i128)
     requires view { IsView (net_of net.now) v.now }
     requires var { var < variables (net_of net.now) }
-    ensures low { result.0 ≡ by_number (net_of net.now) (lows (net_of net.now) (box_of v.now)) var }
-    ensures high { result.1 ≡ by_number (net_of net.now) (highs (net_of net.now) (box_of v.now)) var }
+    ensures low { result.0 ≡ by_number (net_of net.now) (lows (net_of net.now) (shown_box v.now)) var }
+    ensures high { result.1 ≡ by_number (net_of net.now) (highs (net_of net.now) (shown_box v.now)) var }
 {
     ends_of(net, v, variable_at(net, var))
 }
@@ -164,8 +164,8 @@ pub fn var_ends(net: &Network, v: &BoxView, var: u32) -> (i128, i128)
 fn ends_of(net: &Network, v: &BoxView, variable: Variable) -> (i128, i128)
     requires view { IsView (net_of net.now) v.now }
     requires among { IsVariable (net_of net.now) variable }
-    ensures low { result.0 ≡ at_variable (lows (net_of net.now) (box_of v.now)) variable }
-    ensures high { result.1 ≡ at_variable (highs (net_of net.now) (box_of v.now)) variable }
+    ensures low { result.0 ≡ at_variable (lows (net_of net.now) (shown_box v.now)) variable }
+    ensures high { result.1 ≡ at_variable (highs (net_of net.now) (shown_box v.now)) variable }
 {
     match variable {
         Variable::Feed(feed) => {
@@ -206,8 +206,8 @@ fn mixed_ends(net: &Network, v: &BoxView, out: u32, quality: u32) -> (i128, i128
     requires view { IsView (net_of net.now) v.now }
     requires out { out < (net_of net.now).outs }
     requires quality { quality < (net_of net.now).qualities }
-    ensures low { result.0 ≡ (lows (net_of net.now) (box_of v.now)).mixed out quality }
-    ensures high { result.1 ≡ (highs (net_of net.now) (box_of v.now)).mixed out quality }
+    ensures low { result.0 ≡ (lows (net_of net.now) (shown_box v.now)).mixed out quality }
+    ensures high { result.1 ≡ (highs (net_of net.now) (shown_box v.now)).mixed out quality }
 {
     let (pool, _) = out_ends(net, out);
     let place = quality_coordinate(net, pool, quality);

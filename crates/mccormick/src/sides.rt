@@ -2,7 +2,7 @@
 
 ghost use Rattle.std.specs.Prelude.{◌≡◌, ◌≤◌, ◌*ℤ◌, neg_ℤ};
 ghost use Rattle.row_model.specs.Envelopes.{side as side_lem};
-ghost use Rattle.mccormick.specs.Shown.{shown_ends, shown_side};
+ghost use Rattle.mccormick.specs.Views.{shown_ends, shown_side};
 
 /// The ends of a and of b.
 #[derive(Clone, Copy, Debug)]

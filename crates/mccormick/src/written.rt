@@ -3,7 +3,7 @@
 ghost use Rattle.std.specs.Prelude.{◌≡◌, ◌≢◌, ℕ, ◌<◌, ◌≤◌, []};
 ghost use Rattle.row_model.specs.Envelopes.{side as side_lem};
 ghost use Rattle.box_space.specs.Lines.{terms_from};
-ghost use Rattle.mccormick.specs.Shown.{shown_ends};
+ghost use Rattle.mccormick.specs.Views.{shown_ends};
 ghost use Rattle.mccormick.specs.Coefs.{side_coef, three_coefs};
 
 use crate::sides::{Ends, side_of};

@@ -10,7 +10,7 @@ ghost use Rattle.std.specs.Prelude.{◌≡◌, ◌<◌, ◌≤◌, ◌*◌};
 ghost use Rattle.pool_model.specs.Network.{net_of};
 ghost use Rattle.row_model.specs.Boxes.{Box};
 ghost use Rattle.row_model.specs.Catalogue.{p_families, row_count, row_in};
-ghost use Rattle.box_space.specs.Views.{IsView, box_of};
+ghost use Rattle.box_space.specs.Views.{IsView, shown_box};
 ghost use Rattle.box_space.specs.Written.{IsLineOf};
 
 use blend_network::{Bound, Network};
@@ -50,8 +50,8 @@ fn envelopes(outs: u32, qualities: u32) -> u32
 /// Writes the row of a number.
 pub fn row(net: &Network, n: u32, v: &BoxView, row: &mut LinRow) -> RowKind
     requires view { IsView (net_of net.now) v.now }
-    requires among { n < row_count (p_families (net_of net.now) (box_of v.now)) }
-    ensures { IsLineOf (net_of net.now) (row_in (p_families (net_of net.now) (box_of v.now)) n) row.new result }
+    requires among { n < row_count (p_families (net_of net.now) (shown_box v.now)) }
+    ensures { IsLineOf (net_of net.now) (row_in (p_families (net_of net.now) (shown_box v.now)) n) row.new result }
 {
     let table = tables::table_at(net, v, n);
     row.write(net, &table)

@@ -4,8 +4,8 @@ ghost use Rattle.std.specs.Prelude.{◌≡◌, ◌+◌, ◌/◌, ◌%◌, ◌<�
 ghost use Rattle.pool_model.specs.Network.{Net, net_of};
 ghost use Rattle.row_model.specs.Boxes.{qual_number, flow_number};
 ghost use Rattle.row_model.specs.Catalogue.{p_families, row_count, row_in, mixing_row, mixed_most_row, mixed_least_row, quality_envelope_row};
-ghost use Rattle.mccormick.specs.Shown.{shown_ends};
-ghost use Rattle.box_space.specs.Views.{IsView, box_of};
+ghost use Rattle.mccormick.specs.Views.{shown_ends};
+ghost use Rattle.box_space.specs.Views.{IsView, shown_box};
 ghost use Rattle.blend_network.specs.Limits.{shown_limit};
 ghost use Rattle.box_space.specs.Tables.{row_of, IsTable};
 
@@ -21,8 +21,8 @@ use mccormick::{Ends, side_of};
 /// The row of a number: first mixing by pool and quality, then limits, and four sides for each out and quality.
 pub(crate) fn table_at(net: &Network, v: &BoxView, n: u32) -> RowTable
     requires view { IsView (net_of net.now) v.now }
-    requires among { n < row_count (p_families (net_of net.now) (box_of v.now)) }
-    ensures row { row_of (net_of net.now) result ≡ row_in (p_families (net_of net.now) (box_of v.now)) n }
+    requires among { n < row_count (p_families (net_of net.now) (shown_box v.now)) }
+    ensures row { row_of (net_of net.now) result ≡ row_in (p_families (net_of net.now) (shown_box v.now)) n }
     ensures table { IsTable (net_of net.now) result }
 {
     let counts = counts_in(net);
@@ -121,7 +121,7 @@ fn quality_envelope(net: &Network, v: &BoxView, out: u32, quality: u32, side: u8
     requires quality { quality < (net_of net.now).qualities }
     requires low { 1 ≤ side }
     requires high { side ≤ 4 }
-    ensures row { row_of (net_of net.now) result ≡ quality_envelope_row (net_of net.now) (box_of v.now) out quality side }
+    ensures row { row_of (net_of net.now) result ≡ quality_envelope_row (net_of net.now) (shown_box v.now) out quality side }
     ensures table { IsTable (net_of net.now) result }
 {
     let (pool, _) = out_ends(net, out);
@@ -146,10 +146,10 @@ fn quality_ends(net: &Network, v: &BoxView, pool: u32, out: u32, quality: u32) -
     requires out { out < (net_of net.now).outs }
     requires quality { quality < (net_of net.now).qualities }
     ensures { shown_ends result ≡ record {
-      a_low = (box_of v.now).low (qual_number (net_of net.now) pool quality);
-      a_high = (box_of v.now).high (qual_number (net_of net.now) pool quality);
-      b_low = (box_of v.now).low (flow_number (net_of net.now) out);
-      b_high = (box_of v.now).high (flow_number (net_of net.now) out);
+      a_low = (shown_box v.now).low (qual_number (net_of net.now) pool quality);
+      a_high = (shown_box v.now).high (qual_number (net_of net.now) pool quality);
+      b_low = (shown_box v.now).low (flow_number (net_of net.now) out);
+      b_high = (shown_box v.now).high (flow_number (net_of net.now) out);
     } }
 {
     let place = quality_coordinate(net, pool, quality);

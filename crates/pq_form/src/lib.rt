@@ -7,7 +7,7 @@
 ghost use Rattle.std.specs.Prelude.{◌≡◌, ◌<◌, ◌≤◌};
 ghost use Rattle.pool_model.specs.Network.{Net, net_of};
 ghost use Rattle.row_model.specs.Catalogue.{pq_families, row_count, row_in, out_row as out_row_lem, share_row as share_row_lem};
-ghost use Rattle.box_space.specs.Views.{IsView, box_of};
+ghost use Rattle.box_space.specs.Views.{IsView, shown_box};
 ghost use Rattle.box_space.specs.Written.{IsLineOf};
 ghost use Rattle.box_space.specs.Tables.{row_of, IsTable};
 

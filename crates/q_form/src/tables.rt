@@ -3,10 +3,10 @@
 ghost use Rattle.std.specs.Prelude.{◌≡◌, ◌+◌, ◌/◌, ◌%◌, ◌<◌, ◌≤◌, ◌*◌};
 ghost use Rattle.pool_model.specs.Network.{Net, net_of};
 ghost use Rattle.row_model.specs.Boxes.{prop_number, flow_number};
-ghost use Rattle.mccormick.specs.Shown.{shown_ends};
+ghost use Rattle.mccormick.specs.Views.{shown_ends};
 ghost use Rattle.row_model.specs.Variables.{path_count};
 ghost use Rattle.row_model.specs.Catalogue.{q_families, row_count, row_in, proportions_row, feed_row as feed_row_lem, path_most_row, path_least_row, proportion_envelope_row};
-ghost use Rattle.box_space.specs.Views.{IsView, box_of};
+ghost use Rattle.box_space.specs.Views.{IsView, shown_box};
 ghost use Rattle.blend_network.specs.Limits.{shown_limit};
 ghost use Rattle.box_space.specs.Tables.{row_of, IsTable};
 
@@ -23,8 +23,8 @@ const GRAIN: i64 = 1_048_576;
 /// The row of a number: first proportions by pool, then feeds, limits, and four sides for each path.
 pub(crate) fn table_at(net: &Network, v: &BoxView, n: u32) -> RowTable
     requires view { IsView (net_of net.now) v.now }
-    requires among { n < row_count (q_families (net_of net.now) (box_of v.now)) }
-    ensures row { row_of (net_of net.now) result ≡ row_in (q_families (net_of net.now) (box_of v.now)) n }
+    requires among { n < row_count (q_families (net_of net.now) (shown_box v.now)) }
+    ensures row { row_of (net_of net.now) result ≡ row_in (q_families (net_of net.now) (shown_box v.now)) n }
     ensures table { IsTable (net_of net.now) result }
 {
     let counts = counts_in(net);
@@ -121,7 +121,7 @@ fn proportion_envelope(net: &Network, v: &BoxView, path: u32, side: u8) -> RowTa
     requires path { path < path_count (net_of net.now) }
     requires low { 1 ≤ side }
     requires high { side ≤ 4 }
-    ensures row { row_of (net_of net.now) result ≡ proportion_envelope_row (net_of net.now) (box_of v.now) path side }
+    ensures row { row_of (net_of net.now) result ≡ proportion_envelope_row (net_of net.now) (shown_box v.now) path side }
     ensures table { IsTable (net_of net.now) result }
 {
     let (feed, out) = path_arcs(net, path);
@@ -145,10 +145,10 @@ fn proportion_ends(net: &Network, v: &BoxView, feed: u32, out: u32) -> Ends
     requires feed { feed < (net_of net.now).feeds }
     requires out { out < (net_of net.now).outs }
     ensures { shown_ends result ≡ record {
-      a_low = (box_of v.now).low (prop_number (net_of net.now) feed);
-      a_high = (box_of v.now).high (prop_number (net_of net.now) feed);
-      b_low = (box_of v.now).low (flow_number (net_of net.now) out);
-      b_high = (box_of v.now).high (flow_number (net_of net.now) out);
+      a_low = (shown_box v.now).low (prop_number (net_of net.now) feed);
+      a_high = (shown_box v.now).high (prop_number (net_of net.now) feed);
+      b_low = (shown_box v.now).low (flow_number (net_of net.now) out);
+      b_high = (shown_box v.now).high (flow_number (net_of net.now) out);
     } }
 {
     let flow = flow_coordinate(net, out);

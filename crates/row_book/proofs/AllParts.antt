@@ -4,7 +4,7 @@ use Rattle.std.proofs.lemmas.List.{length-map, get_or_default}
 use Rattle.std.proofs.lemmas.List.Elements.{All-map}
 use Rattle.std.proofs.Math.ListN.{get_or-map}
 use Rattle.box_space.specs.declared.multipliers.Part.{Part}
-use Rattle.box_space.specs.Shown.{shown_part}
+use Rattle.box_space.specs.Views.{shown_part}
 use Rattle.row_model.specs.Catalogue.{Kind}
 use Rattle.row_model.specs.Multipliers as multipliers
 use Rattle.row_book.proofs.Rising.{rises}

@@ -5,7 +5,7 @@ use Rattle.row_model.specs.Boxes.{Box}
 use Rattle.row_model.specs.Multipliers as multipliers
 use Rattle.row_book.specs.Faults.{IsFirstFault}
 use Rattle.row_book.specs.PartSums.{AreInOrder, weight_of, number_of}
-use Rattle.row_book.specs.Results as results
+use Rattle.row_book.specs.Views as results
 use Rattle.row_book.specs.declared.fault.ProofFault.{ProofFault}
 use Rattle.row_book.specs.declared.fault.ProofFault.TheVariants.{ShowsNothing}
 use Rattle.row_book.specs.declared.shown.Shown.{Shown}
@@ -15,8 +15,8 @@ module _ (n : Net) (b : Box) (proof : multipliers.Proof) (z : ℤ) (order : AreI
   number_is : z ≡ multipliers.number n b proof
   number_is = is ∙ sym (number-same n b proof)
 
-  pub answer-ok : (r : Result Shown ProofFault) → IfOk r (λ s. results.shown s ≡ results.shown_at proof.scale z) → IfOk r (λ _. proof.scale ≡ 0 → pos 0 <ℤ z)
-      → IfOk r (λ s. multipliers.IsInOrder n b proof × (results.shown s ≡ multipliers.shown_by n b proof))
+  pub answer-ok : (r : Result Shown ProofFault) → IfOk r (λ s. results.shown_value s ≡ results.shown_at proof.scale z) → IfOk r (λ _. proof.scale ≡ 0 → pos 0 <ℤ z)
+      → IfOk r (λ s. multipliers.IsInOrder n b proof × (results.shown_value s ≡ multipliers.shown_by n b proof))
   answer-ok (Ok s) shown above =
       let P : ℤ → Type 0 = λ x. pos 0 <ℤ x in
       (no_fault n b proof order narrow (λ none. subst P number_is (above none)), shown ∙ ap (results.shown_at proof.scale) number_is)

@@ -9,7 +9,7 @@ use Rattle.row_book.specs.Groups.{group_by, row_by, row_in_group, IsPlaced}
 use Rattle.row_book.specs.PartRows.{kind_at, coef_at, constant_at, IsRow}
 use Rattle.row_book.proofs.RowSizes.{coef-small}
 use Rattle.box_space.specs.Lines.{Line}
-use Rattle.box_space.specs.Shown.{shown_kind}
+use Rattle.box_space.specs.Views.{shown_kind}
 use Rattle.box_space.specs.Written.{IsLineOf}
 use Rattle.box_space.specs.declared.rows.RowKind.{RowKind}
 use Rattle.row_book.proofs.Families.{test_true, test_false, row_count-append, row_in-front, row_in-behind}

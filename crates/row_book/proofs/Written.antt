@@ -8,7 +8,7 @@ use Rattle.pool_model.specs.Network.{Net}
 use Rattle.row_model.specs.Boxes.{Box}
 use Rattle.row_model.specs.Variables.{variables, by_number, costs}
 use Rattle.box_space.specs.Lines.{Line}
-use Rattle.box_space.specs.Shown.{shown_part}
+use Rattle.box_space.specs.Views.{shown_part}
 use Rattle.box_space.specs.declared.multipliers.Part.{Part}
 use Rattle.row_book.specs.Sizes.{end_size, cost_weight, line_weight, coef_in, size_in}
 use Rattle.row_book.specs.PartRows.{coef_at, constant_at, IsRow}

@@ -3,5 +3,5 @@ pub mod PartRows
 pub mod Faults
 pub mod Fitting
 pub mod PartSums
-pub mod Results
+pub mod Views
 pub mod Sizes

@@ -3,8 +3,7 @@
 ghost use Rattle.std.specs.Prelude.{◌≡◌, ◌<◌, ◌≤◌};
 ghost use Rattle.pool_model.specs.Network.{net_of};
 ghost use Rattle.row_model.specs.Catalogue.{rows as rows_lem};
-ghost use Rattle.box_space.specs.Views.{IsView, box_of};
-ghost use Rattle.box_space.specs.Shown.{shown_kind};
+ghost use Rattle.box_space.specs.Views.{IsView, shown_box, shown_kind};
 ghost use Rattle.box_space.specs.Written.{IsLineOf};
 ghost use Rattle.row_book.specs.Groups.{IsPlaced, takes, group_of, row_by};
 ghost use Rattle.row_book.specs.PartRows.{kind_at, IsRow};
@@ -78,8 +77,8 @@ fn has(form: Form, group: Group) -> bool
 pub fn row_at(net: &Network, v: &BoxView, id: u32, row: &mut LinRow) -> RowKind
     requires view { IsView (net_of net.now) v.now }
     requires known { id < rows_lem (net_of net.now) }
-    ensures kind { shown_kind result ≡ kind_at (net_of net.now) (box_of v.now) id }
-    ensures written { IsRow (net_of net.now) (box_of v.now) id row.new }
+    ensures kind { shown_kind result ≡ kind_at (net_of net.now) (shown_box v.now) id }
+    ensures written { IsRow (net_of net.now) (shown_box v.now) id row.new }
 {
     // The network's limits bound the coefficients.
     let _counts = counts_in(net);
@@ -90,7 +89,7 @@ pub fn row_at(net: &Network, v: &BoxView, id: u32, row: &mut LinRow) -> RowKind
 fn written(net: &Network, v: &BoxView, id: u32, row: &mut LinRow) -> RowKind
     requires view { IsView (net_of net.now) v.now }
     requires known { id < rows_lem (net_of net.now) }
-    ensures { IsLineOf (net_of net.now) (row_by (net_of net.now) (box_of v.now) id) row.new result }
+    ensures { IsLineOf (net_of net.now) (row_by (net_of net.now) (shown_box v.now) id) row.new result }
 {
     let (group, n) = place_of(net, id);
     match group {

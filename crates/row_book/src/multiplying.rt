@@ -5,8 +5,7 @@ ghost use Rattle.std.specs.Int.{int_min};
 ghost use Rattle.integers.specs.Sums.{int_sum_below, sum_below};
 ghost use Rattle.pool_model.specs.Network.{net_of};
 ghost use Rattle.row_model.specs.Variables.{variables, by_number, costs, lows, highs};
-ghost use Rattle.box_space.specs.Shown.{shown_proof};
-ghost use Rattle.box_space.specs.Views.{box_of, IsView};
+ghost use Rattle.box_space.specs.Views.{shown_proof, shown_box, IsView};
 ghost use Rattle.row_book.specs.Fitting.{Fits};
 ghost use Rattle.row_book.specs.PartSums.{AreInOrder, constants_of, number_of, rest_of, weight_of};
 ghost use Rattle.row_book.specs.Sizes as sizes;
@@ -20,10 +19,10 @@ use box_space::{BoxView, LinRow, Proof, Term, var_cost, var_ends, vars};
 pub(crate) fn number(net: &Network, v: &BoxView, proof: &Proof, scratch: &mut Scratch) -> i128
     requires view { IsView (net_of net.now) v.now }
     requires fits { Fits (net_of net.now) scratch.old }
-    requires in_order { AreInOrder (net_of net.now) (box_of v.now) (shown_proof proof.now) }
+    requires in_order { AreInOrder (net_of net.now) (shown_box v.now) (shown_proof proof.now) }
     requires few { length proof.now.parts.items ≤ 2 ^ 14 }
-    requires narrow { weight_of (net_of net.now) (box_of v.now) (shown_proof proof.now) ≤ 2 ^ 126 }
-    ensures number { result ≡ number_of (net_of net.now) (box_of v.now) (shown_proof proof.now) }
+    requires narrow { weight_of (net_of net.now) (shown_box v.now) (shown_proof proof.now) ≤ 2 ^ 126 }
+    ensures number { result ≡ number_of (net_of net.now) (shown_box v.now) (shown_proof proof.now) }
     ensures fits { Fits (net_of net.now) scratch.new }
 {
     let rests = scratch.rests.as_mut_slice();
@@ -43,11 +42,11 @@ fn fill_rests(
 ) -> i128
     requires view { IsView (net_of net.now) v.now }
     requires places { length rests.old ≡ variables (net_of net.now) }
-    requires in_order { AreInOrder (net_of net.now) (box_of v.now) (shown_proof proof.now) }
+    requires in_order { AreInOrder (net_of net.now) (shown_box v.now) (shown_proof proof.now) }
     requires few { length proof.now.parts.items ≤ 2 ^ 14 }
-    requires narrow { weight_of (net_of net.now) (box_of v.now) (shown_proof proof.now) ≤ 2 ^ 126 }
-    ensures constants { result ≡ constants_of (net_of net.now) (box_of v.now) (shown_proof proof.now).parts }
-    ensures rests { (i : ℕ) → i < variables (net_of net.now) → get_or rests.new i (pos 0) ≡ rest_of (net_of net.now) (box_of v.now) proof.now.scale (shown_proof proof.now).parts i }
+    requires narrow { weight_of (net_of net.now) (shown_box v.now) (shown_proof proof.now) ≤ 2 ^ 126 }
+    ensures constants { result ≡ constants_of (net_of net.now) (shown_box v.now) (shown_proof proof.now).parts }
+    ensures rests { (i : ℕ) → i < variables (net_of net.now) → get_or rests.new i (pos 0) ≡ rest_of (net_of net.now) (shown_box v.now) proof.now.scale (shown_proof proof.now).parts i }
 {
     fill_costs(net, proof.scale, rests);
     let mut constants: i128 = 0;
@@ -86,8 +85,8 @@ fn subtract_row(rests: &mut [i128], mult: i64, terms: &[Term])
 fn sum_of_ends(net: &Network, v: &BoxView, rests: &[i128]) -> i128
     requires view { IsView (net_of net.now) v.now }
     requires places { length rests.now ≡ variables (net_of net.now) }
-    requires room { sum_below (λ i. unsigned_abs (get_or rests.now i (pos 0)) * sizes.end_size (net_of net.now) (box_of v.now) i) (variables (net_of net.now)) ≤ 2 ^ 126 }
-    ensures { result ≡ int_sum_below (λ i. int_min (get_or rests.now i (pos 0) *ℤ by_number (net_of net.now) (lows (net_of net.now) (box_of v.now)) i) (get_or rests.now i (pos 0) *ℤ by_number (net_of net.now) (highs (net_of net.now) (box_of v.now)) i)) (variables (net_of net.now)) }
+    requires room { sum_below (λ i. unsigned_abs (get_or rests.now i (pos 0)) * sizes.end_size (net_of net.now) (shown_box v.now) i) (variables (net_of net.now)) ≤ 2 ^ 126 }
+    ensures { result ≡ int_sum_below (λ i. int_min (get_or rests.now i (pos 0) *ℤ by_number (net_of net.now) (lows (net_of net.now) (shown_box v.now)) i) (get_or rests.now i (pos 0) *ℤ by_number (net_of net.now) (highs (net_of net.now) (shown_box v.now)) i)) (variables (net_of net.now)) }
 {
     let mut total: i128 = 0;
     for var in 0..vars(net) {

@@ -4,8 +4,7 @@ ghost use Rattle.std.specs.Prelude.{◌≡◌, ◌≢◌, ◌^◌, ◌<◌, ◌�
 ghost use Rattle.pool_model.specs.Network.{net_of};
 ghost use Rattle.row_model.specs.Catalogue as catalogue;
 ghost use Rattle.row_model.specs.Multipliers.{IsRising, IsSigned};
-ghost use Rattle.box_space.specs.Shown.{shown_proof};
-ghost use Rattle.box_space.specs.Views.{box_of, IsView};
+ghost use Rattle.box_space.specs.Views.{shown_proof, shown_box, IsView};
 ghost use Rattle.row_book.specs.Faults.{IsFirstFault};
 ghost use Rattle.row_book.specs.PartRows.{kind_at};
 ghost use Rattle.row_book.specs.PartSums.{AreInOrder};
@@ -23,9 +22,9 @@ pub(crate) fn check_parts(
     row: &mut LinRow,
 ) -> Result<(), ProofFault>
     requires { IsView (net_of net.now) v.now }
-    ensures ok { IfOk result (λ _. AreInOrder (net_of net.now) (box_of v.now) (shown_proof proof.now)) }
+    ensures ok { IfOk result (λ _. AreInOrder (net_of net.now) (shown_box v.now) (shown_proof proof.now)) }
     ensures few { IfOk result (λ _. length proof.now.parts.items ≤ 2 ^ 14) }
-    ensures fault { IfErr result (IsFirstFault (net_of net.now) (box_of v.now) (shown_proof proof.now)) }
+    ensures fault { IfErr result (IsFirstFault (net_of net.now) (shown_box v.now) (shown_proof proof.now)) }
 {
     if !is_rising(proof) {
         return Err(ProofFault::Order);
@@ -73,7 +72,7 @@ fn are_rows(net: &Network, proof: &Proof) -> bool
 fn are_signed(net: &Network, v: &BoxView, proof: &Proof, row: &mut LinRow) -> bool
     requires view { IsView (net_of net.now) v.now }
     requires known { All (λ q. q.row < catalogue.rows (net_of net.now)) (shown_proof proof.now).parts }
-    ensures { IsTrue result ↔ All (λ q. IsSigned (kind_at (net_of net.now) (box_of v.now) q.row) q.mult) (shown_proof proof.now).parts }
+    ensures { IsTrue result ↔ All (λ q. IsSigned (kind_at (net_of net.now) (shown_box v.now) q.row) q.mult) (shown_proof proof.now).parts }
 {
     for part in &proof.parts {
         if !has_sign(net, v, *part, row) {
@@ -87,7 +86,7 @@ fn are_signed(net: &Network, v: &BoxView, proof: &Proof, row: &mut LinRow) -> bo
 fn has_sign(net: &Network, v: &BoxView, part: Part, row: &mut LinRow) -> bool
     requires view { IsView (net_of net.now) v.now }
     requires known { part.row < catalogue.rows (net_of net.now) }
-    ensures { IsTrue result ↔ IsSigned (kind_at (net_of net.now) (box_of v.now) part.row) part.mult }
+    ensures { IsTrue result ↔ IsSigned (kind_at (net_of net.now) (shown_box v.now) part.row) part.mult }
 {
     if part.mult >= 0 {
         return true;

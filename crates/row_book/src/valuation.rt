@@ -3,11 +3,10 @@
 ghost use Rattle.std.specs.Prelude.{◌≡◌, IfOk, IfErr, pos, ◌<ℤ◌, ◌≤ℤ◌};
 ghost use Rattle.pool_model.specs.Network.{net_of};
 ghost use Rattle.row_model.specs.Multipliers as multipliers;
-ghost use Rattle.box_space.specs.Shown.{shown_proof};
-ghost use Rattle.box_space.specs.Views.{box_of, IsView};
+ghost use Rattle.box_space.specs.Views.{shown_proof, shown_box, IsView};
 ghost use Rattle.row_book.specs.Faults.{IsFirstFault};
 ghost use Rattle.row_book.specs.Fitting.{Fits};
-ghost use Rattle.row_book.specs.Results as results;
+ghost use Rattle.row_book.specs.Views as results;
 
 use crate::fault::ProofFault;
 use crate::multiplying::number;
@@ -29,8 +28,8 @@ pub fn value(
 ) -> Result<Shown, ProofFault>
     requires view { IsView (net_of net.now) v.now }
     requires fits { Fits (net_of net.now) scratch.old }
-    ensures ok { IfOk result (λ s. multipliers.IsInOrder (net_of net.now) (box_of v.now) (shown_proof proof.now) × (results.shown s ≡ multipliers.shown_by (net_of net.now) (box_of v.now) (shown_proof proof.now))) }
-    ensures fault { IfErr result (IsFirstFault (net_of net.now) (box_of v.now) (shown_proof proof.now)) }
+    ensures ok { IfOk result (λ s. multipliers.IsInOrder (net_of net.now) (shown_box v.now) (shown_proof proof.now) × (results.shown_value s ≡ multipliers.shown_by (net_of net.now) (shown_box v.now) (shown_proof proof.now))) }
+    ensures fault { IfErr result (IsFirstFault (net_of net.now) (shown_box v.now) (shown_proof proof.now)) }
     ensures fits { Fits (net_of net.now) scratch.new }
 {
     check_parts(net, v, proof, &mut scratch.row)?;
@@ -41,7 +40,7 @@ pub fn value(
 
 /// What a number over a scale shows; ShowsNothing, exactly where the scale is 0 and the number is at most 0.
 fn shown_by(scale: u64, number: i128) -> Result<Shown, ProofFault>
-    ensures shown { IfOk result (λ s. results.shown s ≡ results.shown_at scale number) }
+    ensures shown { IfOk result (λ s. results.shown_value s ≡ results.shown_at scale number) }
     ensures above { IfOk result (λ _. scale ≡ 0 → pos 0 <ℤ number) }
     ensures fault { IfErr result (λ f. f ≡ ProofFault.ShowsNothing) }
     ensures nothing { IfErr result (λ _. (scale ≡ 0) × (number ≤ℤ pos 0)) }

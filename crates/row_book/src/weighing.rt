@@ -4,8 +4,7 @@ ghost use Rattle.std.specs.Prelude.{◌≡◌, ℕ, ◌+◌, ◌*◌, ◌^◌, �
 ghost use Rattle.pool_model.specs.Network.{net_of};
 ghost use Rattle.row_model.specs.Variables.{variables};
 ghost use Rattle.row_model.specs.Catalogue as catalogue;
-ghost use Rattle.box_space.specs.Shown.{shown_proof};
-ghost use Rattle.box_space.specs.Views.{box_of, IsView};
+ghost use Rattle.box_space.specs.Views.{shown_proof, shown_box, IsView};
 ghost use Rattle.row_book.specs.PartSums.{weight_of};
 ghost use Rattle.row_book.specs.Sizes as sizes;
 
@@ -18,8 +17,8 @@ use exact_num::{Weight, Wide};
 pub(crate) fn weigh(net: &Network, v: &BoxView, proof: &Proof, row: &mut LinRow) -> Result<(), Wide>
     requires view { IsView (net_of net.now) v.now }
     requires known { All (λ q. q.row < catalogue.rows (net_of net.now)) (shown_proof proof.now).parts }
-    ensures narrow { OnOk result (weight_of (net_of net.now) (box_of v.now) (shown_proof proof.now) ≤ 2 ^ 126) }
-    ensures wide { OnErr result (2 ^ 126 < weight_of (net_of net.now) (box_of v.now) (shown_proof proof.now)) }
+    ensures narrow { OnOk result (weight_of (net_of net.now) (shown_box v.now) (shown_proof proof.now) ≤ 2 ^ 126) }
+    ensures wide { OnErr result (2 ^ 126 < weight_of (net_of net.now) (shown_box v.now) (shown_proof proof.now)) }
 {
     let mut weight = Weight::new();
     weigh_costs(net, v, proof.scale, &mut weight)?;
@@ -34,9 +33,9 @@ pub(crate) fn weigh(net: &Network, v: &BoxView, proof: &Proof, row: &mut LinRow)
 fn weigh_costs(net: &Network, v: &BoxView, scale: u64, weight: &mut Weight) -> Result<(), Wide>
     requires view { IsView (net_of net.now) v.now }
     requires narrow { weight.old ≤ 2 ^ 126 }
-    ensures added { OnOk result (weight.new ≡ weight.old + sizes.cost_weight (net_of net.now) (box_of v.now) scale (variables (net_of net.now))) }
+    ensures added { OnOk result (weight.new ≡ weight.old + sizes.cost_weight (net_of net.now) (shown_box v.now) scale (variables (net_of net.now))) }
     ensures narrow { OnOk result (weight.new ≤ 2 ^ 126) }
-    ensures wide { OnErr result (2 ^ 126 < weight.old + sizes.cost_weight (net_of net.now) (box_of v.now) scale (variables (net_of net.now))) }
+    ensures wide { OnErr result (2 ^ 126 < weight.old + sizes.cost_weight (net_of net.now) (shown_box v.now) scale (variables (net_of net.now))) }
 {
     for var in 0..vars(net) {
         let cost = scaled_size(scale, var_cost(net, var));
@@ -56,9 +55,9 @@ fn weigh_row(
     requires view { IsView (net_of net.now) v.now }
     requires known { All (λ t. t.var < variables (net_of net.now)) row.now.terms }
     requires small { All (λ t. unsigned_abs t.coef < 2 ^ 48) row.now.terms }
-    ensures added { OnOk result (weight.new ≡ weight.old + sizes.line_weight (net_of net.now) (box_of v.now) mult row.now) }
+    ensures added { OnOk result (weight.new ≡ weight.old + sizes.line_weight (net_of net.now) (shown_box v.now) mult row.now) }
     ensures narrow { OnOk result (weight.new ≤ 2 ^ 126) }
-    ensures wide { OnErr result (2 ^ 126 < weight.old + sizes.line_weight (net_of net.now) (box_of v.now) mult row.now) }
+    ensures wide { OnErr result (2 ^ 126 < weight.old + sizes.line_weight (net_of net.now) (shown_box v.now) mult row.now) }
 {
     weight.add_product(mult.unsigned_abs().into(), row.constant().unsigned_abs())?;
     let terms = row.terms();
@@ -73,7 +72,7 @@ fn weigh_row(
 fn end_size(net: &Network, v: &BoxView, var: u32) -> u128
     requires view { IsView (net_of net.now) v.now }
     requires known { var < variables (net_of net.now) }
-    ensures { result ≡ sizes.end_size (net_of net.now) (box_of v.now) var }
+    ensures { result ≡ sizes.end_size (net_of net.now) (shown_box v.now) var }
 {
     let (low, high) = var_ends(net, v, var);
     low.unsigned_abs().max(high.unsigned_abs())

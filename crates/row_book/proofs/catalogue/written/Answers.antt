@@ -1,6 +1,6 @@
 use Rattle.std.proofs.Common.{ℕ, ◌<◌, ap, subst, ◌∙◌}
 use Rattle.pool_model.specs.Network.{net_of}
-use Rattle.box_space.specs.Views.{box_of}
+use Rattle.box_space.specs.Views.{shown_box}
 use Rattle.box_space.specs.Tables.{row_of}
 use Rattle.row_book.specs.declared.catalogue.Group.{Group}
 use Rattle.row_book.specs.Groups.{group_count, row_in_group}
@@ -22,27 +22,27 @@ row-requires-in-Further-clause-among c = subst (λ (g : Group). c.place_of-group
 pub returns-in-Network : goal.returns-in-Network
 returns-in-Network c =
     let n = net_of c.args.net.now in
-    let b = box_of c.args.v.now in
+    let b = shown_box c.args.v.now in
     line-network n b c.args.id c.place_of-group.result.1 (row_of n c.table_at.result) c.write.new.self c.write.result
     (c.place_of-group.ensures.same b ∙ ap (λ (g : Group). row_in_group n b g c.place_of-group.result.1) c.in-Network.is) c.table_at.ensures.row c.write.ensures
 
 pub returns-in-P : goal.returns-in-P
 returns-in-P c =
     let n = net_of c.args.net.now in
-    let b = box_of c.args.v.now in
+    let b = shown_box c.args.v.now in
     line-p n b c.args.id c.place_of-group.result.1 c.row.new.row c.row.result
     (c.place_of-group.ensures.same b ∙ ap (λ (g : Group). row_in_group n b g c.place_of-group.result.1) c.in-P.is) c.row.ensures
 
 pub returns-in-Q : goal.returns-in-Q
 returns-in-Q c =
     let n = net_of c.args.net.now in
-    let b = box_of c.args.v.now in
+    let b = shown_box c.args.v.now in
     line-q n b c.args.id c.place_of-group.result.1 c.row-in-Q.new.row c.row-in-Q.result
     (c.place_of-group.ensures.same b ∙ ap (λ (g : Group). row_in_group n b g c.place_of-group.result.1) c.in-Q.is) c.row-in-Q.ensures
 
 pub returns-in-Further : goal.returns-in-Further
 returns-in-Further c =
     let n = net_of c.args.net.now in
-    let b = box_of c.args.v.now in
+    let b = shown_box c.args.v.now in
     line-further n b c.args.id c.place_of-group.result.1 c.row-in-Further.new.row c.row-in-Further.result
     (c.place_of-group.ensures.same b ∙ ap (λ (g : Group). row_in_group n b g c.place_of-group.result.1) c.in-Further.is) c.row-in-Further.ensures

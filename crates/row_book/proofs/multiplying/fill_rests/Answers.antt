@@ -6,8 +6,7 @@ use Rattle.integers.proofs.Ring.{additive}
 use Rattle.pool_model.specs.Network.{net_of}
 use Rattle.row_model.specs.Variables.{variables}
 use Rattle.row_model.specs.Catalogue as catalogue
-use Rattle.box_space.specs.Shown.{shown_part}
-use Rattle.box_space.specs.Views.{box_of}
+use Rattle.box_space.specs.Views.{shown_part, shown_box}
 use Rattle.box_space.specs.declared.multipliers.Part.{Part}
 use Rattle.row_book.specs.PartRows.{coef_at, constant_at}
 use Rattle.row_book.specs.PartSums.{constants_of, rest_of}
@@ -28,14 +27,14 @@ row_at-requires-clause-known c =
 pub subtract_row-requires-clause-known : goal.subtract_row-requires-clause-known
 subtract_row-requires-clause-known c =
     let n = net_of c.args.net.now in
-    let known = written-known n (box_of c.args.v.now) _ c.row_at.new.row c.row_at.ensures.written in
+    let known = written-known n (shown_box c.args.v.now) _ c.row_at.new.row c.row_at.ensures.written in
     let all : All (λ t. t.var < variables n) c.terms.result.now = subst (λ ts. All (λ t. t.var < variables n) ts) (sym c.terms.ensures) known in
     λ i d lt. omega (arith, all i d lt, c.loop-part.auto.rests, c.fill_costs.auto.rests, c.requires.places)
 
 pub subtract_row-requires-clause-room : goal.subtract_row-requires-clause-room
 subtract_row-requires-clause-room c =
     let n = net_of c.args.net.now in
-    let b = box_of c.args.v.now in
+    let b = shown_box c.args.v.now in
     let parts = c.args.proof.now.parts.items in
     let k = c.loop-part.part-index in
     let t : Part = get_or c.deref-part-items.result.now k no_part in
@@ -50,7 +49,7 @@ subtract_row-requires-clause-room c =
 pub more_product-constants-requires : goal.more_product-constants-requires
 more_product-constants-requires c =
     let n = net_of c.args.net.now in
-    let b = box_of c.args.v.now in
+    let b = shown_box c.args.v.now in
     let parts = c.args.proof.now.parts.items in
     let k = c.loop-part.part-index in
     let t : Part = get_or c.deref-part-items.result.now k no_part in
@@ -72,7 +71,7 @@ loop-part-init c = record {
 pub loop-part-preserved : goal.loop-part-preserved
 loop-part-preserved c =
     let n = net_of c.args.net.now in
-    let b = box_of c.args.v.now in
+    let b = shown_box c.args.v.now in
     let parts = c.args.proof.now.parts.items in
     let k = c.loop-part.part-index in
     let t : Part = get_or c.deref-part-items.result.now k no_part in
@@ -111,7 +110,7 @@ loop-part-preserved c =
 pub returns : goal.returns
 returns c =
     let n = net_of c.args.net.now in
-    let b = box_of c.args.v.now in
+    let b = shown_box c.args.v.now in
     let parts = c.args.proof.now.parts.items in
     let all = take_all c.loop-part.part-index (map shown_part parts) (omega (arith, length-map parts shown_part, c.loop-part-test.false, ap length c.deref-part-items.ensures.value)) in
     record {

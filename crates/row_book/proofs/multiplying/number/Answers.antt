@@ -6,8 +6,7 @@ use mir.Syntax.{w128}
 use Rattle.integers.specs.Sums.{int_sum_below}
 use Rattle.pool_model.specs.Network.{net_of}
 use Rattle.row_model.specs.Variables.{variables, by_number, lows, highs}
-use Rattle.box_space.specs.Shown.{shown_part}
-use Rattle.box_space.specs.Views.{box_of}
+use Rattle.box_space.specs.Views.{shown_part, shown_box}
 use Rattle.row_book.specs.PartSums.{number_of}
 use Rattle.row_book.proofs.Parts.{ends-light, number-read, number-fits}
 use Rattle.row_book.proofs.multiplying.number.Goals as goal
@@ -19,7 +18,7 @@ kept len xs ys e = take-append-le len xs ys (omega arith) ∙ take_all len xs (o
 pub sum_of_ends-ends-requires-clause-room : goal.sum_of_ends-ends-requires-clause-room
 sum_of_ends-ends-requires-clause-room c =
     let n = net_of c.args.net.now in
-    let b = box_of c.args.v.now in
+    let b = shown_box c.args.v.now in
     let scale = c.args.proof.now.scale in
     let parts = map shown_part c.args.proof.now.parts.items in
     let r : ℕ → ℤ = λ v. get_or c.fill_rests-constants.new.rests v (pos 0) in
@@ -28,7 +27,7 @@ sum_of_ends-ends-requires-clause-room c =
 pub overflow_sub-result : goal.overflow_sub-result
 overflow_sub-result c =
     let n = net_of c.args.net.now in
-    let b = box_of c.args.v.now in
+    let b = shown_box c.args.v.now in
     let scale = c.args.proof.now.scale in
     let parts = map shown_part c.args.proof.now.parts.items in
     let r : ℕ → ℤ = λ v. get_or c.fill_rests-constants.new.rests v (pos 0) in
@@ -44,7 +43,7 @@ overflow_sub-result c =
 pub returns-clause-number : goal.returns-clause-number
 returns-clause-number c =
     let n = net_of c.args.net.now in
-    let b = box_of c.args.v.now in
+    let b = shown_box c.args.v.now in
     let scale = c.args.proof.now.scale in
     let parts = map shown_part c.args.proof.now.parts.items in
     let r : ℕ → ℤ = λ v. get_or c.fill_rests-constants.new.rests v (pos 0) in

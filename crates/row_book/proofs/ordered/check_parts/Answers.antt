@@ -1,8 +1,7 @@
 use Rattle.std.proofs.Common.{◌≡◌, ◌<◌, length, get_or, true, arith}
 use Rattle.pool_model.specs.Network.{net_of}
 use Rattle.row_model.specs.Catalogue as catalogue
-use Rattle.box_space.specs.Shown.{shown_proof}
-use Rattle.box_space.specs.Views.{box_of}
+use Rattle.box_space.specs.Views.{shown_proof, shown_box}
 use Rattle.row_book.proofs.Rising.{no_more}
 use Rattle.row_book.proofs.AllParts.{no_part, at_part, rising_at}
 use Rattle.row_book.proofs.FirstFaults.{first-order, first-unknown, first-sign, first-zero}
@@ -26,20 +25,20 @@ returns c =
 
 pub returns-then-not-is_rising-clause-fault : goal.returns-then-not-is_rising-clause-fault
 returns-then-not-is_rising-clause-fault c =
-    first-order (net_of c.args.net.now) (box_of c.args.v.now) (shown_proof c.args.proof.now)
+    first-order (net_of c.args.net.now) (shown_box c.args.v.now) (shown_proof c.args.proof.now)
     (λ h. let yes : c.is_rising.result ≡ true = c.is_rising.ensures.1 h in cc)
 
 pub returns-then-not-are_rows-clause-fault : goal.returns-then-not-are_rows-clause-fault
 returns-then-not-are_rows-clause-fault c =
-    first-unknown (net_of c.args.net.now) (box_of c.args.v.now) (shown_proof c.args.proof.now) (c.is_rising.ensures.0 c.if-not-is_rising.false)
+    first-unknown (net_of c.args.net.now) (shown_box c.args.v.now) (shown_proof c.args.proof.now) (c.is_rising.ensures.0 c.if-not-is_rising.false)
     (λ h. let yes : c.are_rows.result ≡ true = c.are_rows.ensures.known.1 h in cc)
 
 pub returns-then-not-are_signed-clause-fault : goal.returns-then-not-are_signed-clause-fault
 returns-then-not-are_signed-clause-fault c =
-    first-sign (net_of c.args.net.now) (box_of c.args.v.now) (shown_proof c.args.proof.now) (c.is_rising.ensures.0 c.if-not-is_rising.false) (c.are_rows.ensures.known.0 c.if-not-are_rows.false)
+    first-sign (net_of c.args.net.now) (shown_box c.args.v.now) (shown_proof c.args.proof.now) (c.is_rising.ensures.0 c.if-not-is_rising.false) (c.are_rows.ensures.known.0 c.if-not-are_rows.false)
     (λ h. let yes : c.are_signed.result ≡ true = c.are_signed.ensures.1 h in cc)
 
 pub returns-then-not-are_nonzero-clause-fault : goal.returns-then-not-are_nonzero-clause-fault
 returns-then-not-are_nonzero-clause-fault c =
-    first-zero (net_of c.args.net.now) (box_of c.args.v.now) (shown_proof c.args.proof.now) (c.is_rising.ensures.0 c.if-not-is_rising.false) (c.are_rows.ensures.known.0 c.if-not-are_rows.false) (c.are_signed.ensures.0 c.if-not-are_signed.false)
+    first-zero (net_of c.args.net.now) (shown_box c.args.v.now) (shown_proof c.args.proof.now) (c.is_rising.ensures.0 c.if-not-is_rising.false) (c.are_rows.ensures.known.0 c.if-not-are_rows.false) (c.are_signed.ensures.0 c.if-not-are_signed.false)
     (λ h. let yes : c.are_nonzero.result ≡ true = c.are_nonzero.ensures.1 h in cc)

@@ -4,8 +4,7 @@ use Rattle.std.proofs.lemmas.List.{length-map, take_all}
 use mir.Syntax.{w64}
 use Rattle.pool_model.specs.Network.{net_of}
 use Rattle.row_model.specs.Catalogue as catalogue
-use Rattle.box_space.specs.Shown.{shown_part}
-use Rattle.box_space.specs.Views.{box_of}
+use Rattle.box_space.specs.Views.{shown_part, shown_box}
 use Rattle.box_space.specs.declared.multipliers.Part.{Part}
 use Rattle.row_book.specs.PartSums.{part_weight}
 use Rattle.row_book.specs.Sizes.{line_weight}
@@ -23,10 +22,10 @@ row_at-requires-clause-known c =
     )
 
 pub weigh_row-requires-clause-known : goal.weigh_row-requires-clause-known
-weigh_row-requires-clause-known c = written-known (net_of c.args.net.now) (box_of c.args.v.now) _ c.row_at.new.row c.row_at.ensures.written
+weigh_row-requires-clause-known c = written-known (net_of c.args.net.now) (shown_box c.args.v.now) _ c.row_at.new.row c.row_at.ensures.written
 
 pub weigh_row-requires-clause-small : goal.weigh_row-requires-clause-small
-weigh_row-requires-clause-small c = written-small (net_of c.args.net.now) (box_of c.args.v.now) _ c.row_at.new.row c.row_at.ensures.written
+weigh_row-requires-clause-small c = written-small (net_of c.args.net.now) (shown_box c.args.v.now) _ c.row_at.new.row c.row_at.ensures.written
 
 pub returns-in_err-weigh_costs-clause-wide : goal.returns-in_err-weigh_costs-clause-wide
 returns-in_err-weigh_costs-clause-wide c =
@@ -34,13 +33,13 @@ returns-in_err-weigh_costs-clause-wide c =
       arith,
       c.in_err-weigh_costs.ensures.wide,
       c.new-weight.ensures,
-      costs-within (net_of c.args.net.now) (box_of c.args.v.now) c.args.proof.now.scale c.args.proof.now.parts.items,
+      costs-within (net_of c.args.net.now) (shown_box c.args.v.now) c.args.proof.now.scale c.args.proof.now.parts.items,
     ))
 
 pub returns-in_err-weigh_row-clause-wide : goal.returns-in_err-weigh_row-clause-wide
 returns-in_err-weigh_row-clause-wide c =
     let n = net_of c.args.net.now in
-    let b = box_of c.args.v.now in
+    let b = shown_box c.args.v.now in
     let t : Part = get_or c.deref-part-items.result.now c.loop-part.part-index no_part in
     let mult : FitsSigned w64 t.mult = search rules in
     let here : line_weight n b t.mult c.row_at.new.row ≡ part_weight n b (shown_part (get_or c.args.proof.now.parts.items c.loop-part.part-index no_part)) =
@@ -59,7 +58,7 @@ loop-part-init c = record { weight = omega (arith, c.in_ok-weigh_costs.ensures.a
 pub loop-part-preserved : goal.loop-part-preserved
 loop-part-preserved c =
     let n = net_of c.args.net.now in
-    let b = box_of c.args.v.now in
+    let b = shown_box c.args.v.now in
     let t : Part = get_or c.deref-part-items.result.now c.loop-part.part-index no_part in
     let mult : FitsSigned w64 t.mult = search rules in
     let here : line_weight n b t.mult c.row_at.new.row ≡ part_weight n b (shown_part (get_or c.args.proof.now.parts.items c.loop-part.part-index no_part)) =
@@ -82,6 +81,6 @@ returns-clause-narrow c =
       arith,
       c.loop-part.invariant.weight,
       c.loop-part.invariant.narrow,
-      weight-all (net_of c.args.net.now) (box_of c.args.v.now) c.args.proof.now.scale parts c.loop-part.part-index
+      weight-all (net_of c.args.net.now) (shown_box c.args.v.now) c.args.proof.now.scale parts c.loop-part.part-index
           (take_all c.loop-part.part-index (map shown_part parts) (omega (arith, length-map parts shown_part, c.loop-part-test.false, ap length c.deref-part-items.ensures.value))),
     )

@@ -4,7 +4,7 @@ use mir.Syntax.{w64}
 use Rattle.pool_model.specs.Network.{net_of}
 use Rattle.row_model.specs.Variables.{variables, by_number, costs}
 use Rattle.integers.proofs.AtKey.{sum_below-part}
-use Rattle.box_space.specs.Views.{box_of}
+use Rattle.box_space.specs.Views.{shown_box}
 use Rattle.row_book.specs.Sizes.{end_size}
 use Rattle.row_book.proofs.WeightSums.{size_is, on_err}
 use Rattle.row_book.proofs.weighing.weigh_costs.Goals as goal
@@ -12,7 +12,7 @@ use Rattle.row_book.proofs.weighing.weigh_costs.Goals as goal
 pub returns-in_err-add_product-clause-wide : goal.returns-in_err-add_product-clause-wide
 returns-in_err-add_product-clause-wide c =
     let n = net_of c.args.net.now in
-    let ends = end_size n (box_of c.args.v.now) in
+    let ends = end_size n (shown_box c.args.v.now) in
     let cost : FitsSigned w64 c.var_cost.result = search rules in
     let here = size_is c.args.scale c.scaled_size-cost.result c.end_size.result c.var_cost.result (by_number n (costs n) c.loop-var.var) (ends c.loop-var.var) (simp to_z-of_z at c.scaled_size-cost.ensures) c.var_cost.ensures.cost c.end_size.ensures in
     on_err c.from_residual.result (omega (
@@ -28,5 +28,5 @@ pub loop-var-preserved : goal.loop-var-preserved
 loop-var-preserved c =
     let n = net_of c.args.net.now in
     let cost : FitsSigned w64 c.var_cost.result = search rules in
-    let here = size_is c.args.scale c.scaled_size-cost.result c.end_size.result c.var_cost.result (by_number n (costs n) c.loop-var.var) (end_size n (box_of c.args.v.now) c.loop-var.var) (simp to_z-of_z at c.scaled_size-cost.ensures) c.var_cost.ensures.cost c.end_size.ensures in
+    let here = size_is c.args.scale c.scaled_size-cost.result c.end_size.result c.var_cost.result (by_number n (costs n) c.loop-var.var) (end_size n (shown_box c.args.v.now) c.loop-var.var) (simp to_z-of_z at c.scaled_size-cost.ensures) c.var_cost.ensures.cost c.end_size.ensures in
     record { weight = rw add-one (omega (arith, c.in_ok-add_product.ensures.added, c.loop-var.invariant.weight, here)); narrow = omega (arith, c.in_ok-add_product.ensures.added, c.in_ok-add_product.ensures.fits) }

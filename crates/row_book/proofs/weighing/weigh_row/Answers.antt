@@ -5,7 +5,7 @@ use Rattle.std.proofs.lemmas.List.{take_all}
 use Rattle.std.proofs.lemmas.List.Sums.{sum_by_more, sum_by_more_le}
 use mir.Syntax.{w128}
 use Rattle.pool_model.specs.Network.{net_of}
-use Rattle.box_space.specs.Views.{box_of}
+use Rattle.box_space.specs.Views.{shown_box}
 use Rattle.box_space.specs.declared.terms.Term.{Term}
 use Rattle.row_book.specs.Sizes.{end_size}
 use Rattle.row_book.proofs.WeightSums.{size_is, on_err}
@@ -13,7 +13,7 @@ use Rattle.row_book.proofs.weighing.weigh_row.Goals as goal
 
 pub returns-in_err-add_product-2-clause-wide : goal.returns-in_err-add_product-2-clause-wide
 returns-in_err-add_product-2-clause-wide c =
-    let ends = end_size (net_of c.args.net.now) (box_of c.args.v.now) in
+    let ends = end_size (net_of c.args.net.now) (shown_box c.args.v.now) in
     let d : Term = record { var = 0; coef = pos 0 } in
     let t : Term = get_or c.terms-terms.result.now c.loop-term.term-index d in
     let g : Term → ℕ = λ t. unsigned_abs c.args.mult * unsigned_abs t.coef * ends t.var in
@@ -45,7 +45,7 @@ returns-in_err-add_product-clause-wide c =
 
 pub loop-term-preserved : goal.loop-term-preserved
 loop-term-preserved c =
-    let ends = end_size (net_of c.args.net.now) (box_of c.args.v.now) in
+    let ends = end_size (net_of c.args.net.now) (shown_box c.args.v.now) in
     let d : Term = record { var = 0; coef = pos 0 } in
     let t : Term = get_or c.terms-terms.result.now c.loop-term.term-index d in
     let g : Term → ℕ = λ t. unsigned_abs c.args.mult * unsigned_abs t.coef * ends t.var in
@@ -64,7 +64,7 @@ loop-term-preserved c =
 
 pub returns-clause-added : goal.returns-clause-added
 returns-clause-added c =
-    let ends = end_size (net_of c.args.net.now) (box_of c.args.v.now) in
+    let ends = end_size (net_of c.args.net.now) (shown_box c.args.v.now) in
     let g : Term → ℕ = λ t. unsigned_abs c.args.mult * unsigned_abs t.coef * ends t.var in
     let mult = c.ranges.mult in
     let constant : FitsSigned w128 c.constant.result = search rules in

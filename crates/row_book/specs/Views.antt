@@ -5,9 +5,9 @@ use Rattle.row_model.specs.Multipliers as multipliers
 use Rattle.row_book.specs.declared.shown.Shown.{Shown}
 use Rattle.row_book.specs.declared.shown.Shown.TheVariants.{Bound, NoPlan}
 
-abbrev pub shown : Shown → multipliers.Shown
-shown (Bound z) = multipliers.bound z
-shown NoPlan = multipliers.no_plan
+abbrev pub shown_value : Shown → multipliers.Shown
+shown_value (Bound z) = multipliers.bound z
+shown_value NoPlan = multipliers.no_plan
 
 -- what a number over a scale shows
 abbrev pub shown_at : ℕ → ℤ → multipliers.Shown
