@@ -148,7 +148,7 @@ not-better n s w is o h = record { holds = h; first = none }
     none CutOutside lt has = has
     none TooManySplits lt has = has
     none (BadProof g) lt has = has
-    none (BadPlan g) lt has = no-plan-fault n w g is o has.breaks
+    none (BadPlan g) lt has = no-plan-fault n w g is o has.holds
     none PlanNotBetter lt has = omega (arith, lt)
     none RootLate lt has = has
     none Memory lt has = has
@@ -190,7 +190,7 @@ plan-refused n s w BadCoord h is = h
 plan-refused n s w CutOutside h is = h
 plan-refused n s w TooManySplits h is = h
 plan-refused n s w (BadProof f) h is = h
-plan-refused n s w (BadPlan f) h is = no-plan-fault n w f is.written is.obeys h.breaks
+plan-refused n s w (BadPlan f) h is = no-plan-fault n w f is.written is.obeys h.holds
 plan-refused n s w PlanNotBetter h is = h is.cheaper
 plan-refused n s w RootLate h is = h
 plan-refused n s w Memory h is = h

@@ -4,7 +4,7 @@ use Rattle.std.proofs.lemmas.Option.{none-some}
 use Rattle.pool_model.specs.Network.{Net}
 use Rattle.pool_model.specs.Starting.{reach_bound}
 use Rattle.row_model.specs.Multipliers.{Proof}
-use Rattle.box_space.specs.Shown.{shown_split, shown_proof}
+use Rattle.box_space.specs.Views.{shown_split, shown_proof}
 use Rattle.box_space.specs.declared.coordinates.Split.{Split}
 use Rattle.box_space.specs.declared.multipliers.Proof.{Proof as HeldProof}
 use Rattle.row_model.specs.Trees.{node_bound, IsTree}

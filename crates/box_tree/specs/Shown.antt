@@ -1,7 +1,7 @@
 -- Entries without where they lie in memory.
 use Rattle.std.specs.Prelude.{option_map}
 use Rattle.row_model.specs.Entries as entries
-use Rattle.box_space.specs.Shown.{shown_split, shown_proof}
+use Rattle.box_space.specs.Views.{shown_split, shown_proof}
 use Rattle.plan_core.specs.Shown.{written_of}
 use Rattle.box_tree.specs.declared.entry.Entry.{Entry}
 use Rattle.box_tree.specs.declared.entry.Entry.TheVariants.{Root, SplitOf, Improve}

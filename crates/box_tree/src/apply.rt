@@ -5,7 +5,7 @@ ghost use Rattle.std.specs.Option.{ForSome};
 ghost use Rattle.pool_model.specs.Network.{net_of};
 ghost use Rattle.row_model.specs.Entries.{after, improve as improve_lem, root_proof, IsEntryInOrder};
 ghost use Rattle.plan_core.specs.Shown.{written_of};
-ghost use Rattle.box_space.specs.Shown.{shown_proof};
+ghost use Rattle.box_space.specs.Views.{shown_proof};
 ghost use Rattle.row_book.specs.Fitting.{Fits};
 ghost use Rattle.box_tree.specs.EntryFaults.{IsFirstFault};
 ghost use Rattle.box_tree.specs.Kept.{searched_of, IsOf};

@@ -3,7 +3,7 @@
 ghost use Rattle.std.specs.Prelude.{◌≡◌, option_map};
 ghost use Rattle.pool_model.specs.Starting.{lesser as lesser_lem};
 ghost use Rattle.row_model.specs.Trees.{raised as raised_lem};
-ghost use Rattle.row_book.specs.Results.{shown as shown_lem};
+ghost use Rattle.row_book.specs.Views.{shown_value as shown_lem};
 
 use row_book::Shown;
 

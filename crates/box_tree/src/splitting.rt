@@ -6,10 +6,9 @@ ghost use Rattle.pool_model.specs.Network.{Net, net_of};
 ghost use Rattle.row_model.specs.Multipliers as multipliers;
 ghost use Rattle.row_model.specs.Trees as trees;
 ghost use Rattle.row_model.specs.Entries.{split_of};
-ghost use Rattle.box_space.specs.Shown.{shown_proof, shown_split};
-ghost use Rattle.box_space.specs.Views.{AreEndsOf};
+ghost use Rattle.box_space.specs.Views.{shown_proof, shown_split, AreEndsOf};
 ghost use Rattle.row_book.specs.Fitting.{Fits};
-ghost use Rattle.row_book.specs.Results as results;
+ghost use Rattle.row_book.specs.Views as results;
 ghost use Rattle.box_tree.specs.EntryFaults.{IsFirstFault, IsBadProof};
 ghost use Rattle.box_tree.specs.Kept.{searched_of, IsOf};
 ghost use Rattle.box_tree.specs.Spans.{half_of, IsSpanOf};
@@ -101,7 +100,7 @@ impl Tree {
         requires tree { IsOf (net_of net.now) self.old }
         requires cuts { trees.CutsLeaf (net_of net.now) self.old.kept.splits (trees.box_of (net_of net.now) self.old.kept.splits split.now.leaf) (shown_split split.now) }
         ensures in_order { IfOk result (λ _. ForSome (option_map shown_proof proof.now) (multipliers.IsInOrder (net_of net.now) (half_of side (trees.box_of (net_of net.now) self.old.kept.splits split.now.leaf) split.now.coord split.now.cut))) }
-        ensures shown { IfOk result (λ s. option_map results.shown s ≡ option_map (multipliers.shown_by (net_of net.now) (half_of side (trees.box_of (net_of net.now) self.old.kept.splits split.now.leaf) split.now.coord split.now.cut)) (option_map shown_proof proof.now)) }
+        ensures shown { IfOk result (λ s. option_map results.shown_value s ≡ option_map (multipliers.shown_by (net_of net.now) (half_of side (trees.box_of (net_of net.now) self.old.kept.splits split.now.leaf) split.now.coord split.now.cut)) (option_map shown_proof proof.now)) }
         ensures fault { IfErr result (λ f. f ≢ EntryFault.Memory → IsBadProof (net_of net.now) (half_of side (trees.box_of (net_of net.now) self.old.kept.splits split.now.leaf) split.now.coord split.now.cut) (option_map shown_proof proof.now) f) }
         ensures kept { self.new.kept ≡ self.old.kept }
         ensures scratch { Fits (net_of net.now) self.new.scratch }

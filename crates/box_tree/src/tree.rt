@@ -5,7 +5,7 @@ ghost use Rattle.pool_model.specs.Network.{Net, net_of};
 ghost use Rattle.plan_core.specs.Shown.{written_of};
 ghost use Rattle.row_model.specs.Trees as trees;
 ghost use Rattle.row_model.specs.Entries as entries;
-ghost use Rattle.box_space.specs.Shown.{shown_proof, shown_split};
+ghost use Rattle.box_space.specs.Views.{shown_proof, shown_split};
 ghost use Rattle.box_tree.specs.Kept.{IsOf, searched_of};
 
 use crate::span::Span;
@@ -43,7 +43,7 @@ pub struct Tree {
 impl Model for Tree {
     ghost use Rattle.std.specs.Prelude.{map, length, option_map};
     ghost use Rattle.plan_core.specs.Shown.{written_of};
-    ghost use Rattle.box_space.specs.Shown.{shown_proof, shown_split};
+    ghost use Rattle.box_space.specs.Views.{shown_proof, shown_split};
     ghost use Rattle.box_tree.specs.Kept.{Held, AreSized};
 
     ghost Value = { Held };

@@ -10,7 +10,7 @@ use Rattle.row_model.specs.Multipliers.{Proof, IsInOrder, shown_by}
 use Rattle.row_model.specs.Trees.{Tree, box_of, own}
 use Rattle.row_model.proofs.Agreement.{in_order-same, shown-same}
 use Rattle.row_book.proofs.AgreedFaults.{fault-same}
-use Rattle.row_book.specs.Results.{shown}
+use Rattle.row_book.specs.Views.{shown_value}
 use Rattle.row_book.specs.declared.shown.Shown.{Shown}
 use Rattle.row_book.specs.declared.fault.ProofFault.{ProofFault}
 use Rattle.cert_checker.specs.declared.judge.Judge.{Judge}
@@ -39,14 +39,14 @@ module _ (n : Net) (tree : Tree) (limited : IsLimited n) (m : ℕ) (b : Box) (ag
     | inr d ↦ before node proof (omega arith) has
   ]
 
-  own_more : (list : List (Option Shown)) (entry : Option Shown) → AreOwn n tree list m → option_map shown entry ≡ option_map (shown_by n b) (tree.proof m) → AreOwn n tree (list ++ (entry ∷ [])) (m + 1)
+  own_more : (list : List (Option Shown)) (entry : Option Shown) → AreOwn n tree list m → option_map shown_value entry ≡ option_map (shown_by n b) (tree.proof m) → AreOwn n tree (list ++ (entry ∷ [])) (m + 1)
   own_more list entry before here = record {
     long = length-append list (entry ∷ []) ∙ (let e = before.long in omega arith);
     own_is = λ node h. elim (same_or_other node m) [
-      | inl e ↦ subst (λ k. option_map shown (get_or (list ++ (entry ∷ [])) k None) ≡ own n tree k) (sym e)
-          (ap (option_map shown) (ap (λ k. get_or (list ++ (entry ∷ [])) k None) (sym before.long) ∙ get_or-append_seam list entry [] None) ∙ here
+      | inl e ↦ subst (λ k. option_map shown_value (get_or (list ++ (entry ∷ [])) k None) ≡ own n tree k) (sym e)
+          (ap (option_map shown_value) (ap (λ k. get_or (list ++ (entry ∷ [])) k None) (sym before.long) ∙ get_or-append_seam list entry [] None) ∙ here
           ∙ ap (λ f. option_map f (tree.proof m)) (λ i. λ proof. shown-same n b (box_of n tree.splits m) proof limited agree i))
-      | inr d ↦ ap (option_map shown) (get_or_append_left list (entry ∷ []) None node (omega (arith, before.long))) ∙ before.own_is node (omega arith)
+      | inr d ↦ ap (option_map shown_value) (get_or_append_left list (entry ∷ []) None node (omega (arith, before.long))) ∙ before.own_is node (omega arith)
     ];
   }
 

@@ -101,7 +101,7 @@ cost_no_fault n w c (faults.QualityUnder j k) is h = let b = is.obeys.blends.at_
 
 claim_no_fault : (n : Net) (claim : Claimed) (c : Option Cost) (f : PlanFault) → IsClaimCost n claim c → ¬ HasPlanFault n claim f
 claim_no_fault n (with_gap plan cost base bound gap) None f is h = is
-claim_no_fault n (with_gap plan cost base bound gap) (Some c) f is h = cost_no_fault n plan c f is h.breaks
+claim_no_fault n (with_gap plan cost base bound gap) (Some c) f is h = cost_no_fault n plan c f is h.holds
 claim_no_fault n (with_bound bound) c f is h = h
 claim_no_fault n no_plan c f is h = h
 
@@ -229,7 +229,7 @@ valid-is n c cost found same is tree right = record {
 -- ---- a valid certificate gives no cause
 
 claim_plan : (n : Net) (tree : Tree) (claim : Claimed) (f : PlanFault) → IsShown n tree claim → ¬ HasPlanFault n claim f
-claim_plan n tree (with_gap plan cost base bound gap) f is h = cost_no_fault n plan record { num = cost; base = base } f record { written = is.written; obeys = is.obeys; num = is.cost_is; base = is.base_is } h.breaks
+claim_plan n tree (with_gap plan cost base bound gap) f is h = cost_no_fault n plan record { num = cost; base = base } f record { written = is.written; obeys = is.obeys; num = is.cost_is; base = is.base_is } h.holds
 claim_plan n tree (with_bound bound) f is h = h
 claim_plan n tree no_plan f is h = h
 

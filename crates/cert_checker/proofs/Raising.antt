@@ -8,22 +8,22 @@ use Rattle.pool_model.proofs.Reach.{least_below-same}
 use Rattle.pool_model.specs.Starting.{lesser, least_below, reach_bound}
 use Rattle.row_model.specs.Trees.{Tree, split_at, left_node, right_node, nodes, is_cut, raised, own, bound_after, leaf_bound, tree_bound}
 use Rattle.row_model.proofs.TreeBound.{old_bound, new_left, new_right}
-use Rattle.row_book.specs.Results.{shown}
+use Rattle.row_book.specs.Views.{shown_value}
 use Rattle.row_book.specs.declared.shown.Shown.{Shown}
 use Rattle.cert_checker.specs.Holding.{AreMarks}
 use Rattle.cert_checker.specs.Judging.{AreOwn}
 use Rattle.cert_checker.specs.Trees.{AreBounds}
 
 pub root-bound : (n : Net) (tree : Tree) (list : List (Option Shown)) (m : ℕ) (x : Option Shown) (first : Option ℤ) → AreOwn n tree list m → 0 < m → x ≡ get_or list 0 x
-    → first ≡ raised (Some (reach_bound n)) (option_map shown x) → (node : ℕ) → node < 1 → get_or (first ∷ []) node None ≡ bound_after n tree 0 node
+    → first ≡ raised (Some (reach_bound n)) (option_map shown_value x) → (node : ℕ) → node < 1 → get_or (first ∷ []) node None ≡ bound_after n tree 0 node
 root-bound n tree list m x first is some at e node h =
     let here : node ≡ 0 = omega arith in
     subst (λ k. get_or (first ∷ []) k None ≡ bound_after n tree 0 k) (sym here)
-    (e ∙ ap (raised (Some (reach_bound n))) (ap (option_map shown) (at ∙ get_or_default list 0 x None (omega (arith, is.long))) ∙ is.own_is 0 some))
+    (e ∙ ap (raised (Some (reach_bound n))) (ap (option_map shown_value) (at ∙ get_or_default list 0 x None (omega (arith, is.long))) ∙ is.own_is 0 some))
 
--- what is shown of a node, as it is read
-pub own-read : (n : Net) (tree : Tree) (list : List (Option Shown)) (m node : ℕ) (x : Option Shown) → AreOwn n tree list m → node < m → x ≡ get_or list node x → option_map shown x ≡ own n tree node
-own-read n tree list m node x is h at = ap (option_map shown) (at ∙ get_or_default list node x None (omega (arith, is.long))) ∙ is.own_is node h
+-- what is shown_value of a node, as it is read
+pub own-read : (n : Net) (tree : Tree) (list : List (Option Shown)) (m node : ℕ) (x : Option Shown) → AreOwn n tree list m → node < m → x ≡ get_or list node x → option_map shown_value x ≡ own n tree node
+own-read n tree list m node x is h at = ap (option_map shown_value) (at ∙ get_or_default list node x None (omega (arith, is.long))) ∙ is.own_is node h
 
 read_left : (bounds : List (Option ℤ)) (left right : Option ℤ) (node : ℕ) → node < length bounds → get_or ((bounds ++ (left ∷ [])) ++ (right ∷ [])) node None ≡ get_or bounds node None
 read_left bounds left right node h =

@@ -7,7 +7,7 @@ use Rattle.pool_model.specs.Network.{Net}
 use Rattle.row_model.specs.Trees.{Split, no_split, split_at, is_cut, IsLeaf, IsSplitInOrder}
 use Rattle.row_model.proofs.TreeLaw.{length_before, same_node, cut_more, uncut_later}
 use Rattle.box_space.specs.declared.coordinates.Split as declared
-use Rattle.box_space.specs.Shown.{shown_split}
+use Rattle.box_space.specs.Views.{shown_split}
 use Rattle.cert_checker.specs.Trees.{AreInOrder}
 
 -- a split that is read from a list

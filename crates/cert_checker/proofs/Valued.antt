@@ -7,7 +7,7 @@ use Rattle.pool_model.specs.Network.{Net}
 use Rattle.row_model.specs.Boxes.{Box}
 use Rattle.row_model.specs.Multipliers.{Proof, IsInOrder, shown_by}
 use Rattle.row_book.specs.Faults.{IsFirstFault}
-use Rattle.row_book.specs.Results.{shown}
+use Rattle.row_book.specs.Views.{shown_value}
 use Rattle.row_book.specs.declared.shown.Shown.{Shown}
 use Rattle.row_book.specs.declared.fault.ProofFault.{ProofFault}
 use Rattle.cert_checker.specs.declared.judge.Judge.{Judge}
@@ -24,7 +24,7 @@ or_some : {X : Type 0} (o : Option X) (y at : X) → option_or o (Some y) ≡ So
 or_some None y at e = inr (refl, same_some y at e)
 or_some (Some x) y at e = inl e
 
-pub valued-ok : (n : Net) (b b' : Box) (proof : Proof) (j : Judge) (x : Shown) → b ≡ b' → IsInOrder n b proof → shown x ≡ shown_by n b proof → IsValuedAs n b' proof j j.fault (Some x)
+pub valued-ok : (n : Net) (b b' : Box) (proof : Proof) (j : Judge) (x : Shown) → b ≡ b' → IsInOrder n b proof → shown_value x ≡ shown_by n b proof → IsValuedAs n b' proof j j.fault (Some x)
 valued-ok n b b' proof j x e is shows = record {
   clean = λ none. (none, ap Some (shows ∙ ap (λ a. shown_by n a proof) e), subst (λ a. IsInOrder n a proof) e is);
   faulty = λ at f. inl f;
@@ -58,6 +58,6 @@ pub judged-none : (n : Net) (b : Box) (proof : Option Proof) (before after : Jud
 judged-none n b proof before after entry e nothing longer same = record {
   entry = entry;
   longer = longer;
-  clean = λ none. (sym same ∙ none, ap (option_map shown) nothing ∙ sym (ap (option_map (shown_by n b)) e), λ q has. absurd (none-some q (sym e ∙ has)));
+  clean = λ none. (sym same ∙ none, ap (option_map shown_value) nothing ∙ sym (ap (option_map (shown_by n b)) e), λ q has. absurd (none-some q (sym e ∙ has)));
   faulty = λ at f. inl (sym same ∙ f);
 }

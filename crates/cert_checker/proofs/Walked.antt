@@ -4,13 +4,12 @@ use Rattle.pool_model.specs.Network.{Net, IsLimited}
 use Rattle.row_model.specs.Boxes.{root}
 use Rattle.row_model.specs.Trees.{Split, split_at, nodes, box_of, IsSplitInOrder}
 use Rattle.row_model.proofs.TreeLaw.{box_is}
-use Rattle.box_space.specs.Views.{ends_of}
+use Rattle.box_space.specs.Views.{shown_box_ends, AreEndsOf}
 use Rattle.box_space.specs.declared.boxes.BoxEnds.{BoxEnds}
 use Rattle.row_book.specs.Fitting.{Fits}
 use Rattle.cert_format.specs.Cert.{NodeProof}
 use Rattle.cert_format.specs.Valid.{proof_of}
 use Rattle.cert_checker.specs.declared.judge.Judge.{Judge}
-use Rattle.box_space.specs.Views.{AreEndsOf}
 use Rattle.cert_checker.specs.Holding.{AreMarks, AreHeld, AreSplitHalves, holding}
 use Rattle.cert_checker.specs.Judging.{IsNext, IsJudgedBy, AreJudged}
 use Rattle.cert_checker.specs.Trees.{tree_with, AreInOrder}
@@ -28,12 +27,12 @@ pub record IsWalked (n : Net) (splits : List Split) (lines : List NodeProof) (t 
 
 -- one node more is judged
 pub judged-node : (n : Net) (splits : List Split) (lines : List NodeProof) (m : ℕ) (ends : BoxEnds) (before after : Judge) → IsLimited n → AreJudged n (tree_with splits lines) m before → AreEndsOf n (box_of n splits m) ends
-    → IsJudgedBy n (ends_of ends) (proof_of lines (length before.shown.items)) before after → AreJudged n (tree_with splits lines) (m + 1) after
+    → IsJudgedBy n (shown_box_ends ends) (proof_of lines (length before.shown.items)) before after → AreJudged n (tree_with splits lines) (m + 1) after
 judged-node n splits lines m ends before after limited is at step =
-    judged-more n (tree_with splits lines) limited m (ends_of ends) at.agree before after is (subst (λ k. IsJudgedBy n (ends_of ends) (proof_of lines k) before after) is.long step)
+    judged-more n (tree_with splits lines) limited m (shown_box_ends ends) at.agree before after is (subst (λ k. IsJudgedBy n (shown_box_ends ends) (proof_of lines k) before after) is.long step)
 
 pub walked-start : (n : Net) (splits : List Split) (lines : List NodeProof) (marks : List Bool) (boxes : List (Option BoxEnds)) (b : BoxEnds) (first j : Judge) → IsLimited n → AreMarks splits marks → length boxes ≡ nodes splits
-    → ((node : ℕ) → get_or boxes node None ≡ None) → AreEndsOf n (root n) b → length first.shown.items ≡ 0 → first.fault ≡ None → IsJudgedBy n (ends_of b) (proof_of lines (length first.shown.items)) first j
+    → ((node : ℕ) → get_or boxes node None ≡ None) → AreEndsOf n (root n) b → length first.shown.items ≡ 0 → first.fault ≡ None → IsJudgedBy n (shown_box_ends b) (proof_of lines (length first.shown.items)) first j
     → IsNext lines (length first.shown.items + 1) j.next → Fits n j.scratch → IsWalked n splits lines 0 (holding marks 0 b boxes) j
 walked-start n splits lines marks boxes b first j limited is long none ends empty clean step next fits = record {
   before = λ i h. absurd (omega arith);
@@ -51,7 +50,7 @@ thrice t = omega arith
 
 pub walked-next : (n : Net) (splits : List Split) (lines : List NodeProof) (t : ℕ) (marks : List Bool) (boxes : List (Option BoxEnds)) (left right : BoxEnds) (old middle j : Judge) → IsLimited n → t < length splits → AreMarks splits marks
     → IsWalked n splits lines t boxes old → IsSplitInOrder n splits t → AreSplitHalves n splits t left right
-    → IsJudgedBy n (ends_of left) (proof_of lines (length old.shown.items)) old middle → IsJudgedBy n (ends_of right) (proof_of lines (length middle.shown.items)) middle j
+    → IsJudgedBy n (shown_box_ends left) (proof_of lines (length old.shown.items)) old middle → IsJudgedBy n (shown_box_ends right) (proof_of lines (length middle.shown.items)) middle j
     → IsNext lines (length middle.shown.items + 1) j.next → Fits n j.scratch → IsWalked n splits lines (t + 1) (after_split marks t (split_at splits t).leaf left right boxes) j
 walked-next n splits lines t marks boxes left right old middle j limited h is walked order halves first second next fits =
     let one = judged-node n splits lines (2 * t + 1) left old middle limited walked.judged halves.on_left first in

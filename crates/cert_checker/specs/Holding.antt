@@ -3,7 +3,7 @@ use Rattle.std.specs.Prelude.{◌≡◌, ◌≢◌, ℕ, ◌<◌, List, length, 
 use Rattle.pool_model.specs.Network.{Net}
 use Rattle.row_model.specs.Boxes.{coords}
 use Rattle.row_model.specs.Trees.{Split, left_node, right_node, nodes, is_cut, IsLeaf, box_of, box_after}
-use Rattle.box_space.specs.Views.{ends_of, AreEndsOf}
+use Rattle.box_space.specs.Views.{shown_box_ends, AreEndsOf}
 use Rattle.box_space.specs.declared.boxes.BoxEnds.{BoxEnds}
 
 -- for each node whether some split cuts it
@@ -30,5 +30,5 @@ pub record AreSplitHalves (n : Net) (splits : List Split) (t : ℕ) (left right 
 -- a split names a coordinate, and a cut that is strictly inside a box
 pub record IsInside (n : Net) (b : BoxEnds) (s : Split) : Type 0 where
   pub coord : s.coord < coords n
-  pub low : (ends_of b).low s.coord <ℤ s.cut
-  pub high : s.cut <ℤ (ends_of b).high s.coord
+  pub low : (shown_box_ends b).low s.coord <ℤ s.cut
+  pub high : s.cut <ℤ (shown_box_ends b).high s.coord

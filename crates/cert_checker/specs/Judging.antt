@@ -6,7 +6,7 @@ use Rattle.row_model.specs.Boxes.{Box}
 use Rattle.row_model.specs.Multipliers.{Proof, IsInOrder, shown_by}
 use Rattle.row_model.specs.Trees.{Tree, own}
 use Rattle.row_book.specs.Faults.{IsFirstFault}
-use Rattle.row_book.specs.Results.{shown}
+use Rattle.row_book.specs.Views.{shown_value}
 use Rattle.row_book.specs.declared.fault.ProofFault.{ProofFault}
 use Rattle.row_book.specs.declared.shown.Shown.{Shown}
 use Rattle.cert_format.specs.Cert.{NodeProof}
@@ -34,14 +34,14 @@ pub record HasFault (n : Net) (b : Box) (proof : Option Proof) (fault : ProofFau
 
 -- A proof is valued in a box: what it shows, or its first fault, which is kept if it is the first.
 pub record IsValuedAs (n : Net) (b : Box) (proof : Proof) (before : Judge) (fault : Option Fault) (entry : Option Shown) : Type 0 where
-  pub clean : fault ≡ None → (before.fault ≡ None) × (option_map shown entry ≡ Some (shown_by n b proof)) × IsInOrder n b proof
+  pub clean : fault ≡ None → (before.fault ≡ None) × (option_map shown_value entry ≡ Some (shown_by n b proof)) × IsInOrder n b proof
   pub faulty : (at : Fault) → fault ≡ Some at → (before.fault ≡ Some at) ⊎ ((before.fault ≡ None) × (at.0 ≡ length before.shown.items) × IsFirstFault n b proof at.1)
 
 -- One box more is judged, by its proof if it has one: what it shows is added, or its fault is kept, if it is the first.
 pub record IsJudgedBy (n : Net) (b : Box) (proof : Option Proof) (before after : Judge) : Type 0 where
   pub entry : Option Shown
   pub longer : after.shown.items ≡ before.shown.items ++ (entry ∷ [])
-  pub clean : after.fault ≡ None → (before.fault ≡ None) × (option_map shown entry ≡ option_map (shown_by n b) proof) × ForSome proof (IsInOrder n b)
+  pub clean : after.fault ≡ None → (before.fault ≡ None) × (option_map shown_value entry ≡ option_map (shown_by n b) proof) × ForSome proof (IsInOrder n b)
   pub faulty : (at : Fault) → after.fault ≡ Some at → (before.fault ≡ Some at) ⊎ ((before.fault ≡ None) × (at.0 ≡ length before.shown.items) × HasFault n b proof at.1)
 
 -- the refusal for a fault that is kept
@@ -53,7 +53,7 @@ pub record IsKeptFault (fault : Option Fault) (r : Refusal) : Type 0 where
 -- what each node's proof shows
 pub record AreOwn (n : Net) (tree : Tree) (list : List (Option Shown)) (m : ℕ) : Type 0 where
   pub long : length list ≡ m
-  pub own_is : (node : ℕ) → node < m → option_map shown (get_or list node None) ≡ own n tree node
+  pub own_is : (node : ℕ) → node < m → option_map shown_value (get_or list node None) ≡ own n tree node
 
 -- The proofs of the first nodes are judged: what they show, or the first that is not in order.
 pub record AreJudged (n : Net) (tree : Tree) (m : ℕ) (j : Judge) : Type 0 where

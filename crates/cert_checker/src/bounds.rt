@@ -5,8 +5,8 @@ ghost use Rattle.pool_model.specs.Network.{net_of};
 ghost use Rattle.pool_model.specs.Starting.{lesser as lesser_lem, least_below, reach_bound};
 ghost use Rattle.row_model.specs.Multipliers.{Proof};
 ghost use Rattle.row_model.specs.Trees.{nodes, raised as raised_lem};
-ghost use Rattle.row_book.specs.Results.{shown as shown_lem};
-ghost use Rattle.box_space.specs.Shown.{shown_split};
+ghost use Rattle.row_book.specs.Views.{shown_value as shown_lem};
+ghost use Rattle.box_space.specs.Views.{shown_split};
 ghost use Rattle.cert_checker.specs.Judging.{AreOwn};
 ghost use Rattle.cert_checker.specs.Trees.{AreSplits, AreBounds};
 

@@ -2,8 +2,7 @@
 
 ghost use Rattle.std.specs.Prelude.{◌≡◌, ◌<◌, ◌^◌, ◌+◌, ℕ, length, map, IfOk, IfErr, IsTrue, ◌↔◌};
 ghost use Rattle.pool_model.specs.Network.{net_of};
-ghost use Rattle.box_space.specs.Views.{AreEnds, ends_of};
-ghost use Rattle.box_space.specs.Shown.{shown_proof};
+ghost use Rattle.box_space.specs.Views.{AreEnds, shown_box_ends, shown_proof};
 ghost use Rattle.cert_format.specs.Shown.{shown_node_proof};
 ghost use Rattle.cert_format.specs.Valid.{proof_of, IsRising};
 ghost use Rattle.row_book.specs.Fitting.{Fits};
@@ -47,7 +46,7 @@ impl Judge {
         requires ends { AreEnds (net_of net.now) ends.now }
         requires fits { Fits (net_of net.now) self.old.scratch }
         requires few { length self.old.shown.items < 2 ^ 32 }
-        ensures judged { IfOk result (λ _. IsJudgedBy (net_of net.now) (ends_of ends.now) (proof_of (map shown_node_proof lines.now) (length self.old.shown.items)) self.old self.new) }
+        ensures judged { IfOk result (λ _. IsJudgedBy (net_of net.now) (shown_box_ends ends.now) (proof_of (map shown_node_proof lines.now) (length self.old.shown.items)) self.old self.new) }
         ensures next { IfOk result (λ _. IsNext (map shown_node_proof lines.now) (length self.old.shown.items + 1) self.new.next) }
         ensures fits { IfOk result (λ _. Fits (net_of net.now) self.new.scratch) }
     {
@@ -79,7 +78,7 @@ impl Judge {
         requires ends { AreEnds (net_of net.now) ends.now }
         requires fits { Fits (net_of net.now) self.old.scratch }
         requires few { length self.old.shown.items < 2 ^ 32 }
-        ensures valued { IsValuedAs (net_of net.now) (ends_of ends.now) (shown_proof proof.now) self.old self.new.fault result }
+        ensures valued { IsValuedAs (net_of net.now) (shown_box_ends ends.now) (shown_proof proof.now) self.old self.new.fault result }
         ensures shown { self.new.shown ≡ self.old.shown }
         ensures next { self.new.next ≡ self.old.next }
         ensures fits { Fits (net_of net.now) self.new.scratch }

@@ -3,8 +3,7 @@
 ghost use Rattle.std.specs.Prelude.{◌≡◌, ◌<◌, ◌≤◌, ℕ, length, get_or, map, slice_set, pos, IfOk, IfSome, IfNone, true, false};
 ghost use Rattle.pool_model.specs.Network.{net_of};
 ghost use Rattle.row_model.specs.Trees.{IsSplitInOrder, nodes};
-ghost use Rattle.box_space.specs.Shown.{shown_split};
-ghost use Rattle.box_space.specs.Views.{AreEnds};
+ghost use Rattle.box_space.specs.Views.{shown_split, AreEnds};
 ghost use Rattle.cert_checker.specs.Holding.{AreMarks, AreHeld, AreSplitHalves, IsInside, holding};
 ghost use Rattle.cert_checker.specs.Trees.{AreInOrder};
 

@@ -4,7 +4,7 @@ ghost use Rattle.std.specs.Prelude.{◌≡◌, ◌<◌, ◌≤◌, ◌*◌, ◌^
 ghost use Rattle.pool_model.specs.Network.{net_of, IsLimited};
 ghost use Rattle.pool_model.specs.Starting.{reach_bound};
 ghost use Rattle.row_model.specs.Trees.{nodes};
-ghost use Rattle.box_space.specs.Shown.{shown_split};
+ghost use Rattle.box_space.specs.Views.{shown_split};
 ghost use Rattle.cert_format.specs.Shown.{shown_node_proof};
 ghost use Rattle.cert_checker.specs.Holding.{AreMarks};
 ghost use Rattle.cert_checker.specs.Trees.{ArePlaced, IsBoundOf, IsTreeRefusal, IsWalkRefusal, IsSplitRefusal, AreSplits, tree_with};

@@ -8,7 +8,7 @@ use Rattle.std.proofs.lemmas.List.Folds.{flat_map-map}
 use Rattle.edge_io.specs.Writing.{behind, TookFront}
 use Rattle.edge_io.proofs.Writes.{front-list}
 use Rattle.row_model.specs.Multipliers.{Part}
-use Rattle.box_space.specs.Shown.{shown_part}
+use Rattle.box_space.specs.Views.{shown_part}
 use Rattle.cert_format.specs.declared.certificate.NodeProof.{NodeProof}
 use Rattle.cert_format.specs.Shown.{shown_node_proof}
 use Rattle.cert_format.specs.Text.{field, line, part_fields, proof_line}

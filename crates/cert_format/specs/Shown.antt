@@ -2,7 +2,7 @@
 use Rattle.std.specs.Prelude.{map}
 use Rattle.pool_model.specs.Claim.{Claimed, with_gap, with_bound, no_plan}
 use Rattle.plan_core.specs.Shown.{written_of}
-use Rattle.box_space.specs.Shown.{shown_split, shown_proof}
+use Rattle.box_space.specs.Views.{shown_split, shown_proof}
 use Rattle.cert_format.specs.declared.certificate as declared
 use Rattle.cert_format.specs.declared.certificate.Claim.{Claim}
 use Rattle.cert_format.specs.declared.certificate.Claim.TheVariants as claims

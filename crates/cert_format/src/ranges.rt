@@ -3,7 +3,7 @@
 
 ghost use Rattle.std.specs.Prelude.{◌<◌, ◌^◌, All};
 ghost use Rattle.plan_core.specs.Shown.{written_of};
-ghost use Rattle.box_space.specs.Shown.{shown_part, shown_split};
+ghost use Rattle.box_space.specs.Views.{shown_part, shown_split};
 ghost use Rattle.cert_format.specs.Cert.{IsShaped, IsPlanInRange, IsClaimInRange, IsSplitInRange, IsPartInRange, IsProofInRange, IsCert};
 ghost use Rattle.cert_format.specs.Shown.{claimed, shown_node_proof, view};
 

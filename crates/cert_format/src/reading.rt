@@ -1,7 +1,7 @@
 //! A certificate, read from left to right, line by line.
 
 ghost use Rattle.std.specs.Prelude.{◌≡◌, ◌-◌, ◌^◌, length, get_or, codes, map, IfOk, IfErr, List, ℕ};
-ghost use Rattle.box_space.specs.Shown.{shown_part, shown_split};
+ghost use Rattle.box_space.specs.Views.{shown_part, shown_split};
 ghost use Rattle.plan_core.specs.Shown.{written_of};
 ghost use Rattle.cert_text.specs.Reading.{Gives, finished, whole, each_at};
 ghost use Rattle.cert_format.specs.Answers.{IsReadAs, IsTextFault, Yields, Closes, Comes};

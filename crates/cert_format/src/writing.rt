@@ -2,7 +2,7 @@
 
 ghost use Rattle.std.specs.Prelude.{[], ◌∷◌, ◌++◌, map, codes, OnErr};
 ghost use Rattle.std.specs.List.{flat_map};
-ghost use Rattle.box_space.specs.Shown.{shown_part, shown_split};
+ghost use Rattle.box_space.specs.Views.{shown_part, shown_split};
 ghost use Rattle.edge_io.specs.Counts.{Grows, Rose};
 ghost use Rattle.edge_io.specs.Writing.{Wrote};
 ghost use Rattle.plan_core.specs.Shown.{written_of};

@@ -27,7 +27,7 @@ accepted_line verdicts.NoPlan = codes "accepted none\n"
 abbrev pub refused_line : Refusal → List ℕ
 refused_line (refusals.Text fault) = numbered (codes "refused text ") (pos fault.line)
 refused_line refusals.Shape = codes "refused shape\n"
-refused_line (refusals.Plan fault) = numbered (codes "refused plan ") (pos (plans.rule fault))
+refused_line (refusals.Plan fault) = numbered (codes "refused plan ") (pos (plans.number fault))
 refused_line (refusals.Split t) = numbered (codes "refused split ") (pos t)
 refused_line (refusals.ProofPlace k) = numbered (codes "refused place ") (pos k)
 refused_line (refusals.Proof node fault) = labelled (codes "refused proof ") (pos node) ++ numbered (codes " ") (pos (proofs.place fault))

@@ -111,7 +111,7 @@ fn write_labelled<K: Sink>(word: &[u8], n: i128, out: &mut K) -> Result<(), Writ
 
 /// The number of a rule that a plan breaks.
 fn rule(fault: &PlanFault) -> u64
-    ensures { result ≡ plans.rule fault.now }
+    ensures { result ≡ plans.number fault.now }
 {
     match fault {
         PlanFault::Shape => 1,

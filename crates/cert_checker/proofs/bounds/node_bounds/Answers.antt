@@ -2,8 +2,8 @@ use Rattle.std.proofs.Common.{◌≡◌, ◌<◌, ◌+◌, ◌*◌, ◌++◌, �
 use Rattle.std.proofs.lemmas.List.{length-map, get_or_default}
 use Rattle.pool_model.specs.Network.{net_of}
 use Rattle.row_model.specs.Trees.{raised, bound_after}
-use Rattle.row_book.specs.Results.{shown}
-use Rattle.box_space.specs.Shown.{shown_split}
+use Rattle.row_book.specs.Views.{shown_value}
+use Rattle.box_space.specs.Views.{shown_split}
 use Rattle.cert_checker.proofs.Splitting.{split-is, leaf-there}
 use Rattle.cert_checker.proofs.Raising.{bounds-next}
 use Rattle.cert_checker.proofs.bounds.node_bounds.Goals as goal
@@ -21,8 +21,8 @@ two_more bounds left right t e = omega (arith, length-append (bounds ++ (left �
 pub loop-t-preserved : goal.loop-t-preserved
 loop-t-preserved c =
     let a : c.index-above.result.now ≡ get_or c.loop-t.bounds.items (get_or c.args.splits.now c.loop-t.t record { leaf = 0; coord = 0; cut = pos 0 }).leaf c.index-above.result.now = c.index-above.ensures in
-    let b : c.raised-in-loop-t.result ≡ raised c.index-above.result.now (option_map shown (get_or c.args.shown.now (2 * c.loop-t.t + 1) None)) = c.raised-in-loop-t.ensures in
-    let d : c.raised-in-loop-t-2.result ≡ raised c.index-above.result.now (option_map shown (get_or c.args.shown.now (2 * c.loop-t.t + 2) None)) = c.raised-in-loop-t-2.ensures in
+    let b : c.raised-in-loop-t.result ≡ raised c.index-above.result.now (option_map shown_value (get_or c.args.shown.now (2 * c.loop-t.t + 1) None)) = c.raised-in-loop-t.ensures in
+    let d : c.raised-in-loop-t-2.result ≡ raised c.index-above.result.now (option_map shown_value (get_or c.args.shown.now (2 * c.loop-t.t + 2) None)) = c.raised-in-loop-t-2.ensures in
     let e = c.in_ok-push-2.ensures.items in
     let f = c.in_ok-push-3.ensures.items in
     let t = c.loop-t.t in

@@ -2,7 +2,7 @@
 use Rattle.std.proofs.Common.{map, subst}
 use Rattle.std.proofs.lemmas.Result.{MatchResult-weaker, err_from_is_err_and}
 use Rattle.pool_model.specs.Network.{net_of}
-use Rattle.box_space.specs.Shown.{shown_split}
+use Rattle.box_space.specs.Views.{shown_split}
 use Rattle.cert_format.specs.Shown.{shown_node_proof, view}
 use Rattle.cert_checker.specs.Trees.{IsBoundOf, IsTreeRefusal}
 use Rattle.cert_checker.proofs.Order.{tree-refused, claim-refused, valid-is}

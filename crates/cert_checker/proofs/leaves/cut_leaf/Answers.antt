@@ -4,8 +4,7 @@ use Rattle.std.specs.Int.{w64}
 use Rattle.std.proofs.lemmas.List.{length-map}
 use Rattle.pool_model.specs.Network.{Net, net_of}
 use Rattle.row_model.specs.Trees.{Split, split_at, IsLeaf, box_after}
-use Rattle.box_space.specs.Shown.{shown_split}
-use Rattle.box_space.specs.Views.{AreHalves, AreEndsOf}
+use Rattle.box_space.specs.Views.{shown_split, AreHalves, AreEndsOf}
 use Rattle.box_space.specs.declared.boxes.BoxEnds.{BoxEnds}
 use Rattle.cert_checker.specs.Holding.{AreHeld, IsInside}
 use Rattle.cert_checker.proofs.Splitting.{split-is}

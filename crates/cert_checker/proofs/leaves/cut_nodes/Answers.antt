@@ -4,7 +4,7 @@ use Rattle.std.proofs.lemmas.List.{length-map, length-set}
 use Rattle.std.proofs.Math.ListN.{set}
 use Rattle.row_model.specs.Trees.{is_cut}
 use Rattle.box_space.specs.declared.coordinates.Split.{Split}
-use Rattle.box_space.specs.Shown.{shown_split}
+use Rattle.box_space.specs.Views.{shown_split}
 use Rattle.cert_checker.proofs.Splitting.{split-is}
 use Rattle.cert_checker.proofs.Held.{mark-more, mark-kept}
 use Rattle.cert_checker.proofs.leaves.cut_nodes.Goals as goal

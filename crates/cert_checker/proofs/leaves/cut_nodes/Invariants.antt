@@ -1,6 +1,6 @@
 use Rattle.std.proofs.Common.{◌≡◌, ℕ, ◌+◌, ◌*◌, ◌<◌, length, get_or, map, take, false}
 use Rattle.row_model.specs.Trees.{is_cut}
-use Rattle.box_space.specs.Shown.{shown_split}
+use Rattle.box_space.specs.Views.{shown_split}
 use Rattle.cert_checker.proofs.leaves.cut_nodes.Given as goal
 
 -- the nodes that the splits so far cut are marked

@@ -2,7 +2,7 @@
 use Rattle.std.proofs.Common.{length, map, sym, ap, subst, ◌∙◌}
 use Rattle.pool_model.specs.Network.{net_of}
 use Rattle.row_model.specs.Trees.{nodes}
-use Rattle.box_space.specs.Shown.{shown_split}
+use Rattle.box_space.specs.Views.{shown_split}
 use Rattle.cert_format.specs.Shown.{shown_node_proof}
 use Rattle.cert_format.specs.Valid.{proof_of}
 use Rattle.cert_checker.specs.Holding.{AreMarks}

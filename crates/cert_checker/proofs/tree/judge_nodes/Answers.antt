@@ -7,9 +7,8 @@ use Rattle.pool_model.specs.Network.{net_of}
 use Rattle.row_model.specs.Boxes.{root}
 use Rattle.row_model.specs.Trees.{nodes, IsSplitInOrder}
 use Rattle.box_space.specs.declared.boxes.BoxEnds.{BoxEnds}
-use Rattle.box_space.specs.Shown.{shown_split}
+use Rattle.box_space.specs.Views.{shown_split, AreEndsOf}
 use Rattle.cert_format.specs.Shown.{shown_node_proof}
-use Rattle.box_space.specs.Views.{AreEndsOf}
 use Rattle.cert_checker.specs.Holding.{AreSplitHalves, holding}
 use Rattle.cert_checker.specs.Judging.{AreJudged}
 use Rattle.cert_checker.specs.Trees.{AreInOrder, tree_with}

@@ -1,6 +1,6 @@
 use Rattle.std.proofs.Common.{map}
 use Rattle.pool_model.specs.Network.{net_of}
-use Rattle.box_space.specs.Shown.{shown_split}
+use Rattle.box_space.specs.Views.{shown_split}
 use Rattle.cert_format.specs.Shown.{shown_node_proof}
 use Rattle.cert_checker.proofs.Walked.{IsWalked}
 use Rattle.cert_checker.proofs.tree.judge_nodes.Given as goal

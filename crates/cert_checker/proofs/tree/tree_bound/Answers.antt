@@ -4,7 +4,7 @@ use Rattle.std.proofs.lemmas.List.{length-map, length-take-le}
 use Rattle.std.proofs.lemmas.Result.{MatchResult-weaker, err_from_is_err_and}
 use Rattle.pool_model.specs.Network.{net_of}
 use Rattle.row_model.specs.Trees.{nodes}
-use Rattle.box_space.specs.Shown.{shown_split}
+use Rattle.box_space.specs.Views.{shown_split}
 use Rattle.cert_format.specs.Shown.{shown_node_proof}
 use Rattle.cert_checker.specs.Refusals.{IsPlaced}
 use Rattle.cert_checker.specs.Trees.{IsBoundOf, IsWalkRefusal}

@@ -1,5 +1,5 @@
 use Rattle.std.proofs.Common.{All, take}
-use Rattle.box_space.specs.Shown.{shown_part}
+use Rattle.box_space.specs.Views.{shown_part}
 use Rattle.cert_format.specs.Cert.{IsPartInRange}
 use Rattle.cert_format.proofs.ranges.parts.Given as goal
 

@@ -1,6 +1,6 @@
 use Rattle.std.proofs.Common.{All, subst, rules}
 use Rattle.std.proofs.lemmas.List.Elements.{All-map}
-use Rattle.box_space.specs.Shown.{shown_part}
+use Rattle.box_space.specs.Views.{shown_part}
 use Rattle.cert_format.specs.Cert.{IsPartInRange}
 use Rattle.cert_format.proofs.ranges.proof.Goals as goal
 

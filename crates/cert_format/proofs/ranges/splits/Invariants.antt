@@ -1,5 +1,5 @@
 use Rattle.std.proofs.Common.{All, take}
-use Rattle.box_space.specs.Shown.{shown_split}
+use Rattle.box_space.specs.Views.{shown_split}
 use Rattle.cert_format.specs.Cert.{IsSplitInRange}
 use Rattle.cert_format.proofs.ranges.splits.Given as goal
 

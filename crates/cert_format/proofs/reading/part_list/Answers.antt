@@ -1,6 +1,6 @@
 use Rattle.std.proofs.Common.{◌≡◌, ℕ, ◌+◌, ◌-◌, map, arith, sym, ap, subst, ◌∙◌}
 use Rattle.std.proofs.lemmas.Result.{err_from_is_err_and}
-use Rattle.box_space.specs.Shown.{shown_part}
+use Rattle.box_space.specs.Views.{shown_part}
 use Rattle.cert_text.specs.Reading.{each_at, Stops}
 use Rattle.cert_text.proofs.Each.{each-push, each-stops, each-end}
 use Rattle.cert_format.specs.Reading.{part_at}

@@ -1,5 +1,5 @@
 use Rattle.std.proofs.Common.{◌≡◌, ◌-◌, map}
-use Rattle.box_space.specs.Shown.{shown_part}
+use Rattle.box_space.specs.Views.{shown_part}
 use Rattle.cert_text.specs.Reading.{each_at}
 use Rattle.cert_text.proofs.Each.{with_front}
 use Rattle.cert_format.specs.Reading.{part_at}

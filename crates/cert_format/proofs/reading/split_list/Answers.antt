@@ -1,6 +1,6 @@
 use Rattle.std.proofs.Common.{map}
 use Rattle.std.proofs.lemmas.Result.{err_from_is_err_and}
-use Rattle.box_space.specs.Shown.{shown_split}
+use Rattle.box_space.specs.Views.{shown_split}
 use Rattle.cert_text.specs.Reading.{each_at}
 use Rattle.cert_text.proofs.Each.{each-push, each-stops, each-end}
 use Rattle.cert_format.specs.Reading.{split_line_at}

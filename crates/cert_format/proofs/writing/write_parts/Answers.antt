@@ -2,7 +2,7 @@ use Rattle.std.proofs.Common.{ℕ, List, map, sym, ap, subst, ◌∙◌}
 use Rattle.std.proofs.lemmas.List.{take_all}
 use Rattle.std.proofs.lemmas.Result.{err_from_is_err_and}
 use Rattle.edge_io.specs.Writing.{behind, TookFront}
-use Rattle.box_space.specs.Shown.{shown_part}
+use Rattle.box_space.specs.Views.{shown_part}
 use Rattle.cert_format.specs.Text.{field, part_fields}
 use Rattle.cert_format.proofs.Lines.{part_text, front-shown, all-shown, flat_map-flat_map}
 use Rattle.cert_format.proofs.writing.write_parts.Goals as goal

@@ -2,7 +2,7 @@ use Rattle.std.proofs.Common.{◌≡◌, take}
 use Rattle.std.specs.List.{flat_map}
 use Rattle.edge_io.specs.Counts.{Grows}
 use Rattle.edge_io.specs.Writing.{behind}
-use Rattle.box_space.specs.Shown.{shown_part}
+use Rattle.box_space.specs.Views.{shown_part}
 use Rattle.cert_format.proofs.Lines.{part_text}
 use Rattle.cert_format.proofs.writing.write_parts.Given as goal
 

@@ -2,7 +2,7 @@ use Rattle.std.proofs.Common.{[], ◌++◌, map}
 use Rattle.std.specs.Prelude.{codes}
 use Rattle.std.proofs.lemmas.Result.{err_from_is_err_and}
 use Rattle.edge_io.proofs.Writes.{front-first, front-second, front-third, wrote-four}
-use Rattle.box_space.specs.Shown.{shown_split}
+use Rattle.box_space.specs.Views.{shown_split}
 use Rattle.cert_format.specs.Shown.{claimed, shown_node_proof}
 use Rattle.cert_format.specs.Text.{line, split_lines, proof_lines, number_lines}
 use Rattle.cert_format.proofs.writing.write_rest.Goals as goal

@@ -1,6 +1,6 @@
 use Rattle.std.proofs.lemmas.List.{take_all}
 use Rattle.std.proofs.lemmas.Result.{err_from_is_err_and}
-use Rattle.box_space.specs.Shown.{shown_split}
+use Rattle.box_space.specs.Views.{shown_split}
 use Rattle.cert_format.specs.Text.{split_line}
 use Rattle.cert_format.proofs.Lines.{front-shown, all-shown}
 use Rattle.cert_format.proofs.writing.write_split_list.Goals as goal

@@ -5,8 +5,8 @@ use Rattle.row_model.specs.Boxes.{left_of, right_of}
 use Rattle.row_model.specs.Multipliers.{Shown, shown_by, IsInOrder}
 use Rattle.row_model.specs.Trees.{raised, box_of}
 use Rattle.row_model.specs.Entries.{split_of, IsSplitEntryInOrder}
-use Rattle.box_space.specs.Shown.{shown_proof, shown_split}
-use Rattle.row_book.specs.Results.{shown}
+use Rattle.box_space.specs.Views.{shown_proof, shown_split}
+use Rattle.row_book.specs.Views.{shown_value}
 use Rattle.std.specs.Option.{ForSome}
 use Rattle.box_tree.specs.EntryFaults.{IsBadProof}
 use Rattle.box_tree.specs.Kept.{Kept, searched_of}
@@ -53,7 +53,7 @@ returns-clause-taken c =
     let right_half = right_of (box_of n k.splits s.leaf) s.coord s.cut in
     let kept = c.in_ok-left_shown.ensures.kept in
     let right_order = subst (λ (z : Kept). ForSome right (IsInOrder n (right_of (box_of n z.splits s.leaf) s.coord s.cut))) kept c.in_ok-right_shown.ensures.in_order in
-    let right_shows = subst (λ (z : Kept). option_map shown c.in_ok-right_shown.right_shown ≡ option_map (shown_by n (right_of (box_of n z.splits s.leaf) s.coord s.cut)) right) kept c.in_ok-right_shown.ensures.shown in
+    let right_shows = subst (λ (z : Kept). option_map shown_value c.in_ok-right_shown.right_shown ≡ option_map (shown_by n (right_of (box_of n z.splits s.leaf) s.coord s.cut)) right) kept c.in_ok-right_shown.ensures.shown in
     let order : IsSplitEntryInOrder n (searched_of k) s left right = record {
       cuts = cut.cuts;
       few = cut.few;
@@ -63,9 +63,9 @@ returns-clause-taken c =
     let above : c.node_bound-above.result ≡ get_or k.bounds s.leaf None = c.node_bound-above.ensures.kept ∙ ap (λ (z : Kept). get_or z.bounds s.leaf None) same in
     let raise = λ (o : Option Shown). ap (λ (b : Option ℤ). raised b o) above in
     let left_is : c.raised.result ≡ raised (get_or k.bounds s.leaf None) (option_map (shown_by n left_half) left) =
-    c.raised.ensures ∙ raise (option_map shown c.in_ok-left_shown.left_shown) ∙ ap (λ (o : Option Shown). raised (get_or k.bounds s.leaf None) o) c.in_ok-left_shown.ensures.shown in
+    c.raised.ensures ∙ raise (option_map shown_value c.in_ok-left_shown.left_shown) ∙ ap (λ (o : Option Shown). raised (get_or k.bounds s.leaf None) o) c.in_ok-left_shown.ensures.shown in
     let right_is : c.raised-2.result ≡ raised (get_or k.bounds s.leaf None) (option_map (shown_by n right_half) right) =
-    c.raised-2.ensures ∙ raise (option_map shown c.in_ok-right_shown.right_shown) ∙ ap (λ (o : Option Shown). raised (get_or k.bounds s.leaf None) o) right_shows in
+    c.raised-2.ensures ∙ raise (option_map shown_value c.in_ok-right_shown.right_shown) ∙ ap (λ (o : Option Shown). raised (get_or k.bounds s.leaf None) o) right_shows in
     taken-now n (split_of s left right) k (grown k s c.in_ok-span.span left right c.raised.result c.raised-2.result) c.grow.new.self.kept
     (c.in_ok-grow.ensures.grown ∙ ap (λ (z : Kept). grown z s c.in_ok-span.span left right c.raised.result c.raised-2.result) same)
     (split-taken n k s c.in_ok-span.span left right c.raised.result c.raised-2.result c.requires.kept order cut.span left_is right_is)

@@ -3,8 +3,7 @@ use Rattle.std.proofs.Common.{arith, ◌≡◌, ◌≢◌, ◌<◌, ◌+◌, ℕ
 use Rattle.std.specs.Prelude.{IsTrue, ◌↔◌}
 use Rattle.std.proofs.lemmas.List.{get_or-map, length-map}
 use Rattle.pool_model.specs.Network.{net_of}
-use Rattle.box_space.specs.Shown.{shown_proof}
-use Rattle.box_space.specs.Views.{ends_of}
+use Rattle.box_space.specs.Views.{shown_proof, shown_box_ends}
 use Rattle.cert_format.specs.Shown.{shown_node_proof}
 use Rattle.cert_format.specs.Valid.{proof_of, no_proof}
 use Rattle.cert_checker.specs.Refusals.{node_at}
@@ -32,12 +31,12 @@ returns-clause-judged c =
           let v = w.value-shown.ensures in
           let is = named-some lines node c.args.self.now.next c.requires.rising (omega (arith, length-map c.args.lines.now shown_node_proof, named.0)) (named.1 ∙ long)
           ∙ ap (λ q. Some q.proof) (get_or-map shown_node_proof c.args.lines.now c.args.self.now.next w.index-lines-self.result no_proof named.0) in
-          judged-some (net_of c.args.net.now) (ends_of c.args.ends.now) (proof_of lines node) (shown_proof (get_or c.args.lines.now c.args.self.now.next w.index-lines-self.result).proof)
+          judged-some (net_of c.args.net.now) (shown_box_ends c.args.ends.now) (proof_of lines node) (shown_proof (get_or c.args.lines.now c.args.self.now.next w.index-lines-self.result).proof)
           c.args.self.now _ _ w.value-shown.new.self.fault w.value-shown.result is v.valued refl refl
           (p ∙ (λ i. (w.self-is i).shown.items ++ ((w.shown-is i) ∷ [])) ∙ ap (λ s. s.items ++ (w.value-shown.result ∷ [])) v.shown) (ap (λ s. s.fault) w.self-is)
       | else-names w ↦
           let other = not_named c.names.result c.args.self.now.next c.len.result (node_at lines c.args.self.now.next) (length c.args.lines.now) c.names.ensures w.if-names.false in
-          judged-none (net_of c.args.net.now) (ends_of c.args.ends.now) (proof_of lines node) c.args.self.now _ c.if-names.shown
+          judged-none (net_of c.args.net.now) (shown_box_ends c.args.ends.now) (proof_of lines node) c.args.self.now _ c.if-names.shown
           (unnamed-none lines node c.args.self.now.next c.requires.rising c.requires.next (λ lt e. other (omega (arith, length-map c.args.lines.now shown_node_proof, lt)) (e ∙ sym long))) w.shown-is
           (p ∙ ap (λ s. s.shown.items ++ (c.if-names.shown ∷ [])) w.self-is) (ap (λ s. s.fault) w.self-is)
     ]
