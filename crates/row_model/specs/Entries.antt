@@ -5,7 +5,7 @@ use Rattle.pool_model.specs.Network.{Net}
 use Rattle.pool_model.specs.Plan.{Obeys, cost_of, CostsLess, Written, plan_of, IsWritten}
 use Rattle.row_model.specs.Boxes.{root, left_of, right_of}
 use Rattle.row_model.specs.Multipliers.{Proof, IsInOrder}
-use Rattle.row_model.specs.Trees.{Split, left_node, right_node, is_cut, CutsLeaf, box_of, Tree, IsTree}
+use Rattle.row_model.specs.Trees.{Split, left_node, right_node, most_splits, is_cut, CutsLeaf, box_of, Tree, IsTree}
 
 -- a proof on the root; a split with proofs on its halves, where there are some; a plan
 pub data Entry : Type 0 where
@@ -47,7 +47,7 @@ pub record IsRootInOrder (n : Net) (s : Searched) (proof : Proof) : Type 0 where
 -- are in order in their boxes.
 pub record IsSplitEntryInOrder (n : Net) (s : Searched) (split : Split) (left right : Option Proof) : Type 0 where
   pub cuts : CutsLeaf n s.tree.splits (box_of n s.tree.splits split.leaf) split
-  pub few : length s.tree.splits < 20000
+  pub few : length s.tree.splits < most_splits
   pub left_proof : ForSome left (IsInOrder n (left_of (box_of n s.tree.splits split.leaf) split.coord split.cut))
   pub right_proof : ForSome right (IsInOrder n (right_of (box_of n s.tree.splits split.leaf) split.coord split.cut))
 

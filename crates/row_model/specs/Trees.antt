@@ -38,6 +38,10 @@ right_node t = 2 * t + 2
 abbrev pub nodes : List Split → ℕ
 nodes splits = 2 * length splits + 1
 
+-- the greatest number of splits
+abbrev pub most_splits : ℕ
+most_splits = 20000
+
 -- a split cuts the node
 abbrev pub is_cut : List Split → ℕ → Bool
 is_cut splits node = list_any (λ s. s.leaf == node) splits
@@ -76,7 +80,7 @@ IsSplitInOrder n splits t = CutsLeaf n (take t splits) (box_after n splits t (sp
 
 -- each split is in order, there are no more than there may be, and each proof is a node's and in order in its box
 pub record IsTree (n : Net) (tree : Tree) : Type 0 where
-  pub few : length tree.splits ≤ 20000
+  pub few : length tree.splits ≤ most_splits
   pub splits : (t : ℕ) → t < length tree.splits → IsSplitInOrder n tree.splits t
   pub placed : (node : ℕ) (proof : Proof) → tree.proof node ≡ Some proof → node < nodes tree.splits
   pub proofs : (node : ℕ) (proof : Proof) → tree.proof node ≡ Some proof → IsInOrder n (box_of n tree.splits node) proof

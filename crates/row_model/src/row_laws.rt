@@ -4,7 +4,7 @@
 ghost use Rattle.std.specs.Prelude.{◌≡◌, ◌<◌, ◌+ℤ◌, ◌*ℤ◌, ◌≤ℤ◌, pos, ℕ, ℤ};
 ghost use Rattle.pool_model.specs.Network.{IsLimited, Net};
 ghost use Rattle.pool_model.specs.Plan.{Obeys, Plan};
-ghost use Rattle.row_model.specs.Boxes.{Box, IsProper, LiesIn};
+ghost use Rattle.row_model.specs.Boxes.{Box, LiesIn};
 ghost use Rattle.row_model.specs.Catalogue.{row_at, rows};
 ghost use Rattle.row_model.specs.Envelopes.{Ends, side};
 ghost use Rattle.row_model.specs.Lift.{HoldsAt};
@@ -23,5 +23,5 @@ pub fn envelope_law()
 /// Every row of the catalogue holds at the point of every plan that obeys and lies in the box: over any denominator, and with
 /// pools that send nothing.
 pub fn row_law()
-    ensures holds { (n : Net) (b : Box) (p : Plan) (id : ℕ) → IsLimited n → IsProper n b → Obeys n p → LiesIn n p b → id < rows n → HoldsAt n p (row_at n b id) }
+    ensures holds { (n : Net) (b : Box) (p : Plan) (id : ℕ) → IsLimited n → Obeys n p → LiesIn n p b → id < rows n → HoldsAt n p (row_at n b id) }
 {}
