@@ -1,0 +1,4 @@
+-- Lemmas behind the contracts.
+pub mod Innermost
+pub mod Spans
+pub mod Pushed

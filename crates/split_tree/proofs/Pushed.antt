@@ -1,0 +1,57 @@
+-- A split that may come next, and the first fault of one that may not.
+use Rattle.std.proofs.Common.{◌≡◌, ℕ, ◌<◌, ◌≤◌, List, [], ◌∷◌, ◌++◌, length, None, arith, length-append}
+use Rattle.std.proofs.lemmas.Option.{none-some}
+use Rattle.pool_model.specs.Network.{Net}
+use Rattle.row_model.specs.Boxes.{coords}
+use Rattle.row_model.specs.Trees.{Split, most_splits, IsLeaf, CutsLeaf, box_of}
+use Rattle.row_model.specs.Entries.{split_of, Searched}
+use Rattle.row_model.proofs.EntryLaw.{length-more, searched-kept}
+use Rattle.split_tree.specs.declared.fault.SplitFault.{SplitFault}
+use Rattle.split_tree.specs.declared.fault.SplitFault.TheVariants.{NotALeaf, BadCoord, CutOutside, TooManySplits}
+use Rattle.split_tree.specs.declared.span.Span.{Span}
+use Rattle.split_tree.specs.Faults.{IsInside, Holds, number, IsFirstFault}
+use Rattle.split_tree.specs.Spans.{IsSpanOf}
+use Rattle.split_tree.specs.Splits.{Splits, with_split, tree_of, IsOf}
+use Rattle.split_tree.proofs.Innermost.{tree-of, leaf_there}
+use Rattle.split_tree.proofs.Spans.{spans-more}
+
+pub pushed-of : (n : Net) (t : Splits) (split : Split) (span : Span) → IsOf n t → length t.list < most_splits → CutsLeaf n t.list (box_of n t.list split.leaf) split
+    → IsSpanOf (box_of n t.list split.leaf) split.coord span → IsOf n (with_split t split span)
+pushed-of n t split span is few cuts ends =
+    let before : Searched = record { tree = tree_of t.list; best = None } in
+    let after = searched-kept n before (split_of split None None) record { tree = tree-of n t is; written = λ w e. absurd (none-some w e); obeys = λ w e. absurd (none-some w e) }
+    record { cuts = cuts; few = few; left_proof = λ proof e. absurd (none-some proof e); right_proof = λ proof e. absurd (none-some proof e) } in
+    let more = length-more t.list split in
+    record {
+      few = after.tree.few;
+      in_order = after.tree.splits;
+      spanned = spanned_more t.list t.spans is.spanned;
+      spans = λ i h. spans-more n t split span is cuts.leaf.there (λ i lt. leaf_there n (tree_of t.list) i (tree-of n t is) lt) ends i (omega (arith, h, more));
+    }
+  where
+    spanned_more : (list : List Split) (spans : List Span) → length spans ≡ length list → length (spans ++ span ∷ []) ≡ length (list ++ split ∷ [])
+    spanned_more list spans e = omega (arith, length-append spans (span ∷ []), length-append list (split ∷ []), e)
+
+-- ---- faults
+
+-- what is known of a split of which the first faults are ruled out
+pub record IsClear (n : Net) (splits : List Split) (s : Split) (count : ℕ) : Type 0 where
+  pub leaf : 1 < count → IsLeaf splits s.leaf
+  pub coord : 2 < count → s.coord < coords n
+  pub inside : 3 < count → IsInside (box_of n splits s.leaf) s
+  pub end : count ≤ 4
+
+first : (n : Net) (splits : List Split) (s : Split) (fault : SplitFault) → Holds n splits s fault → IsClear n splits s (number fault) → IsFirstFault n splits s fault
+first n splits s fault h is = record { holds = h; first = none (number fault) is }
+  where
+    none : (count : ℕ) → IsClear n splits s count → (earlier : SplitFault) → number earlier < count → ¬ Holds n splits s earlier
+    none count is NotALeaf lt has = has (is.leaf lt)
+    none count is BadCoord lt has = let coord = is.coord lt in omega (arith, coord, has)
+    none count is CutOutside lt has = has (is.inside lt)
+    none count is TooManySplits lt has = omega (arith, is.end, lt)
+
+pub not-inside : (n : Net) (splits : List Split) (s : Split) → IsLeaf splits s.leaf → s.coord < coords n → ¬ IsInside (box_of n splits s.leaf) s → IsFirstFault n splits s CutOutside
+not-inside n splits s leaf coord h = first n splits s CutOutside h record { leaf = λ lt. leaf; coord = λ lt. coord; inside = λ lt. absurd (omega arith); end = omega arith }
+
+pub too-many : (n : Net) (splits : List Split) (s : Split) → IsLeaf splits s.leaf → s.coord < coords n → IsInside (box_of n splits s.leaf) s → most_splits ≤ length splits → IsFirstFault n splits s TooManySplits
+too-many n splits s leaf coord inside h = first n splits s TooManySplits h record { leaf = λ lt. leaf; coord = λ lt. coord; inside = λ lt. inside; end = omega arith }

@@ -1,0 +1,23 @@
+//! A list of splits that cut a network's box of all plans into smaller and smaller ones.
+//!
+//! Node 0 is the root, the box of all plans. Split number t, from 0, cuts a leaf into the nodes 2t + 1, left, and 2t + 2, right.
+//! [`SplitTree::judge`] says whether a split may come next, or why not; [`SplitTree::push`] adds it. [`SplitTree::box_of`] is the
+//! box of any node, [`SplitTree::half_box`] that of a half before the split is added. Trees of splits are defined in `row_model`;
+//! `specs/Splits.antt` says when one is a network's, `specs/Faults.antt` when a split is refused.
+//!
+//! A step up goes from a node to the one that was cut. To judge a split takes the steps up to the innermost split on its coordinate,
+//! or to the root: one in a chain on one coordinate, and in a deep tree on many coordinates as many as its depth. The box of a
+//! node takes all the steps up to the root, and memory for the box. Nothing here recurses.
+//!
+//! Bounds, proofs and plans are left to the crates above.
+#![tactic(auto)]
+
+mod boxes;
+mod fault;
+mod judging;
+mod span;
+mod splits;
+
+pub use fault::SplitFault;
+pub use span::{Side, Span};
+pub use splits::{MAX_SPLITS, SplitTree};
