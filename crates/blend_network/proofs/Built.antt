@@ -5,16 +5,15 @@ use Rattle.std.proofs.lemmas.List.{length-map, get_or-map}
 use Rattle.std.proofs.lemmas.Int.{ints}
 use Rattle.pool_model.specs.Rows.{Rows, IsRectangular}
 use Rattle.pool_model.specs.Naming.{source_names, pool_names, product_names, source_of, pool_of, product_of, stand_in, network_of}
-use Rattle.pool_model.specs.Network.{Source, Pool, Product, Network, net_of, IsWithin, no_source, no_pool, no_product}
+use Rattle.pool_model.specs.Network.{Source, Pool, Product, Network, net_of, IsWithin, IsLimited, no_source, no_pool, no_product}
 use Rattle.blend_network.specs.Faults.{row_count, row_limit, IsUpTo, no_source_row, no_pool_row, no_product_row}
 use Rattle.blend_network.specs.Checks.{IsChecked}
 use Rattle.blend_network.specs.Shown.{shown_path, IsBuilt}
-use Rattle.blend_network.specs.Meeting.{IsIndexOf}
+use Rattle.blend_network.specs.Keys.{IsIndexOf}
 use Rattle.blend_network.specs.Limits.{AreLimitsOf}
 use Rattle.blend_network.specs.declared.network.Kind.{Kind}
 use Rattle.blend_network.specs.declared.network.Kind.TheVariants as kind
 use Rattle.blend_network.specs.declared.network.arcs.Arcs.{Arcs}
-use Rattle.blend_network.specs.declared.network.index.Index.{Index}
 use Rattle.blend_network.specs.declared.network.limits.Limits.{Limits}
 use Rattle.blend_network.proofs.Joined.{arcs-between, few_arcs, one_of}
 
@@ -36,11 +35,10 @@ amount_within size z h = omega (arith, ints, h.0, h.1)
 amounts_in_order : (a b : ℤ) → pos 0 ≤ℤ a → a ≤ℤ b → unsigned_abs a ≤ unsigned_abs b
 amounts_in_order a b h k = omega (arith, ints)
 
-pub built : (r : Rows) (arcs : Arcs) → IsRectangular r → IsChecked r arcs → IsUpTo (10 ^ 14) (stand_in r) → (index : Index) → IsIndexOf (net_of (network_of r)) index
-    → (limits : Limits) → AreLimitsOf (net_of (network_of r)) limits → IsBuilt (network_of r) (map shown_path arcs.paths.items) index limits
+-- the network is within the limits
+pub limited : (r : Rows) (arcs : Arcs) → IsRectangular r → IsChecked r arcs → IsUpTo (10 ^ 14) (stand_in r) → IsLimited (net_of (network_of r))
 unfolding net_of
-built r arcs rect checked up index is_index limits are_set =
-    let st = stand_in r in
+limited r arcs rect checked up =
     let here_s : (i : ℕ) → i < length (map (source_of (stand_in r)) r.sources) → i < length r.sources = λ i h. omega (arith, length-map r.sources (source_of (stand_in r)), h) in
     let here_l : (l : ℕ) → l < length (map (pool_of (stand_in r)) r.pools) → l < length r.pools = λ l h. omega (arith, length-map r.pools (pool_of (stand_in r)), h) in
     let here_p : (j : ℕ) → j < length (map product_of r.products) → j < length r.products = λ j h. omega (arith, length-map r.products product_of, h) in
@@ -61,42 +59,52 @@ built r arcs rect checked up index is_index limits are_set =
     let few : (kind : Kind) → row_count r kind ≤ row_limit kind = λ kind. omega (arith, checked.faultless.counts kind) in
     let sums = few_arcs r (record { sources = checked.faultless.distinct kind.Source; pools = checked.faultless.distinct kind.Pool; products = checked.faultless.distinct kind.Product }) in
     record {
+      sources = omega (arith, ls, few kind.Source);
+      pools = omega (arith, ll, few kind.Pool);
+      products = omega (arith, lp, few kind.Product);
+      qualities = omega (arith, few kind.Quality);
+      feeds = omega (arith, sums, few kind.Arc);
+      outs = omega (arith, sums, few kind.Arc);
+      directs = omega (arith, sums, few kind.Arc);
+      arcs = omega (arith, sums, few kind.Arc);
+      feed_sources = λ e h. omega (arith, (arcs-between (source_names r) (pool_names r) r e h).from, ls, ns);
+      feed_pools = λ e h. omega (arith, (arcs-between (source_names r) (pool_names r) r e h).to, ll, nl);
+      out_pools = λ e h. omega (arith, (arcs-between (pool_names r) (product_names r) r e h).from, ll, nl);
+      out_products = λ e h. omega (arith, (arcs-between (pool_names r) (product_names r) r e h).to, lp, np);
+      direct_sources = λ e h. omega (arith, (arcs-between (source_names r) (product_names r) r e h).from, ls, ns);
+      direct_products = λ e h. omega (arith, (arcs-between (source_names r) (product_names r) r e h).to, lp, np);
+      source_costs = λ i h. subst (λ (s : Source). IsWithin (10 ^ 12) s.cost) (at_s i h) (s_in i h).cost;
+      source_maxima = λ i h. subst (λ (s : Source). s.max ≤ 10 ^ 14) (at_s i h) (supply_within (get_or r.sources i no_source_row).max (stand_in r) (s_in i h).max up);
+      source_qualities = λ i k h m. subst (λ (s : Source). IsWithin (10 ^ 11) (get_or s.quality k (pos 0))) (at_s i h)
+          ((s_in i h).quality k (pos 0) (omega (arith, rect.sources i no_source_row (here_s i h), m)));
+      pool_maxima = λ l h. subst (λ (p : Pool). p.max ≤ 10 ^ 14) (at_l l h) (supply_within (get_or r.pools l no_pool_row).max (stand_in r) (checked.ranges.pools l (here_l l h)).max up);
+      prices = λ j h. subst (λ (p : Product). IsWithin (10 ^ 12) p.price) (at_p j h) (p_in j h).price;
+      product_minima = λ j h. subst (λ (p : Product). p.min ≤ p.max) (at_p j h)
+          (amounts_in_order (get_or r.products j no_product_row).min (get_or r.products j no_product_row).max (p_in j h).min.0 (checked.ranges.orderly j (here_p j h)).amount);
+      product_maxima = λ j h. subst (λ (p : Product). p.max ≤ 10 ^ 12) (at_p j h) (amount_within (10 ^ 12) (get_or r.products j no_product_row).max (p_in j h).max);
+      least_limits = λ j k u h m is. (p_in j h).least k None (omega (arith, rect.least j no_product_row (here_p j h), m)) u (ap (λ (p : Product). get_or p.least k None) (at_p j h) ∙ is);
+      most_limits = λ j k u h m is. (p_in j h).most k None (omega (arith, rect.most j no_product_row (here_p j h), m)) u (ap (λ (p : Product). get_or p.most k None) (at_p j h) ∙ is);
+      limits_in_order = λ j k a b h m low high. (checked.ranges.orderly j (here_p j h)).limits k a b (ap (λ (p : Product). get_or p.least k None) (at_p j h) ∙ low) (ap (λ (p : Product). get_or p.most k None) (at_p j h) ∙ high);
+      fed = λ l h. one_of (λ a. a.to) l (network_of r).feeds (λ all. checked.faultless.inputs l (here_l l h, all));
+      drained = λ l h. one_of (λ a. a.from) l (network_of r).outs (λ all. checked.faultless.outputs l (here_l l h, all));
+    }
+
+-- the whole of what a network keeps
+pub built : (r : Rows) (arcs : Arcs) → IsRectangular r → IsChecked r arcs → IsLimited (net_of (network_of r)) → (index : List (List (List ℕ))) → IsIndexOf (net_of (network_of r)) index
+    → (limits : Limits) → AreLimitsOf (net_of (network_of r)) limits → IsBuilt (network_of r) (map shown_path arcs.paths.items) index limits
+unfolding net_of
+built r arcs rect checked limited index is_index limits are_set =
+    record {
       made = record { rows = r; rectangular = rect; faultless = checked.faultless; named = refl };
-      limited = record {
-        sources = omega (arith, ls, few kind.Source);
-        pools = omega (arith, ll, few kind.Pool);
-        products = omega (arith, lp, few kind.Product);
-        qualities = omega (arith, few kind.Quality);
-        feeds = omega (arith, sums, few kind.Arc);
-        outs = omega (arith, sums, few kind.Arc);
-        directs = omega (arith, sums, few kind.Arc);
-        arcs = omega (arith, sums, few kind.Arc);
-        feed_sources = λ e h. omega (arith, (arcs-between (source_names r) (pool_names r) r e h).from, ls, ns);
-        feed_pools = λ e h. omega (arith, (arcs-between (source_names r) (pool_names r) r e h).to, ll, nl);
-        out_pools = λ e h. omega (arith, (arcs-between (pool_names r) (product_names r) r e h).from, ll, nl);
-        out_products = λ e h. omega (arith, (arcs-between (pool_names r) (product_names r) r e h).to, lp, np);
-        direct_sources = λ e h. omega (arith, (arcs-between (source_names r) (product_names r) r e h).from, ls, ns);
-        direct_products = λ e h. omega (arith, (arcs-between (source_names r) (product_names r) r e h).to, lp, np);
-        source_costs = λ i h. subst (λ (s : Source). IsWithin (10 ^ 12) s.cost) (at_s i h) (s_in i h).cost;
-        source_maxima = λ i h. subst (λ (s : Source). s.max ≤ 10 ^ 14) (at_s i h) (supply_within (get_or r.sources i no_source_row).max (stand_in r) (s_in i h).max up);
-        source_qualities = λ i k h m. subst (λ (s : Source). IsWithin (10 ^ 11) (get_or s.quality k (pos 0))) (at_s i h)
-            ((s_in i h).quality k (pos 0) (omega (arith, rect.sources i no_source_row (here_s i h), m)));
-        pool_maxima = λ l h. subst (λ (p : Pool). p.max ≤ 10 ^ 14) (at_l l h) (supply_within (get_or r.pools l no_pool_row).max (stand_in r) (checked.ranges.pools l (here_l l h)).max up);
-        prices = λ j h. subst (λ (p : Product). IsWithin (10 ^ 12) p.price) (at_p j h) (p_in j h).price;
-        product_minima = λ j h. subst (λ (p : Product). p.min ≤ p.max) (at_p j h)
-            (amounts_in_order (get_or r.products j no_product_row).min (get_or r.products j no_product_row).max (p_in j h).min.0 (checked.ranges.orderly j (here_p j h)).amount);
-        product_maxima = λ j h. subst (λ (p : Product). p.max ≤ 10 ^ 12) (at_p j h) (amount_within (10 ^ 12) (get_or r.products j no_product_row).max (p_in j h).max);
-        least_limits = λ j k u h m is. (p_in j h).least k None (omega (arith, rect.least j no_product_row (here_p j h), m)) u (ap (λ (p : Product). get_or p.least k None) (at_p j h) ∙ is);
-        most_limits = λ j k u h m is. (p_in j h).most k None (omega (arith, rect.most j no_product_row (here_p j h), m)) u (ap (λ (p : Product). get_or p.most k None) (at_p j h) ∙ is);
-        limits_in_order = λ j k a b h m low high. (checked.ranges.orderly j (here_p j h)).limits k a b (ap (λ (p : Product). get_or p.least k None) (at_p j h) ∙ low) (ap (λ (p : Product). get_or p.most k None) (at_p j h) ∙ high);
-        fed = λ l h. one_of (λ a. a.to) l (network_of r).feeds (λ all. checked.faultless.inputs l (here_l l h, all));
-        drained = λ l h. one_of (λ a. a.from) l (network_of r).outs (λ all. checked.faultless.outputs l (here_l l h, all));
-      };
-      quality = λ i h. subst (λ (s : Source). length s.quality ≡ length r.qualities) (at_s i h) (rect.sources i no_source_row (here_s i h));
-      least = λ j h. subst (λ (p : Product). length p.least ≡ length r.qualities) (at_p j h) (rect.least j no_product_row (here_p j h));
-      most = λ j h. subst (λ (p : Product). length p.most ≡ length r.qualities) (at_p j h) (rect.most j no_product_row (here_p j h));
+      limited = limited;
+      quality = λ i h. let lt : i < length r.sources = omega (arith, length-map r.sources (source_of (stand_in r)), h) in
+          subst (λ (s : Source). length s.quality ≡ length r.qualities) (sym (get_or-map (source_of (stand_in r)) r.sources i no_source_row no_source lt)) (rect.sources i no_source_row lt);
+      least = λ j h. let lt : j < length r.products = omega (arith, length-map r.products product_of, h) in
+          subst (λ (p : Product). length p.least ≡ length r.qualities) (sym (get_or-map product_of r.products j no_product_row no_product lt)) (rect.least j no_product_row lt);
+      most = λ j h. let lt : j < length r.products = omega (arith, length-map r.products product_of, h) in
+          subst (λ (p : Product). length p.most ≡ length r.qualities) (sym (get_or-map product_of r.products j no_product_row no_product lt)) (rect.most j no_product_row lt);
       paths = checked.found.paths;
       few = omega (arith, ap length checked.found.paths, checked.faultless.paths);
-      meeting = is_index;
+      grouped = is_index;
       set = are_set;
     }

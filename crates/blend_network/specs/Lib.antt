@@ -1,6 +1,8 @@
 pub mod Parts
 pub mod Shown
-pub mod Meeting
+pub mod Counts
+pub mod Keys
+pub mod Kept
 pub mod Limits
 pub mod Kinds
 pub mod Faults

@@ -6,14 +6,13 @@ use Rattle.pool_model.specs.Paths as paths
 use Rattle.pool_model.specs.Paths.{paths_of}
 use Rattle.integers.specs.Numbers.{numbers_at}
 use Rattle.blend_network.specs.Made.{IsMade}
-use Rattle.blend_network.specs.Meeting.{IsIndexOf}
+use Rattle.blend_network.specs.Keys.{IsIndexOf}
 use Rattle.blend_network.specs.Limits.{AreLimitsOf}
 use Rattle.blend_network.specs.declared.network.Source.{Source}
 use Rattle.blend_network.specs.declared.network.Pool.{Pool}
 use Rattle.blend_network.specs.declared.network.Product.{Product}
 use Rattle.blend_network.specs.declared.network.Arc.{Arc}
 use Rattle.blend_network.specs.declared.network.Path.{Path}
-use Rattle.blend_network.specs.declared.network.index.Index.{Index}
 use Rattle.blend_network.specs.declared.network.limits.Limits.{Limits}
 
 abbrev pub shown_source : Source → model.Source
@@ -68,7 +67,7 @@ paths_behind outs feed pool count = map (λ o. record { feed = feed; out = o }) 
 
 -- Every network was made from rows, is within the limits, has one place per quality in each of its lists of qualities,
 -- and keeps its paths, its index and the limits that are set.
-pub record IsBuilt (n : model.Network) (kept : List paths.Path) (index : Index) (limits : Limits) : Type 0 where
+pub record IsBuilt (n : model.Network) (kept : List paths.Path) (index : List (List (List ℕ))) (limits : Limits) : Type 0 where
   pub made : IsMade n
   pub limited : IsLimited (net_of n)
   pub quality : (i : ℕ) → i < length n.sources → length (get_or n.sources i no_source).quality ≡ length n.qualities
@@ -76,5 +75,5 @@ pub record IsBuilt (n : model.Network) (kept : List paths.Path) (index : Index) 
   pub most : (j : ℕ) → j < length n.products → length (get_or n.products j no_product).most ≡ length n.qualities
   pub paths : kept ≡ paths_of (net_of n)
   pub few : length kept ≤ 512
-  pub meeting : IsIndexOf (net_of n) index
+  pub grouped : IsIndexOf (net_of n) index
   pub set : AreLimitsOf (net_of n) limits

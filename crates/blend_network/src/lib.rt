@@ -2,18 +2,23 @@
 //!
 //! A [`Network`] is made by [`Network::build`] from [`Parts`], the rows of a file. It is exactly what the rows say, with names
 //! looked up and absent maxima filled in, or the rows are refused. Contracts see a network as the record of lists
-//! `Network` of `pool_model`; its readers speak of `net_of` that record, where everything goes by number. `counts` also says
-//! that the network is within the limits, which bounds every number that a reader gives, and that it was made from rows
-//! with no reason to refuse them.
+//! `Network` of `pool_model`; its readers speak of `net_of` that record, where everything goes by number.
 //!
-//! A network keeps which arcs and paths meet each node, and which limits are set: [`Network::feeds_into`], [`Network::limits`] and
-//! their like answer them as slices, without a search.
+//! The layer above may use, beside `build`, without memory:
 //!
-//! [`Network::reach_bound`] is a bound on cost that margins alone give.
+//! - [`Network::sizes`]: how many there are of each kind, and that the network is within its limits, which bounds every number
+//!   that a reader gives; [`Network::counts`], that it was made from rows with no reason to refuse them, besides.
+//! - the numbers of a node ([`Network::source_cost`] and its like), and the two ends of an arc or a path, which are nodes that
+//!   are there ([`Network::feed`], [`Network::out`], [`Network::direct`], [`Network::path`], [`Network::path_ends`]).
+//! - [`Network::numbers_at`]: the arcs or paths that meet a node, by a [`Key`], without a search; [`Network::limit_at`]: the limits
+//!   that are set, one after another.
+//! - [`Network::reach_bound`]: a bound on cost that margins alone give.
 //!
 //! Where the rows come from, and what text they were, is left to the crates above.
 #![tactic(auto, unfolding(pool_model::specs::Network::net_of))]
 
+mod counts;
+mod keys;
 mod laws;
 mod limits;
 mod network;
@@ -21,7 +26,9 @@ mod parts;
 #[cfg(test)]
 mod tests;
 
+pub use counts::Counts;
+pub use keys::Key;
 pub use laws::canonical_law;
-pub use limits::{Bound, Limit};
+pub use limits::{Limit, LimitSide};
 pub use network::{Kind, NetFault, Network};
 pub use parts::{Parts, PoolRow, ProductRow, SourceRow};

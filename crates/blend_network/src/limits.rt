@@ -2,7 +2,7 @@
 
 /// Which limits.
 #[derive(Clone, Copy, Debug)]
-pub enum Bound {
+pub enum LimitSide {
     /// The most that a product may have of a quality.
     Most,
     /// The least that it may have.

@@ -1,22 +1,24 @@
 //! The network: the rows of a file with names looked up, numbers narrowed and absent maxima filled in.
 
-ghost use Rattle.std.specs.Prelude.{◌≡◌, ◌<◌, ◌≤◌, ◌*◌, ◌^◌, [], length, get_or, pos, ◌≤ℤ◌, neg_ℤ};
+ghost use Rattle.std.specs.Prelude.{◌≡◌, ◌<◌, ◌≤◌, ◌^◌, [], length, get_or, pos, unsigned_abs};
 ghost use Rattle.pool_model.specs.Network.{net_of, counts_of, IsLimited};
 ghost use Rattle.pool_model.specs.Paths.{paths_of, path_at};
 ghost use Rattle.pool_model.specs.Starting.{IsWay, through};
 ghost use Rattle.blend_network.specs.Made.{IsMade};
+ghost use Rattle.blend_network.specs.Counts.{AreCounts};
 ghost use Rattle.blend_network.specs.Kinds.{names_of};
 
-use self::index::Index;
 use self::limits::Limits;
+use crate::counts::Counts;
+use number_groups::Groups;
 use std::marker::Model;
 
 mod arcs;
 mod build;
 mod checks;
 mod index;
+mod keys;
 mod limits;
-mod meeting;
 mod names;
 mod narrow;
 mod paths;
@@ -90,7 +92,7 @@ pub struct Network {
     outs: Vec<Arc>,
     directs: Vec<Arc>,
     paths: Vec<Path>,
-    index: Box<Index>,
+    index: Vec<Groups>,
     limits: Limits,
 }
 
@@ -119,7 +121,7 @@ impl Model for Network {
       feeds = map shown_arc n.feeds.items;
       outs = map shown_arc n.outs.items;
       directs = map shown_arc n.directs.items;
-    } (map shown_path n.paths.items) n.index.value n.limits };
+    } (map shown_path n.paths.items) n.index.items n.limits };
 }
 
 impl Network {
@@ -140,10 +142,30 @@ impl Network {
         ]
     }
 
+    /// The same by name, and how many paths there are.
+    pub fn sizes(&self) -> Counts
+        ensures counts { AreCounts (net_of self.now) result }
+        ensures limited { IsLimited (net_of self.now) }
+        ensures paths { length (paths_of (net_of self.now)) ≤ 512 }
+    {
+        let [sources, pools, products, qualities, feeds, outs, directs] = self.counts();
+        Counts {
+            sources,
+            pools,
+            products,
+            qualities,
+            feeds,
+            outs,
+            directs,
+            paths: self.paths(),
+        }
+    }
+
     /// What a unit from the source costs, in millionths of money.
     pub fn source_cost(&self, n: u32) -> i64
         requires { n < (net_of self.now).sources }
-        ensures { result ≡ (net_of self.now).source_cost n }
+        ensures value { result ≡ (net_of self.now).source_cost n }
+        ensures size { unsigned_abs result ≤ 10 ^ 12 }
     {
         self.sources[n as usize].cost
     }
@@ -176,7 +198,8 @@ impl Network {
     /// What a unit of the product brings, in millionths of money.
     pub fn product_price(&self, n: u32) -> i64
         requires { n < (net_of self.now).products }
-        ensures { result ≡ (net_of self.now).price n }
+        ensures value { result ≡ (net_of self.now).price n }
+        ensures size { unsigned_abs result ≤ 10 ^ 12 }
     {
         self.products[n as usize].price
     }
@@ -192,7 +215,8 @@ impl Network {
     /// How much can flow into the product, in millionths.
     pub fn product_max(&self, n: u32) -> i64
         requires { n < (net_of self.now).products }
-        ensures { result ≡ pos ((net_of self.now).product_max n) }
+        ensures value { result ≡ pos ((net_of self.now).product_max n) }
+        ensures size { (net_of self.now).product_max n ≤ 10 ^ 12 }
     {
         self.products[n as usize].max as i64
     }
@@ -220,6 +244,8 @@ impl Network {
         requires { n < (net_of self.now).feeds }
         ensures source { result.0 ≡ (net_of self.now).feed_source n }
         ensures pool { result.1 ≡ (net_of self.now).feed_pool n }
+        ensures known_source { result.0 < (net_of self.now).sources }
+        ensures known_pool { result.1 < (net_of self.now).pools }
     {
         self.feeds[n as usize].ends()
     }
@@ -229,6 +255,8 @@ impl Network {
         requires { n < (net_of self.now).outs }
         ensures pool { result.0 ≡ (net_of self.now).out_pool n }
         ensures product { result.1 ≡ (net_of self.now).out_product n }
+        ensures known_pool { result.0 < (net_of self.now).pools }
+        ensures known_product { result.1 < (net_of self.now).products }
     {
         self.outs[n as usize].ends()
     }
@@ -238,6 +266,8 @@ impl Network {
         requires { n < (net_of self.now).directs }
         ensures source { result.0 ≡ (net_of self.now).direct_source n }
         ensures product { result.1 ≡ (net_of self.now).direct_product n }
+        ensures known_source { result.0 < (net_of self.now).sources }
+        ensures known_product { result.1 < (net_of self.now).products }
     {
         self.directs[n as usize].ends()
     }
@@ -256,8 +286,24 @@ impl Network {
         ensures feed { result.0 ≡ (path_at (net_of self.now) n).feed }
         ensures out { result.1 ≡ (path_at (net_of self.now) n).out }
         ensures way { IsWay (net_of self.now) (through result.0 result.1) }
+        ensures known_feed { result.0 < (net_of self.now).feeds }
+        ensures known_out { result.1 < (net_of self.now).outs }
     {
         self.paths[n as usize].arcs()
+    }
+
+    /// The source and the product of a path.
+    pub fn path_ends(&self, n: u32) -> (u32, u32)
+        requires { n < length (paths_of (net_of self.now)) }
+        ensures source { result.0 ≡ (net_of self.now).feed_source (path_at (net_of self.now) n).feed }
+        ensures product { result.1 ≡ (net_of self.now).out_product (path_at (net_of self.now) n).out }
+        ensures known_source { result.0 < (net_of self.now).sources }
+        ensures known_product { result.1 < (net_of self.now).products }
+    {
+        let (feed, out) = self.path(n);
+        let (source, _) = self.feed(feed);
+        let (_, product) = self.out(out);
+        (source, product)
     }
 
     /// The name of a source, a pool, a product or a quality. Arcs have none.

@@ -6,7 +6,7 @@ ghost use Rattle.pool_model.specs.Paths.{paths_of};
 ghost use Rattle.pool_model.specs.Rows.{IsRectangular};
 ghost use Rattle.blend_network.specs.Parts.{rows_of};
 
-use super::{Bound, Kind, NetFault, Network, Parts, PoolRow, ProductRow, SourceRow};
+use super::{Key, Kind, LimitSide, NetFault, Network, Parts, PoolRow, ProductRow, SourceRow};
 use std::alloc::{AllocError, Global};
 use std::test::Fail;
 
@@ -90,8 +90,8 @@ fn first_path(net: &Network) -> (u32, u32)
     net.path(0)
 }
 
-/// How many arcs and paths meet the first nodes, begin with the first feed and run along the first out.
-fn first_meetings(net: &Network) -> [usize; 9]
+/// How many arcs and paths have the first node of each key.
+fn first_numbers(net: &Network) -> [usize; 9]
     requires source { 0 < (net_of net.now).sources }
     requires pool { 0 < (net_of net.now).pools }
     requires product { 0 < (net_of net.now).products }
@@ -99,15 +99,15 @@ fn first_meetings(net: &Network) -> [usize; 9]
     requires out { 0 < (net_of net.now).outs }
 {
     [
-        net.feeds_from(0).len(),
-        net.feeds_into(0).len(),
-        net.outs_from(0).len(),
-        net.outs_into(0).len(),
-        net.directs_from(0).len(),
-        net.directs_into(0).len(),
-        net.paths_from(0).len(),
-        net.paths_along(0).len(),
-        net.paths_into(0).len(),
+        net.numbers_at(Key::FeedsFrom, 0).len(),
+        net.numbers_at(Key::FeedsInto, 0).len(),
+        net.numbers_at(Key::OutsFrom, 0).len(),
+        net.numbers_at(Key::OutsInto, 0).len(),
+        net.numbers_at(Key::DirectsFrom, 0).len(),
+        net.numbers_at(Key::DirectsInto, 0).len(),
+        net.numbers_at(Key::PathsFrom, 0).len(),
+        net.numbers_at(Key::PathsAlong, 0).len(),
+        net.numbers_at(Key::PathsInto, 0).len(),
     ]
 }
 
@@ -117,9 +117,9 @@ fn pools_and_paths_are_read_back(rt: HostRuntime) -> Result<(), Fail> {
     assert_eq!(rt; net.counts(), [1, 1, 1, 1, 1, 1, 0]);
     assert_eq!(rt; net.paths(), 1);
     assert_eq!(rt; first_path(&net), (0, 0));
-    assert_eq!(rt; first_meetings(&net), [1, 1, 1, 1, 0, 0, 1, 1, 1]);
-    assert_eq!(rt; net.limits(Bound::Most).len(), 1);
-    assert!(rt; net.limits(Bound::Least).is_empty());
+    assert_eq!(rt; first_numbers(&net), [1, 1, 1, 1, 0, 0, 1, 1, 1]);
+    assert_eq!(rt; net.count_limits(LimitSide::Most), 1);
+    assert_eq!(rt; net.count_limits(LimitSide::Least), 0);
     assert_eq!(rt; net.reach_bound(), -300_000_000_000_000);
     Ok(())
 }

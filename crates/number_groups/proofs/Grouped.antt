@@ -1,9 +1,9 @@
 -- The groups after one number more.
-use Rattle.std.proofs.Common.{◌≡◌, ℕ, ◌+◌, ◌<◌, inl, inr, List, [], ◌∷◌, ◌++◌, length, get_or, set, map, sym, ap, ◌∙◌, arith}
+use Rattle.std.proofs.Common.{◌≡◌, ℕ, zero, suc, ◌+◌, ◌<◌, ◌≤◌, inl, inr, Bool, true, false, ◌==◌, if◌then◌else◌, List, [], ◌∷◌, ◌++◌, length, get_or, set, map, All, sym, ap, ◌∙◌, arith, length-append}
 use Rattle.std.proofs.lemmas.List.{map-set, length-set, get_or-set_same, get_or-set_other, get_or-map, length-map}
-use Rattle.integers.specs.Numbers.{numbers_at}
+use Rattle.integers.specs.Numbers.{numbers_at, tabulate}
 use Rattle.integers.proofs.AtKey.{same_or_other}
-use Rattle.integers.proofs.Numbers.{numbers_at-yes, numbers_at-no, numbers_at-same}
+use Rattle.integers.proofs.Numbers.{numbers_at-each, numbers_at-yes, numbers_at-no, numbers_at-same}
 use Rattle.integers.proofs.Tabulate.{length-tabulate, get_or-tabulate, tabulate-same, same-tabulate}
 use Rattle.number_groups.specs.Groups.{groups_of}
 
@@ -41,3 +41,22 @@ group_at groups key n count k is lt = ap (λ gs. get_or gs k []) is ∙ get_or-t
 -- by keys that are the same below the count
 pub groups_of-same : (key other : ℕ → ℕ) (n count : ℕ) → ((i : ℕ) → i < n → key i ≡ other i) → groups_of key n count ≡ groups_of other n count
 groups_of-same key other n count same = tabulate-same (λ k. numbers_at key k n) (λ k. numbers_at other k n) count (λ k lt. numbers_at-same key other k n same)
+
+-- by keys that a list has in order
+pub groups_of-tabulate : (f : ℕ → ℕ) (n count : ℕ) (keys : List ℕ) → keys ≡ tabulate f n → groups_of (λ i. get_or keys i 0) (length keys) count ≡ groups_of f n count
+groups_of-tabulate f n count keys is =
+    ap (λ ks. groups_of (λ i. get_or ks i 0) (length ks) count) is
+    ∙ ap (λ l. groups_of (λ i. get_or (tabulate f n) i 0) l count) (length-tabulate f n)
+    ∙ groups_of-same (λ i. get_or (tabulate f n) i 0) f n count (λ i lt. get_or-tabulate f n i 0 lt)
+
+-- ---- what is known of the numbers of a key
+pub numbers_at-below : (key : ℕ → ℕ) (k n : ℕ) → All (λ i. i < n) (numbers_at key k n)
+numbers_at-below key k n i d lt = (numbers_at-each key k n i d lt).0
+
+pub numbers_at-few : (key : ℕ → ℕ) (k n : ℕ) → length (numbers_at key k n) ≤ n
+numbers_at-few key k zero = omega arith
+numbers_at-few key k (suc n) = omega (arith, numbers_at-few key k n, length-append (numbers_at key k n) (if key n == k then n ∷ [] else []), one (key n == k))
+  where
+    one : (b : Bool) → length (if b then n ∷ [] else []) ≤ 1
+    one true = omega arith
+    one false = omega arith

@@ -15,7 +15,7 @@ use super::index::index_of;
 use super::limits::{Limits, limits_from};
 use super::narrow::{pools_from, products_from, sources_from, stand_in};
 use super::{Kind, Network};
-use crate::limits::Bound;
+use crate::limits::LimitSide;
 use crate::parts::Parts;
 use std::alloc::{AllocError, AllocFailed, Global};
 
@@ -88,9 +88,8 @@ fn assembled(alloc: Global, parts: Parts, arcs: Arcs) -> Result<Network, AllocEr
     requires checked { IsChecked (rows_of parts) arcs }
     ensures { IfOk result (λ n. n ≡ network_of (rows_of parts)) }
 {
-    let groups = index_of(alloc, &parts, &arcs)?;
-    let index = Box::new(alloc, groups)?;
     let stand_in = stand_in(&parts.products);
+    let index = index_of(alloc, &parts, &arcs)?;
     let Parts {
         qualities,
         sources,
@@ -100,8 +99,8 @@ fn assembled(alloc: Global, parts: Parts, arcs: Arcs) -> Result<Network, AllocEr
     } = parts;
     let products = products_from(alloc, products)?;
     let limits = Limits {
-        most: limits_from(alloc, &products, Bound::Most)?,
-        least: limits_from(alloc, &products, Bound::Least)?,
+        most: limits_from(alloc, &products, LimitSide::Most)?,
+        least: limits_from(alloc, &products, LimitSide::Least)?,
     };
     Ok(Network {
         qualities,

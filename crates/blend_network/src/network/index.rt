@@ -1,110 +1,116 @@
-//! Which arcs and paths meet each node, and which paths run along each arc.
+//! The groups of arcs and paths by each key.
 
-ghost use Rattle.std.specs.Prelude.{◌≡◌, ◌<◌, ◌≤◌, map, length, get_or, IfOk, All};
+ghost use Rattle.std.specs.Prelude.{◌≡◌, ℕ, ◌<◌, ◌≤◌, length, IfOk, All};
 ghost use Rattle.number_groups.specs.Groups.{groups_of};
 ghost use Rattle.pool_model.specs.Naming.{network_of};
-ghost use Rattle.pool_model.specs.Network.{net_of, no_arc};
-ghost use Rattle.pool_model.specs.Paths.{no_path};
+ghost use Rattle.pool_model.specs.Network.{Net, net_of, IsLimited};
 ghost use Rattle.blend_network.specs.Parts.{rows_of};
 ghost use Rattle.blend_network.specs.Checks.{IsChecked};
-ghost use Rattle.blend_network.specs.Shown.{shown_arc, shown_path};
-ghost use Rattle.blend_network.specs.Meeting.{IsIndexOf};
+ghost use Rattle.blend_network.specs.Counts.{AreCounts};
+ghost use Rattle.blend_network.specs.Keys.{nodes_of, IsIndexOf};
+ghost use Rattle.blend_network.specs.Kept.{kept_key, kept_count, IsAlong};
 
 use super::arcs::Arcs;
-use super::{Arc, Path};
+use crate::counts::Counts;
+use crate::keys::{KEYS, Key};
 use crate::parts::Parts;
 use number_groups::Groups;
 use std::alloc::{AllocError, Global};
 
-/// The numbers of the arcs by their two nodes, and those of the paths by their feed, their out and their product.
-#[derive(Debug, Drop)]
-pub(super) struct Index {
-    pub(super) feeds_from: Groups,
-    pub(super) feeds_into: Groups,
-    pub(super) outs_from: Groups,
-    pub(super) outs_into: Groups,
-    pub(super) directs_from: Groups,
-    pub(super) directs_into: Groups,
-    pub(super) paths_from: Groups,
-    pub(super) paths_along: Groups,
-    pub(super) paths_into: Groups,
-}
-
-/// The index of the network of rows that passed the checks, from their arcs and paths.
-pub(super) fn index_of(alloc: Global, parts: &Parts, arcs: &Arcs) -> Result<Index, AllocError>
-    requires { IsChecked (rows_of parts.now) arcs.now }
-    ensures { IfOk result (IsIndexOf (net_of (network_of (rows_of parts.now)))) }
+/// The groups of the network of rows that passed the checks, from their arcs and paths: for each key in its order.
+pub(super) fn index_of(alloc: Global, parts: &Parts, arcs: &Arcs) -> Result<Vec<Groups>, AllocError>
+    requires checked { IsChecked (rows_of parts.now) arcs.now }
+    requires limited { IsLimited (net_of (network_of (rows_of parts.now))) }
+    ensures { IfOk result (λ v. IsIndexOf (net_of (network_of (rows_of parts.now))) v.items) }
 {
-    let sources = parts.sources.len() as u32;
-    let pools = parts.pools.len() as u32;
-    let products = parts.products.len() as u32;
-    let feeds = arcs.feeds.as_slice();
-    let outs = arcs.outs.as_slice();
-    let directs = arcs.directs.as_slice();
-    let paths = arcs.paths.as_slice();
-    Ok(Index {
-        feeds_from: by_from(alloc, feeds, sources)?,
-        feeds_into: by_to(alloc, feeds, pools)?,
-        outs_from: by_from(alloc, outs, pools)?,
-        outs_into: by_to(alloc, outs, products)?,
-        directs_from: by_from(alloc, directs, sources)?,
-        directs_into: by_to(alloc, directs, products)?,
-        paths_from: by_feed(alloc, paths, feeds.len() as u32)?,
-        paths_along: by_out(alloc, paths, outs.len() as u32)?,
-        paths_into: by_product(alloc, paths, outs, products)?,
-    })
+    let counts = counts_from(parts, arcs);
+    let mut index = Vec::new(alloc);
+    for key in KEYS {
+        index.push(grouped(alloc, arcs, key, counts.nodes(key))?)?;
+    }
+    Ok(index)
 }
 
-/// The arcs by the node at which they start.
-fn by_from(alloc: Global, arcs: &[Arc], count: u32) -> Result<Groups, AllocError>
-    requires known { All (λ a. a.from < count) arcs.now }
-    requires few { length arcs.now ≤ 512 }
-    ensures { IfOk result (λ g. g ≡ groups_of (λ e. (get_or (map shown_arc arcs.now) e no_arc).from) (length arcs.now) count) }
+/// How many there are of each kind.
+fn counts_from(parts: &Parts, arcs: &Arcs) -> Counts
+    requires checked { IsChecked (rows_of parts.now) arcs.now }
+    requires limited { IsLimited (net_of (network_of (rows_of parts.now))) }
+    ensures { AreCounts (net_of (network_of (rows_of parts.now))) result }
 {
-    let keys: Vec<u32> = arcs.iter().map(|arc| arc.from).collect(alloc)?;
-    Groups::by(alloc, &keys, count)
+    Counts {
+        sources: parts.sources.len() as u32,
+        pools: parts.pools.len() as u32,
+        products: parts.products.len() as u32,
+        qualities: parts.qualities.len() as u32,
+        feeds: arcs.feeds.len() as u32,
+        outs: arcs.outs.len() as u32,
+        directs: arcs.directs.len() as u32,
+        paths: arcs.paths.len() as u32,
+    }
 }
 
-/// The arcs by the node at which they end.
-fn by_to(alloc: Global, arcs: &[Arc], count: u32) -> Result<Groups, AllocError>
-    requires known { All (λ a. a.to < count) arcs.now }
-    requires few { length arcs.now ≤ 512 }
-    ensures { IfOk result (λ g. g ≡ groups_of (λ e. (get_or (map shown_arc arcs.now) e no_arc).to) (length arcs.now) count) }
-{
-    let keys: Vec<u32> = arcs.iter().map(|arc| arc.to).collect(alloc)?;
-    Groups::by(alloc, &keys, count)
+impl Counts {
+    /// How many nodes there are by the key.
+    fn nodes(self, key: Key) -> u32
+        ensures { (n : Net) → AreCounts n self → result ≡ nodes_of n key }
+    {
+        match key {
+            Key::FeedsFrom => self.sources,
+            Key::FeedsInto => self.pools,
+            Key::OutsFrom => self.pools,
+            Key::OutsInto => self.products,
+            Key::DirectsFrom => self.sources,
+            Key::DirectsInto => self.products,
+            Key::PathsFrom => self.feeds,
+            Key::PathsAlong => self.outs,
+            Key::PathsInto => self.products,
+        }
+    }
 }
 
-/// The paths by the feed with which they begin.
-fn by_feed(alloc: Global, paths: &[Path], count: u32) -> Result<Groups, AllocError>
-    requires known { All (λ p. p.feed < count) paths.now }
-    requires few { length paths.now ≤ 512 }
-    ensures { IfOk result (λ g. g ≡ groups_of (λ p. (get_or (map shown_path paths.now) p no_path).feed) (length paths.now) count) }
-{
-    let keys: Vec<u32> = paths.iter().map(|path| path.feed).collect(alloc)?;
-    Groups::by(alloc, &keys, count)
-}
-
-/// The paths by the out along which they run.
-fn by_out(alloc: Global, paths: &[Path], count: u32) -> Result<Groups, AllocError>
-    requires known { All (λ p. p.out < count) paths.now }
-    requires few { length paths.now ≤ 512 }
-    ensures { IfOk result (λ g. g ≡ groups_of (λ p. (get_or (map shown_path paths.now) p no_path).out) (length paths.now) count) }
-{
-    let keys: Vec<u32> = paths.iter().map(|path| path.out).collect(alloc)?;
-    Groups::by(alloc, &keys, count)
-}
-
-/// The paths by the product in which they end, along these outs.
-fn by_product(alloc: Global, paths: &[Path], outs: &[Arc], count: u32) -> Result<Groups, AllocError>
-    requires along { All (λ p. p.out < length outs.now) paths.now }
-    requires known { All (λ a. a.to < count) outs.now }
-    requires few { length paths.now ≤ 512 }
-    ensures { IfOk result (λ g. g ≡ groups_of (λ p. (get_or (map shown_arc outs.now) (get_or (map shown_path paths.now) p no_path).out no_arc).to) (length paths.now) count) }
+/// The numbers of the arcs or paths by their node.
+fn grouped(alloc: Global, arcs: &Arcs, key: Key, nodes: u32) -> Result<Groups, AllocError>
+    requires along { IsAlong arcs.now }
+    requires known { (i : ℕ) → i < kept_count arcs.now key → kept_key arcs.now key i < nodes }
+    requires few { kept_count arcs.now key ≤ 512 }
+    ensures { IfOk result (λ g. g ≡ groups_of (kept_key arcs.now key) (kept_count arcs.now key) nodes) }
 {
     let mut keys = Vec::new(alloc);
-    for path in paths {
-        keys.push(outs[path.out as usize].to)?;
+    for i in 0..arcs.count(key) {
+        keys.push(arcs.node(key, i))?;
     }
-    Groups::by(alloc, &keys, count)
+    Groups::by(alloc, &keys, nodes)
+}
+
+impl Arcs {
+    /// How many arcs or paths there are.
+    fn count(&self, key: Key) -> usize
+        ensures { result ≡ kept_count self.now key }
+    {
+        match key {
+            Key::FeedsFrom | Key::FeedsInto => self.feeds.len(),
+            Key::OutsFrom | Key::OutsInto => self.outs.len(),
+            Key::DirectsFrom | Key::DirectsInto => self.directs.len(),
+            Key::PathsFrom | Key::PathsAlong | Key::PathsInto => self.paths.len(),
+        }
+    }
+
+    /// The node of an arc or a path.
+    fn node(&self, key: Key, i: usize) -> u32
+        requires along { IsAlong self.now }
+        requires there { i < kept_count self.now key }
+        ensures { result ≡ kept_key self.now key i }
+    {
+        match key {
+            Key::FeedsFrom => self.feeds[i].from,
+            Key::FeedsInto => self.feeds[i].to,
+            Key::OutsFrom => self.outs[i].from,
+            Key::OutsInto => self.outs[i].to,
+            Key::DirectsFrom => self.directs[i].from,
+            Key::DirectsInto => self.directs[i].to,
+            Key::PathsFrom => self.paths[i].feed,
+            Key::PathsAlong => self.paths[i].out,
+            Key::PathsInto => self.outs[self.paths[i].out as usize].to,
+        }
+    }
 }

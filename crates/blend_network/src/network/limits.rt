@@ -1,12 +1,12 @@
 //! The limits on qualities that are set, from the products of a network.
 
 ghost use Rattle.std.specs.Prelude.{◌≡◌, ◌≤◌, ◌++◌, ℕ, None, map, length, get_or, IfOk, All};
-ghost use Rattle.pool_model.specs.Limits.{limits as limits_lem, product_limits};
+ghost use Rattle.pool_model.specs.Limits as model;
 ghost use Rattle.blend_network.specs.Limits.{shown_limit, limits_in, product_limit, kept_limits};
 ghost use Rattle.blend_network.specs.Shown.{shown_product};
 
 use super::Product;
-use crate::limits::{Bound, Limit};
+use crate::limits::{Limit, LimitSide};
 use std::alloc::{AllocError, Global};
 
 /// The limits that are set, by product and then by quality.
@@ -17,24 +17,24 @@ pub(super) struct Limits {
 }
 
 impl Limits {
-    pub(super) fn of(&self, bound: Bound) -> &[Limit]
-        ensures { result.now ≡ kept_limits self.now bound }
+    pub(super) fn of(&self, side: LimitSide) -> &[Limit]
+        ensures { result.now ≡ kept_limits self.now side }
     {
-        match bound {
-            Bound::Most => self.most.as_slice(),
-            Bound::Least => self.least.as_slice(),
+        match side {
+            LimitSide::Most => self.most.as_slice(),
+            LimitSide::Least => self.least.as_slice(),
         }
     }
 }
 
 impl Product {
     /// The limits of the kind, by quality.
-    fn limits(&self, bound: Bound) -> &[Option<i64>]
-        ensures { result.now ≡ limits_in (shown_product self.now) bound }
+    fn limits(&self, side: LimitSide) -> &[Option<i64>]
+        ensures { result.now ≡ limits_in (shown_product self.now) side }
     {
-        match bound {
-            Bound::Most => self.most.as_slice(),
-            Bound::Least => self.least.as_slice(),
+        match side {
+            LimitSide::Most => self.most.as_slice(),
+            LimitSide::Least => self.least.as_slice(),
         }
     }
 }
@@ -43,15 +43,15 @@ impl Product {
 pub(super) fn limits_from(
     alloc: Global,
     products: &[Product],
-    bound: Bound,
+    side: LimitSide,
 ) -> Result<Vec<Limit>, AllocError>
     requires few { length products.now ≤ 64 }
-    requires narrow { All (λ p. length (limits_in (shown_product p) bound) ≤ 8) products.now }
-    ensures { (qualities : ℕ) → All (λ p. length (limits_in (shown_product p) bound) ≡ qualities) products.now → IfOk result (λ v. map shown_limit v.items ≡ limits_lem (product_limit (map shown_product products.now) bound) (length products.now) qualities) }
+    requires narrow { All (λ p. length (limits_in (shown_product p) side) ≤ 8) products.now }
+    ensures { (qualities : ℕ) → All (λ p. length (limits_in (shown_product p) side) ≡ qualities) products.now → IfOk result (λ v. map shown_limit v.items ≡ model.limits (product_limit (map shown_product products.now) side) (length products.now) qualities) }
 {
     let mut limits = Vec::new(alloc);
     for product in 0..products.len() {
-        add_limits(&mut limits, product as u32, products[product].limits(bound))?;
+        add_limits(&mut limits, product as u32, products[product].limits(side))?;
     }
     Ok(limits)
 }
@@ -63,7 +63,7 @@ fn add_limits(
     values: &[Option<i64>],
 ) -> Result<(), AllocError>
     requires { length values.now ≤ 8 }
-    ensures { IfOk result (λ _. map shown_limit limits.new.items ≡ map shown_limit limits.old.items ++ product_limits (λ _ k. get_or values.now k None) (length values.now) product) }
+    ensures { IfOk result (λ _. map shown_limit limits.new.items ≡ map shown_limit limits.old.items ++ model.product_limits (λ _ k. get_or values.now k None) (length values.now) product) }
 {
     for quality in 0..values.len() {
         if let Some(limit) = values[quality] {

@@ -1,12 +1,10 @@
-use Rattle.std.proofs.Common.{◌≡◌, ◌+◌, ◌<◌, ℕ, length, subst, sym, ◌∙◌, ap, ℤ, pos, ◌+ℤ◌, ◌*ℤ◌, FitsSigned, w64, add-one, arith}
+use Rattle.std.proofs.Common.{◌≡◌, ◌+◌, ℕ, subst, sym, ◌∙◌, ap, ℤ, pos, ◌+ℤ◌, ◌*ℤ◌, FitsSigned, w64, add-one, arith}
 use Rattle.std.proofs.lemmas.Int.{ints, to_z-of_z}
-use Rattle.std.proofs.lemmas.List.{length-map}
 use mir.Syntax.{w128}
 use mir.Val.{to_z}
 use Rattle.integers.specs.Sums.{int_sum_below}
 use Rattle.pool_model.specs.Network.{Network, net_of, IsLimited}
 use Rattle.pool_model.specs.Starting.{reach_cost, margin}
-use Rattle.blend_network.specs.Shown.{shown_product}
 use Rattle.blend_network.proofs.Margins.{reach_cost-within}
 use Rattle.blend_network.proofs.network.Network.reach_bound.Goals as goal
 
@@ -16,13 +14,9 @@ best_margin-margin-requires-clause-cost c =
     λ x is. reach_cost-within (net_of c.args.self.now) c.loop-j.j limited x (sym c.reach_cost.ensures ∙ is)
 
 pub earnings-earned-requires-clause-flow : goal.earnings-earned-requires-clause-flow
-unfolding net_of
 earnings-earned-requires-clause-flow c =
-    let limited : IsLimited (net_of c.args.self.now) = subst (λ (n : Network). IsLimited (net_of n)) c.self.view_is c.self.invariant.limited in
-    let here : c.loop-j.j < length c.args.self.now.products
-    = omega (arith, ap (λ n. length n.products) c.self.view_is, length-map c.self.inside.products.items shown_product, c.loop-j-test.true, c.len-j-end.ensures) in
-    let within = limited.product_maxima c.loop-j.j here in
-    (omega (arith, ints, within, c.product_max.ensures), omega (arith, ints, within, c.product_max.ensures))
+    let max = c.product_max.ensures in
+    (omega (arith, ints, max.value), omega (arith, ints, max.value, max.size))
 
 -- one more product
 sum_more : (f : ℕ → ℤ) (j : ℕ) (total part : ℤ) → total ≡ int_sum_below f j → part ≡ f j → total +ℤ part ≡ int_sum_below f (j + 1)
@@ -41,5 +35,5 @@ loop-j-preserved c =
     let e2 = simp to_z-of_z at c.best_margin-margin.ensures.margin in
     let part : c.earnings-earned.result
     ≡ pos ((net_of c.args.self.now).product_max c.loop-j.j) *ℤ margin (reach_cost (net_of c.args.self.now) c.loop-j.j) ((net_of c.args.self.now).price c.loop-j.j)
-    = cc (e1, e2, c.product_max.ensures, c.reach_cost.ensures, c.product_price.ensures) in
+    = cc (e1, e2, c.product_max.ensures.value, c.reach_cost.ensures, c.product_price.ensures.value) in
     record { sum = simp to_z-of_z (sum_more _ c.loop-j.j _ _ c.loop-j.invariant.sum part); size = (omega (arith, ints, size, sofar), omega (arith, ints, size, sofar)) }
