@@ -1,10 +1,7 @@
 -- How long the lists of a network are, as its canonical value takes them.
-use Rattle.std.proofs.Common.{◌≡◌, ℕ, ◌<◌, length, get_or, arith}
-use Rattle.std.proofs.lemmas.List.{length-map}
+use Rattle.std.proofs.Common.{◌≡◌, ℕ, ◌<◌, length, get_or}
 use Rattle.pool_model.specs.Network.{Network, no_source, no_product}
 use Rattle.blend_network.specs.Made.{IsMade}
-use Rattle.blend_network.specs.Kinds.{names_of}
-use Rattle.blend_network.specs.declared.network.Kind.TheVariants as kind
 use Rattle.blend_network.specs.Canonical.{canonical_source, canonical_product}
 use Rattle.blend_network.proofs.CanonicalFaults.{canonical_rectangular, held}
 
@@ -16,13 +13,3 @@ least_each n made j h = held (λ p. length p.least ≡ length n.qualities) canon
 
 pub most_each : (n : Network) → IsMade n → (j : ℕ) → j < length n.products → length (get_or n.products j no_product).most ≡ length n.qualities
 most_each n made j h = held (λ p. length p.most ≡ length n.qualities) canonical_product n.products no_product (canonical_rectangular n made).most j h
-
--- as many names as rows
-pub source_named : (n : Network) (i : ℕ) → i < length n.sources → i < length (names_of n kind.Source)
-source_named n i h = omega (arith, length-map n.sources (λ s. s.name), h)
-
-pub pool_named : (n : Network) (l : ℕ) → l < length n.pools → l < length (names_of n kind.Pool)
-pool_named n l h = omega (arith, length-map n.pools (λ p. p.name), h)
-
-pub product_named : (n : Network) (j : ℕ) → j < length n.products → j < length (names_of n kind.Product)
-product_named n j h = omega (arith, length-map n.products (λ p. p.name), h)

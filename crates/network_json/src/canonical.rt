@@ -68,7 +68,6 @@ fn feed_value(alloc: Global, net: &Network, n: u32) -> Result<Value, AllocError>
     requires { n < (net_of net.now).feeds }
     ensures { IfOk result (λ v. view v ≡ arc_data (canonical_arc (names_of net.now kind.Source) (names_of net.now kind.Pool) (get_or net.now.feeds n no_arc))) }
 {
-    let _counts = net.counts();
     let (source, pool) = net.feed(n);
     ends_value(
         alloc,
@@ -81,7 +80,6 @@ fn out_value(alloc: Global, net: &Network, n: u32) -> Result<Value, AllocError>
     requires { n < (net_of net.now).outs }
     ensures { IfOk result (λ v. view v ≡ arc_data (canonical_arc (names_of net.now kind.Pool) (names_of net.now kind.Product) (get_or net.now.outs n no_arc))) }
 {
-    let _counts = net.counts();
     let (pool, product) = net.out(n);
     ends_value(
         alloc,
@@ -94,7 +92,6 @@ fn direct_value(alloc: Global, net: &Network, n: u32) -> Result<Value, AllocErro
     requires { n < (net_of net.now).directs }
     ensures { IfOk result (λ v. view v ≡ arc_data (canonical_arc (names_of net.now kind.Source) (names_of net.now kind.Product) (get_or net.now.directs n no_arc))) }
 {
-    let _counts = net.counts();
     let (source, product) = net.direct(n);
     ends_value(
         alloc,
