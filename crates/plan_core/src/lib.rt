@@ -10,8 +10,6 @@
 //! Which plan to write is left to the crates above, and so is the text of a plan.
 #![tactic(auto)]
 
-#[cfg(test)]
-mod agreement;
 mod check;
 mod cost;
 mod fault;

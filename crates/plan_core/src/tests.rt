@@ -10,12 +10,7 @@ use std::alloc::{AllocError, Global};
 use std::cmp::Ordering;
 use std::test::Fail;
 
-pub(crate) fn source(
-    alloc: Global,
-    name: &str,
-    cost: i128,
-    sulfur: i128,
-) -> Result<SourceRow, AllocError>
+fn source(alloc: Global, name: &str, cost: i128, sulfur: i128) -> Result<SourceRow, AllocError>
     ensures { IfOk result (λ s. length s.quality.items ≡ 1) }
 {
     Ok(SourceRow {
@@ -46,7 +41,7 @@ fn product(
     })
 }
 
-pub(crate) fn arc(alloc: Global, from: &str, to: &str) -> Result<(String, String), AllocError> {
+fn arc(alloc: Global, from: &str, to: &str) -> Result<(String, String), AllocError> {
     Ok((String::from_str(alloc, from)?, String::from_str(alloc, to)?))
 }
 

@@ -1,9 +1,10 @@
 -- Whether a plan obeys, as a test that computes.
-use Rattle.std.proofs.Common.{◌≡◌, ℕ, ◌*◌, ◌<◌, ◌≤◌, Bool, true, false, ◌&&◌, ◌==◌, nat_le, nat_lt, int_le, Option, Some, None, ℤ, ◌≤ℤ◌, Decides, arith, refl, subst}
+use Rattle.std.proofs.Common.{◌≡◌, ℕ, ◌*◌, ◌<◌, ◌≤◌, Bool, true, false, not, ◌&&◌, ◌==◌, nat_le, nat_lt, int_le, List, All, Option, Some, None, ℤ, ◌≤ℤ◌, Decides, arith, refl, subst}
 use Rattle.std.proofs.lemmas.Int.{ints}
-use Rattle.std.proofs.lemmas.Bool.Decides.{nat_tests, Decides-and, Decides-eqb, Decides-like, Decides-ltb}
+use Rattle.std.proofs.lemmas.Bool.Decides.{nat_tests, Decides-and, Decides-eqb, Decides-like, Decides-ltb, Decides-not, Decides-by_and}
+use Rattle.std.specs.List.{list_all}
 use Rattle.pool_model.specs.Network.{Net}
-use Rattle.pool_model.specs.Plan.{Plan, Obeys, Blends, source_outflow, pool_inflow, outflow, product_inflow, quality_inflow, quality_room}
+use Rattle.pool_model.specs.Plan.{Plan, Written, plan_of, Obeys, Blends, source_outflow, pool_inflow, outflow, product_inflow, quality_inflow, quality_room}
 use Rattle.pool_model.specs.Starting.{all_below}
 use Rattle.pool_model.proofs.AllBelow.{all_below-each, all_below-all}
 
@@ -132,3 +133,13 @@ breaks n p e o = let yes : obeys_test n p ≡ true = (Decides-obeys n p).1 o in 
     differ : (b : Bool) → b ≡ true → b ≡ false → ⊥
     differ true e f = cc
     differ false e f = cc
+
+-- ---- lists of written plans
+pub all_obey : (n : Net) (ws : List Written) → list_all (λ w. obeys_test n (plan_of n w)) ws ≡ true → All (λ w. Obeys n (plan_of n w)) ws
+all_obey n ws e =
+    (Decides-by_and (λ w. obeys_test n (plan_of n w)) (λ w. Obeys n (plan_of n w)) (list_all (λ w. obeys_test n (plan_of n w))) (λ w. Decides-obeys n (plan_of n w)) refl (λ w ws. refl) ws).0 e
+
+pub all_break : (n : Net) (ws : List Written) → list_all (λ w. not (obeys_test n (plan_of n w))) ws ≡ true → All (λ w. ¬ Obeys n (plan_of n w)) ws
+all_break n ws e =
+    (Decides-by_and (λ w. not (obeys_test n (plan_of n w))) (λ w. ¬ Obeys n (plan_of n w)) (list_all (λ w. not (obeys_test n (plan_of n w))))
+    (λ w. Decides-not (obeys_test n (plan_of n w)) (Decides-obeys n (plan_of n w))) refl (λ w ws. refl) ws).0 e

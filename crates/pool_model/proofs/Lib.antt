@@ -4,6 +4,5 @@ pub mod Shipments
 pub mod Starts
 pub mod PathStarts
 pub mod Paths
-pub mod PlainSteps
 pub mod Decision
 pub mod Limits

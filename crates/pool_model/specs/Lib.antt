@@ -7,7 +7,5 @@ pub mod Naming
 pub mod Plan
 pub mod Starting
 pub mod Claim
-pub mod Plain
-pub mod Room
 pub mod Nodes
 pub mod Worked

@@ -1,9 +1,9 @@
 -- Worked networks, as files name them, and plans for them. Quantities are millionths.
-use Rattle.std.specs.Prelude.{ℕ, List, [], ◌∷◌, Option, Some, None, ℤ, pos, codes}
+use Rattle.std.specs.Prelude.{ℕ, List, [], ◌∷◌, get_or, Option, Some, None, ℤ, pos, codes}
 use Rattle.pool_model.specs.Rows.{SourceRow, PoolRow, ProductRow, Rows}
 use Rattle.pool_model.specs.Network.{Net, net_of}
 use Rattle.pool_model.specs.Naming.{network_of}
-use Rattle.pool_model.specs.Plan.{Plan, Written, plan_of}
+use Rattle.pool_model.specs.Plan.{Plan, Written, plan_of, Obeys, cost_of}
 
 abbrev pub net_in : Rows → Net
 net_in r = net_of (network_of r)
@@ -11,6 +11,13 @@ net_in r = net_of (network_of r)
 -- the plan that a written plan stands for
 abbrev pub plan_in : Rows → Written → Plan
 plan_in r w = plan_of (net_in r) w
+
+-- a written plan obeys the network of the rows, and what it costs there
+abbrev pub ObeysIn : Rows → Written → Type 0
+ObeysIn r w = Obeys (net_in r) (plan_in r w)
+
+abbrev pub cost_in : Rows → Written → ℤ
+cost_in r w = cost_of (net_in r) (plan_in r w)
 
 abbrev pub source_row : List ℕ → ℤ → Option ℤ → List ℤ → SourceRow
 source_row name cost max quality = record { name = name; cost = cost; max = max; quality = quality }
@@ -49,6 +56,18 @@ haverly cost = record {
   arcs = (codes "A", codes "P") ∷ (codes "B", codes "P") ∷ (codes "P", codes "X") ∷ (codes "P", codes "Y") ∷ (codes "C", codes "X") ∷ (codes "C", codes "Y") ∷ [];
 }
 
+-- all of B through the pool and as much of C into Y, whose sulfur is then at its most
+abbrev pub haverly_best : Written
+haverly_best = written 1 (0 ∷ 1 ∷ []) (0 ∷ 100000000 ∷ []) (0 ∷ 100000000 ∷ [])
+
+-- the same with a pool of A and B, half and half
+abbrev pub haverly_mixed : Written
+haverly_mixed = written 2 (1 ∷ 1 ∷ []) (0 ∷ 100000000 ∷ []) (0 ∷ 100000000 ∷ [])
+
+-- a quarter of A in the pool, and all that Y takes from it
+abbrev pub pooled_haverly : Written
+pooled_haverly = written 4 (1 ∷ 3 ∷ []) (0 ∷ 200000000 ∷ []) (0 ∷ 0 ∷ [])
+
 -- two sources that feed a pool, and one product that takes any quality
 abbrev pub two_feeds : Rows
 two_feeds = record {
@@ -79,3 +98,62 @@ wastewater = record {
   arcs = (codes "W1", codes "basin 1") ∷ (codes "W2", codes "basin 1") ∷ (codes "W2", codes "basin 2") ∷ (codes "fresh", codes "basin 2")
       ∷ (codes "basin 1", codes "river") ∷ (codes "basin 1", codes "sewer") ∷ (codes "basin 2", codes "river") ∷ (codes "basin 2", codes "sewer") ∷ (codes "fresh", codes "river") ∷ [];
 }
+
+-- ---- each rule by itself
+
+-- A and B feed the pool P, and B reaches X direct. A has 30 of the quality and sends 40 at the most, B has 10 and sends 45;
+-- P takes 50, and X from 10 to 60 with the quality from 15 to 25.
+abbrev pub strict : Rows
+strict = record {
+  qualities = codes "load" ∷ [];
+  sources = source_row (codes "A") (pos 1) (Some (pos 40)) (pos 30 ∷ []) ∷ source_row (codes "B") (pos 2) (Some (pos 45)) (pos 10 ∷ []) ∷ [];
+  pools = record { name = codes "P"; max = Some (pos 50) } ∷ [];
+  products = record { name = codes "X"; price = pos 5; min = pos 10; max = pos 60; least = Some (pos 15) ∷ []; most = Some (pos 25) ∷ [] } ∷ [];
+  arcs = (codes "A", codes "P") ∷ (codes "B", codes "P") ∷ (codes "P", codes "X") ∷ (codes "B", codes "X") ∷ [];
+}
+
+-- what flows from A and from B into P, from P to X, and from B to X
+abbrev pub flows : ℕ → ℕ → ℕ → ℕ → ℕ → Plan
+flows base a b out direct = record { base = base; feed = λ e. get_or (a ∷ b ∷ []) e 0; out = λ o. get_or (out ∷ []) o 0; direct = λ e. get_or (direct ∷ []) e 0 }
+
+-- ---- pools that share a product
+
+-- X takes from 15 to 25 of the quality; Y takes 15 at the most, and at least 5 of flow. A has 30, B 10 and C 20.
+abbrev pub shared : Rows
+shared = record {
+  qualities = codes "load" ∷ [];
+  sources = source_row (codes "A") (pos 6) None (pos 30 ∷ []) ∷ source_row (codes "B") (pos 16) None (pos 10 ∷ []) ∷ source_row (codes "C") (pos 10) None (pos 20 ∷ []) ∷ [];
+  pools = pool_row (codes "P") ∷ pool_row (codes "Q") ∷ pool_row (codes "R") ∷ [];
+  products = product_row (codes "X") (pos 9) (pos 100) (Some (pos 15) ∷ []) (Some (pos 25) ∷ [])
+      ∷ record { name = codes "Y"; price = pos 15; min = pos 5; max = pos 200; least = None ∷ []; most = Some (pos 15) ∷ [] } ∷ [];
+  arcs = (codes "A", codes "P") ∷ (codes "B", codes "P") ∷ (codes "A", codes "Q") ∷ (codes "B", codes "Q") ∷ (codes "P", codes "X") ∷ (codes "P", codes "Y")
+      ∷ (codes "Q", codes "Y") ∷ (codes "C", codes "X") ∷ (codes "C", codes "Y") ∷ (codes "B", codes "R") ∷ (codes "R", codes "Y") ∷ [];
+}
+
+-- Bases; the weights of A and B in P, of A and B in Q and of B in R; flows from P to X, P to Y, Q to Y and R to Y; flows from
+-- C to X and to Y. Pools that send nothing are among them, and means at a limit.
+abbrev pub over_bases : ℕ → ℕ → List ℕ → List ℕ → List ℕ → Written
+over_bases base flow_base weights outflows direct = record { base = base; flow_base = flow_base; weights = weights; outflows = outflows; direct = direct }
+
+abbrev pub shared_obeying : List Written
+shared_obeying =
+    over_bases 1 1 (1 ∷ 0 ∷ 1 ∷ 0 ∷ 1 ∷ []) (0 ∷ 0 ∷ 0 ∷ 5 ∷ []) (0 ∷ 0 ∷ [])
+    ∷ over_bases 2 1 (1 ∷ 1 ∷ 0 ∷ 2 ∷ 2 ∷ []) (10 ∷ 0 ∷ 0 ∷ 10 ∷ []) (0 ∷ 0 ∷ [])
+    ∷ over_bases 2 1 (1 ∷ 1 ∷ 0 ∷ 2 ∷ 2 ∷ []) (0 ∷ 10 ∷ 0 ∷ 10 ∷ []) (0 ∷ 0 ∷ [])
+    ∷ over_bases 1 1 (1 ∷ 0 ∷ 0 ∷ 1 ∷ 1 ∷ []) (0 ∷ 10 ∷ 10 ∷ 20 ∷ []) (0 ∷ 0 ∷ [])
+    ∷ over_bases 4 1 (1 ∷ 3 ∷ 1 ∷ 3 ∷ 4 ∷ []) (0 ∷ 10 ∷ 10 ∷ 0 ∷ []) (10 ∷ 0 ∷ [])
+    ∷ over_bases 2 3 (1 ∷ 1 ∷ 0 ∷ 2 ∷ 2 ∷ []) (7 ∷ 8 ∷ 8 ∷ 0 ∷ []) (3 ∷ 0 ∷ [])
+    ∷ []
+
+-- in order: Y takes too little; its quality is too high, twice; that of X is too low; Y's is too high by a part of a unit; Y takes
+-- too much; the weights in P don't sum to the base
+abbrev pub shared_breaking : List Written
+shared_breaking =
+    over_bases 1 1 (1 ∷ 0 ∷ 1 ∷ 0 ∷ 1 ∷ []) (0 ∷ 0 ∷ 0 ∷ 4 ∷ []) (0 ∷ 0 ∷ [])
+    ∷ over_bases 2 1 (1 ∷ 1 ∷ 0 ∷ 2 ∷ 2 ∷ []) (0 ∷ 11 ∷ 0 ∷ 10 ∷ []) (0 ∷ 0 ∷ [])
+    ∷ over_bases 1 1 (1 ∷ 0 ∷ 0 ∷ 1 ∷ 1 ∷ []) (0 ∷ 10 ∷ 10 ∷ 19 ∷ []) (0 ∷ 0 ∷ [])
+    ∷ over_bases 1 1 (0 ∷ 1 ∷ 0 ∷ 1 ∷ 1 ∷ []) (10 ∷ 0 ∷ 0 ∷ 5 ∷ []) (0 ∷ 0 ∷ [])
+    ∷ over_bases 2 3 (1 ∷ 1 ∷ 0 ∷ 2 ∷ 2 ∷ []) (7 ∷ 8 ∷ 7 ∷ 0 ∷ []) (3 ∷ 0 ∷ [])
+    ∷ over_bases 1 1 (0 ∷ 1 ∷ 0 ∷ 1 ∷ 1 ∷ []) (0 ∷ 100 ∷ 101 ∷ 0 ∷ []) (0 ∷ 0 ∷ [])
+    ∷ over_bases 2 1 (1 ∷ 0 ∷ 0 ∷ 2 ∷ 2 ∷ []) (0 ∷ 10 ∷ 10 ∷ 0 ∷ []) (0 ∷ 0 ∷ [])
+    ∷ []
