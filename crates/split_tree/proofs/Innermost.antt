@@ -11,9 +11,8 @@ use Rattle.row_model.specs.Boxes.{Box, coords, root, left_of, right_of}
 use Rattle.row_model.specs.Trees.{Split, no_split, split_at, left_node, right_node, nodes, box_of, Tree, IsTree}
 use Rattle.row_model.proofs.TreeLaw.{box_is, left_box, right_box, length_before}
 use Rattle.row_model.proofs.TreeBound.{node-proper}
-use Rattle.box_space.specs.Views.{AreEndsOf}
+use Rattle.box_space.specs.Views.{AreEndsOf, shown_split}
 use Rattle.box_space.proofs.Halving.{agree-ends}
-use Rattle.box_space.specs.Shown.{shown_split}
 use Rattle.box_space.specs.declared.boxes.BoxEnds.{BoxEnds}
 use Rattle.box_space.specs.declared.coordinates.Split.{Split as HeldSplit}
 use Rattle.split_tree.specs.Splits.{Splits, tree_of, IsOf}

@@ -1,6 +1,7 @@
 -- A split that may come next, and the first fault of one that may not.
-use Rattle.std.proofs.Common.{◌≡◌, ℕ, ◌<◌, ◌≤◌, List, [], ◌∷◌, ◌++◌, length, None, arith, length-append}
+use Rattle.std.proofs.Common.{◌≡◌, ℕ, ◌<◌, ◌≤◌, List, [], ◌∷◌, ◌++◌, length, None, arith, refl, length-append}
 use Rattle.std.proofs.lemmas.Option.{none-some}
+use Rattle.faults.proofs.First.{IsClear, lone-first}
 use Rattle.pool_model.specs.Network.{Net}
 use Rattle.row_model.specs.Boxes.{coords}
 use Rattle.row_model.specs.Trees.{Split, most_splits, IsLeaf, CutsLeaf, box_of}
@@ -35,23 +36,28 @@ pushed-of n t split span is few cuts ends =
 -- ---- faults
 
 -- what is known of a split of which the first faults are ruled out
-pub record IsClear (n : Net) (splits : List Split) (s : Split) (count : ℕ) : Type 0 where
+record IsPassed (n : Net) (splits : List Split) (s : Split) (count : ℕ) : Type 0 where
   pub leaf : 1 < count → IsLeaf splits s.leaf
   pub coord : 2 < count → s.coord < coords n
   pub inside : 3 < count → IsInside (box_of n splits s.leaf) s
   pub end : count ≤ 4
 
-first : (n : Net) (splits : List Split) (s : Split) (fault : SplitFault) → Holds n splits s fault → IsClear n splits s (number fault) → IsFirstFault n splits s fault
-first n splits s fault h is = record { holds = h; first = none (number fault) is }
+clear : (n : Net) (splits : List Split) (s : Split) (count : ℕ) → IsPassed n splits s count → IsClear number (Holds n splits s) count
+clear n splits s count is = record { none = none }
   where
-    none : (count : ℕ) → IsClear n splits s count → (earlier : SplitFault) → number earlier < count → ¬ Holds n splits s earlier
-    none count is NotALeaf lt has = has (is.leaf lt)
-    none count is BadCoord lt has = let coord = is.coord lt in omega (arith, coord, has)
-    none count is CutOutside lt has = has (is.inside lt)
-    none count is TooManySplits lt has = omega (arith, is.end, lt)
+    none : (f : SplitFault) → number f < count → ¬ Holds n splits s f
+    none NotALeaf lt has = has (is.leaf lt)
+    none BadCoord lt has = let coord = is.coord lt in omega (arith, coord, has)
+    none CutOutside lt has = has (is.inside lt)
+    none TooManySplits lt has = omega (arith, is.end, lt)
 
 pub not-inside : (n : Net) (splits : List Split) (s : Split) → IsLeaf splits s.leaf → s.coord < coords n → ¬ IsInside (box_of n splits s.leaf) s → IsFirstFault n splits s CutOutside
-not-inside n splits s leaf coord h = first n splits s CutOutside h record { leaf = λ lt. leaf; coord = λ lt. coord; inside = λ lt. absurd (omega arith); end = omega arith }
+not-inside n splits s leaf coord h =
+    lone-first {about = λ f. []} CutOutside refl h
+    (clear n splits s 3 record { leaf = λ lt. leaf; coord = λ lt. coord; inside = λ lt. absurd (omega arith); end = omega arith })
 
-pub too-many : (n : Net) (splits : List Split) (s : Split) → IsLeaf splits s.leaf → s.coord < coords n → IsInside (box_of n splits s.leaf) s → most_splits ≤ length splits → IsFirstFault n splits s TooManySplits
-too-many n splits s leaf coord inside h = first n splits s TooManySplits h record { leaf = λ lt. leaf; coord = λ lt. coord; inside = λ lt. inside; end = omega arith }
+pub too-many : (n : Net) (splits : List Split) (s : Split) → IsLeaf splits s.leaf → s.coord < coords n → IsInside (box_of n splits s.leaf) s
+    → most_splits ≤ length splits → IsFirstFault n splits s TooManySplits
+too-many n splits s leaf coord inside h =
+    lone-first {about = λ f. []} TooManySplits refl h
+    (clear n splits s 4 record { leaf = λ lt. leaf; coord = λ lt. coord; inside = λ lt. inside; end = omega arith })

@@ -8,7 +8,7 @@ use Rattle.row_model.specs.Boxes.{Box, root, left_of, right_of}
 use Rattle.row_model.specs.Trees.{Split, no_split, split_at, left_node, right_node, nodes, box_of, Tree, IsTree}
 use Rattle.row_model.proofs.TreeLaw.{box_is}
 use Rattle.row_model.proofs.EntryLaw.{box_before}
-use Rattle.box_space.specs.Shown.{shown_split}
+use Rattle.box_space.specs.Views.{shown_split}
 use Rattle.box_space.specs.declared.coordinates.Split.{Split as HeldSplit}
 use Rattle.split_tree.specs.declared.span.Span.{Span}
 use Rattle.split_tree.specs.Faults.{IsInside}

@@ -1,5 +1,6 @@
 -- When a split has a fault after the splits before it, and which of its faults is the first.
-use Rattle.std.specs.Prelude.{ℕ, ◌<◌, ◌≤◌, List, length, ◌<ℤ◌}
+use Rattle.std.specs.Prelude.{ℕ, ◌≤◌, List, [], ◌∷◌, length, ◌<ℤ◌}
+use Rattle.faults.specs.First.{IsFirst}
 use Rattle.pool_model.specs.Network.{Net}
 use Rattle.row_model.specs.Boxes.{Box, coords}
 use Rattle.row_model.specs.Trees.{Split, IsLeaf, box_of, most_splits}
@@ -25,7 +26,9 @@ number BadCoord = 2
 number CutOutside = 3
 number TooManySplits = 4
 
--- a fault that the split has, where it has none of a lower number
-pub record IsFirstFault (n : Net) (splits : List Split) (s : Split) (fault : SplitFault) : Type 0 where
-  pub holds : Holds n splits s fault
-  pub first : (earlier : SplitFault) → number earlier < number fault → ¬ Holds n splits s earlier
+abbrev pub rank : SplitFault → List ℕ
+rank f = number f ∷ []
+
+-- a fault that the split has, where it has none before it
+abbrev pub IsFirstFault : Net → List Split → Split → SplitFault → Type 0
+IsFirstFault n splits s = IsFirst rank (Holds n splits s)

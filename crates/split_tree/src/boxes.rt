@@ -7,8 +7,7 @@ ghost use Rattle.row_model.specs.Boxes.{coords};
 ghost use Rattle.row_model.specs.Trees as trees;
 ghost use Rattle.split_tree.specs.Splits.{IsOf};
 ghost use Rattle.split_tree.specs.Spans.{IsSpanOf, half_of};
-ghost use Rattle.box_space.specs.Shown.{shown_split};
-ghost use Rattle.box_space.specs.Views.{AreEndsOf};
+ghost use Rattle.box_space.specs.Views.{shown_split, AreEndsOf};
 
 use crate::span::{Side, Span};
 use crate::splits::SplitTree;

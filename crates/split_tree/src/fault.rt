@@ -1,5 +1,9 @@
 //! Why a split can't come next.
 
+ghost use Rattle.split_tree.specs.Faults.{rank as fault_rank};
+
+use faults::Ranked;
+
 /// Why a split can't come next: the first cause in this order.
 #[derive(Clone, Copy, Debug, PartialEq, Eq)]
 pub enum SplitFault {
@@ -11,4 +15,8 @@ pub enum SplitFault {
     CutOutside,
     /// There are as many splits as there may be.
     TooManySplits,
+}
+
+impl Ranked for SplitFault {
+    ghost rank = { fault_rank };
 }

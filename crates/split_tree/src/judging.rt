@@ -3,7 +3,7 @@
 ghost use Rattle.std.specs.Prelude.{◌<◌, length, IfOk, IfErr};
 ghost use Rattle.pool_model.specs.Network.{net_of};
 ghost use Rattle.row_model.specs.Trees as trees;
-ghost use Rattle.box_space.specs.Shown.{shown_split};
+ghost use Rattle.box_space.specs.Views.{shown_split};
 ghost use Rattle.split_tree.specs.Faults.{IsFirstFault};
 ghost use Rattle.split_tree.specs.Spans.{IsSpanOf};
 ghost use Rattle.split_tree.specs.Splits.{IsOf};

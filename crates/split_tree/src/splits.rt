@@ -3,7 +3,7 @@
 ghost use Rattle.std.specs.Prelude.{◌≡◌, ◌<◌, ◌↔◌, [], length, map, IfOk, IfErr, IsTrue};
 ghost use Rattle.pool_model.specs.Network.{Net};
 ghost use Rattle.row_model.specs.Trees as trees;
-ghost use Rattle.box_space.specs.Shown.{shown_split};
+ghost use Rattle.box_space.specs.Views.{shown_split};
 ghost use Rattle.split_tree.specs.Spans.{IsSpanOf};
 ghost use Rattle.split_tree.specs.Splits.{IsOf, with_split};
 
@@ -29,7 +29,7 @@ pub struct SplitTree {
 
 impl Model for SplitTree {
     ghost use Rattle.std.specs.Prelude.{map};
-    ghost use Rattle.box_space.specs.Shown.{shown_split};
+    ghost use Rattle.box_space.specs.Views.{shown_split};
     ghost use Rattle.split_tree.specs.Splits.{Splits, AreKept};
 
     ghost Value = { Splits };

@@ -2,7 +2,7 @@ use Rattle.std.proofs.Common.{◌≡◌, ◌-◌, ◌/◌, List, length, get_or,
 use mir.Syntax.{w64}
 use Rattle.std.specs.Int.{int_min, int_max}
 use Rattle.pool_model.specs.Network.{net_of}
-use Rattle.box_space.specs.Shown.{shown_split}
+use Rattle.box_space.specs.Views.{shown_split}
 use Rattle.box_space.specs.declared.coordinates.Split.{Split as HeldSplit}
 use Rattle.split_tree.specs.Splits.{Splits, tree_of}
 use Rattle.split_tree.proofs.Innermost.{tree-of, IsSoFar, no_held, so_far-first, so_far-last, walked-left, walked-right, above-held}

@@ -2,7 +2,7 @@ use Rattle.std.proofs.Common.{◌<◌, ◌<ℤ◌, rules, arith}
 use Rattle.pool_model.specs.Network.{net_of}
 use Rattle.row_model.specs.Boxes.{coords}
 use Rattle.row_model.specs.Trees.{IsLeaf, box_of}
-use Rattle.box_space.specs.Shown.{shown_split}
+use Rattle.box_space.specs.Views.{shown_split}
 use Rattle.split_tree.proofs.Pushed.{not-inside, too-many}
 use Rattle.split_tree.proofs.Spans.{inside-box, outside-box}
 use Rattle.split_tree.proofs.splits.SplitTree.judge.Goals as goal

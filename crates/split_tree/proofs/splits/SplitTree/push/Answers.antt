@@ -1,6 +1,6 @@
 use Rattle.std.proofs.Common.{◌≡◌, sym, subst, arith}
 use Rattle.std.proofs.lemmas.Grind.{common_steps}
-use Rattle.box_space.specs.Shown.{shown_split}
+use Rattle.box_space.specs.Views.{shown_split}
 use Rattle.split_tree.specs.contracts.splits.SplitTree.{the_view}
 use Rattle.split_tree.specs.Splits.{Splits, with_split, IsOf}
 use Rattle.split_tree.proofs.Pushed.{pushed-of}

@@ -3,7 +3,7 @@ use mir.Syntax.{w64}
 use Rattle.pool_model.specs.Network.{net_of}
 use Rattle.row_model.specs.Boxes.{root_low, root_high}
 use Rattle.row_model.specs.Trees.{box_of}
-use Rattle.box_space.specs.Shown.{shown_split}
+use Rattle.box_space.specs.Views.{shown_split}
 use Rattle.box_space.specs.declared.coordinates.Split.{Split as HeldSplit}
 use Rattle.split_tree.specs.Splits.{Splits, tree_of}
 use Rattle.split_tree.specs.Spans.{no_span, IsSpanOf}
