@@ -1,0 +1,2 @@
+-- Lemmas behind the contracts.
+pub mod Agreed
