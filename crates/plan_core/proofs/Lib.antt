@@ -7,3 +7,4 @@ pub mod FirstFault
 pub mod Terms
 pub mod Costs
 pub mod Rooms
+pub mod LeastStart

@@ -2,3 +2,4 @@ pub mod Shown
 pub mod Weights
 pub mod Checks
 pub mod Weighed
+pub mod Cheapest

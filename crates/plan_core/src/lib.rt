@@ -5,11 +5,13 @@
 //! plan costs where it obeys every rule of the network, and else the first rule that it breaks, as a [`PlanFault`]. Rules
 //! are compared exactly, as whole numbers, with no tolerance. [`compare_cost`] orders costs over different bases.
 //!
-//! [`zero_plan`] and [`simple_plan`] are the starting plans, which no search needs to find; they alone take memory.
+//! [`zero_plan`] and [`simple_plan`] are the starting plans, which no search needs to find; [`cheapest_start`] is the cheapest of
+//! those that obey, with its cost. They alone take memory.
 //!
 //! Which plan to write is left to the crates above, and so is the text of a plan.
 #![tactic(auto)]
 
+mod cheapest;
 mod check;
 mod cost;
 mod fault;
@@ -21,6 +23,7 @@ mod sums;
 #[cfg(test)]
 mod tests;
 
+pub use cheapest::{Start, cheapest_start};
 pub use check::check_plan;
 pub use cost::compare_cost;
 pub use fault::PlanFault;

@@ -4,7 +4,7 @@ ghost use Rattle.std.specs.Prelude.{◌≡◌, ℕ, ◌<◌, ◌≤◌, ◌==◌
 ghost use Rattle.pool_model.specs.Network.{net_of};
 ghost use Rattle.pool_model.specs.Paths.{paths_of, path_at};
 ghost use Rattle.integers.specs.Numbers.{tabulate};
-ghost use Rattle.pool_model.specs.Starting.{feeds_before, first_weight, zero_plan as zero_written, simple_plan as simple_written, IsWay, through, straight, suits as suits_lem, is_above, is_below, all_below, direct_flow as direct_flow_lem, path_flow as path_flow_lem, alone as alone_lem};
+ghost use Rattle.pool_model.specs.Starting.{feeds_before, first_weight, zero_plan as zero_written, simple_plan as simple_written, through, straight, suits as suits_lem, is_above, is_below, all_below, direct_flow as direct_flow_lem, path_flow as path_flow_lem, alone as alone_lem};
 ghost use Rattle.plan_core.specs.Shown.{written_of, way_of, IsInRange};
 ghost use Rattle.plan_core.specs.Weights.{weight_on};
 
@@ -45,7 +45,7 @@ fn through_plan(alloc: Global, net: &Network, path: u32) -> Result<WrittenPlan, 
     ensures { IfOk result (λ w. written_of w ≡ simple_written (net_of net.now) (through (path_at (net_of net.now) path).feed (path_at (net_of net.now) path).out)) }
 {
     let [_, _, _, _, feeds, outs, directs] = net.counts();
-    let (feed, out) = path_ends(net, path);
+    let (feed, out) = net.path(path);
     Ok(WrittenPlan {
         base: 1,
         flow_base: 1,
@@ -78,7 +78,7 @@ pub fn path_flow(net: &Network, path: u32) -> u64
     ensures size { result ≤ 10 ^ 12 }
 {
     let _counts = net.counts();
-    let (feed, out) = path_ends(net, path);
+    let (feed, out) = net.path(path);
     let (source, _) = net.feed(feed);
     let (pool, product) = net.out(out);
     if suits(net, source, product) {
@@ -87,16 +87,6 @@ pub fn path_flow(net: &Network, path: u32) -> u64
     } else {
         0
     }
-}
-
-/// The feed and the out of a path.
-fn path_ends(net: &Network, path: u32) -> (u32, u32)
-    requires { path < length (paths_of (net_of net.now)) }
-    ensures feed { result.0 ≡ (path_at (net_of net.now) path).feed }
-    ensures out { result.1 ≡ (path_at (net_of net.now) path).out }
-    ensures way { IsWay (net_of net.now) (through result.0 result.1) }
-{
-    net.path(path)
 }
 
 /// How much a direct alone carries, in millionths: the lesser of the maxima at its ends, or nothing where a quality of the

@@ -3,6 +3,7 @@ pub mod AllBelow
 pub mod Shipments
 pub mod Starts
 pub mod PathStarts
+pub mod StartOrder
 pub mod Paths
 pub mod Decision
 pub mod Limits

@@ -7,9 +7,9 @@ use Rattle.integers.proofs.AtKey.{same_or_other, chosen, passed, none_either, su
 use Rattle.integers.proofs.ByNode.{sum_at-same_key, sum_at-nothing, sum_at-alone, int_sum_at-nothing, int_sum_at-alone}
 use Rattle.pool_model.specs.Network.{Net, IsLimited, HasFeeds}
 use Rattle.pool_model.specs.Plan.{Plan, Obeys, source_outflow, pool_inflow, outflow, product_inflow, cost_of, mix, factor, quality_inflow, weight, written_out, written_outflow, plan_of, IsWritten}
-use Rattle.pool_model.specs.Starting.{HasNoMinima, IsWay, first_weight, simple_plan, through, alone, suits, path_flow}
+use Rattle.pool_model.specs.Starting.{MeetsMinima, IsWay, first_weight, simple_plan, through, alone, suits, path_flow}
 use Rattle.integers.proofs.Tabulate.{length-tabulate, get_or-tabulate, get_or-nothing}
-use Rattle.pool_model.proofs.Shipments.{Ships, chosen-le, flow-le, flow-suits, carries-ships, blends-ships, cost-ships}
+use Rattle.pool_model.proofs.Shipments.{Ships, chosen-le, flow-le, flow-suits, carries-ships, blends-ships, cost-ships, ships-minima}
 use Rattle.pool_model.proofs.Starts.{first_weights-one}
 
 -- a plan with an amount on one feed and on one out of its pool, and nothing else, over 1
@@ -118,7 +118,7 @@ path-only n e o way pool = record {
   direct = λ i lt. ap (λ z. 1 * z) (get_or-nothing n.directs i);
 }
 
-pub path-obeys : (n : Net) (e o : ℕ) → HasNoMinima n → IsWay n (through e o) → n.feed_pool e < n.pools → Obeys n (plan_of n (simple_plan n (through e o)))
+pub path-obeys : (n : Net) (e o : ℕ) → MeetsMinima n (n.out_product o) (path_flow n e o) → IsWay n (through e o) → n.feed_pool e < n.pools → Obeys n (plan_of n (simple_plan n (through e o)))
 path-obeys n e o m way pool =
     let p = plan_of n (simple_plan n (through e o)) in
     let i = n.feed_source e in
@@ -133,6 +133,11 @@ path-obeys n e o m way pool =
           (λ l lt. omega (arith, outflow-path n p e o t l only, chosen-le (n.out_pool o) l t p.base n.pool_max only.base (flow-le (suits n i j) least (n.pool_max (n.out_pool o)) (omega arith))));
       blends = blends-ships n p i j t (ships-path n p e o t only) (flow-suits n i j least);
     }
+
+pub path-minima : (n : Net) (e o : ℕ) → IsWay n (through e o) → n.feed_pool e < n.pools → Obeys n (plan_of n (simple_plan n (through e o))) → MeetsMinima n (n.out_product o) (path_flow n e o)
+path-minima n e o way pool obeys =
+    let p = plan_of n (simple_plan n (through e o)) in
+    ships-minima n p (n.feed_source e) (n.out_product o) (path_flow n e o) (ships-path n p e o (path_flow n e o) (path-only n e o way pool)) obeys
 
 -- the weights of the path's pool sum to 1, and so do those of the others
 simple-weights : (n : Net) (e o l : ℕ) → HasFeeds n → IsWay n (through e o) → l < n.pools → sum_at n.feed_pool l (weight (simple_plan n (through e o))) n.feeds ≡ 1

@@ -1,4 +1,4 @@
--- A plan with a shipment from one source to one product and nothing else: it obeys where nothing is demanded and the shipment suits, and what it costs.
+-- A plan with a shipment from one source to one product and nothing else: it obeys where it is all that is demanded and suits, and what it costs.
 use Rattle.std.proofs.Common.{◌≡◌, ℕ, ◌*◌, ◌<◌, ◌≤◌, ◌⊎◌, inl, inr, ◌==◌, if◌then◌else◌, Bool, true, false, ◌&&◌, Option, Some, None, ℤ, pos, neg_ℤ, ◌-ℤ◌, ◌*ℤ◌, ◌≤ℤ◌, arith, refl, sym, ap, subst, ◌∙◌}
 use Rattle.std.specs.Prelude.{int_le}
 use Rattle.std.proofs.lemmas.Int.{ints}
@@ -7,11 +7,11 @@ use Rattle.integers.specs.Sums.{product_below}
 use Rattle.integers.proofs.Ring.{additive, mul_comm_ℤ, add-mul, neg-mul}
 use Rattle.integers.proofs.Order.{le-mul}
 use Rattle.integers.proofs.ByIndex.{int_sum_below-same}
-use Rattle.integers.proofs.AtKey.{same_or_other, chosen, passed}
+use Rattle.integers.proofs.AtKey.{same_or_other, chosen, passed, none_either}
 use Rattle.integers.proofs.ByNode.{int_sum_below-alone}
 use Rattle.pool_model.specs.Network.{Net}
-use Rattle.pool_model.specs.Plan.{Plan, Carries, Blends, source_outflow, pool_inflow, outflow, product_inflow, cost_of, factor, quality_inflow}
-use Rattle.pool_model.specs.Starting.{HasNoMinima, suits, is_above, is_below}
+use Rattle.pool_model.specs.Plan.{Plan, Obeys, Carries, Blends, source_outflow, pool_inflow, outflow, product_inflow, cost_of, factor, quality_inflow}
+use Rattle.pool_model.specs.Starting.{HasNoMinima, MeetsMinima, suits, is_above, is_below}
 use Rattle.pool_model.proofs.AllBelow.{all_below-each}
 
 -- so much goes from source i to product j, over 1, and all that reaches the product has the source's qualities
@@ -27,15 +27,25 @@ chosen-le i j t base max b h = elim (same_or_other i j) [
   | inr d ↦ omega (arith, passed i j t 0 d)
 ]
 
-pub carries-ships : (n : Net) (p : Plan) (i j t : ℕ) → Ships n p i j t → HasNoMinima n → t ≤ n.source_max i → t ≤ n.product_max j
+pub carries-ships : (n : Net) (p : Plan) (i j t : ℕ) → Ships n p i j t → MeetsMinima n j t → t ≤ n.source_max i → t ≤ n.product_max j
     → ((l : ℕ) → l < n.pools → pool_inflow n p l ≡ outflow n p l) → ((l : ℕ) → l < n.pools → outflow n p l ≤ p.base * n.pool_max l) → Carries n p
 carries-ships n p i j t s m source product balanced pools = record {
   sources = λ k lt. omega (arith, s.sent k, chosen-le i k t p.base n.source_max s.base source);
   balanced = balanced;
   pools = pools;
-  at_least = λ k lt. omega (arith, ap (λ z. p.base * z) (m k lt));
+  at_least = λ k lt. omega (arith, s.taken k, m k lt, ap (λ z. z * n.product_min k) s.base);
   at_most = λ k lt. omega (arith, s.taken k, chosen-le j k t p.base n.product_max s.base product);
 }
+
+-- what is shipped is all that a product must take
+pub ships-minima : (n : Net) (p : Plan) (i j t : ℕ) → Ships n p i j t → Obeys n p → MeetsMinima n j t
+ships-minima n p i j t s obeys k lt = omega (arith, s.taken k, obeys.carries.at_least k lt, ap (λ z. z * n.product_min k) s.base)
+
+pub meets-nothing : (n : Net) (product : ℕ) → HasNoMinima n → MeetsMinima n product 0
+meets-nothing n product none j lt = omega (arith, none j lt)
+
+pub meets-none : (n : Net) (product : ℕ) → MeetsMinima n product 0 → HasNoMinima n
+meets-none n product meets j lt = omega (arith, meets j lt, none_either (product == j) 0 refl)
 
 -- the source's qualities meet the product's limits at this flow
 pub record Suits (n : Net) (i j t : ℕ) : Type 0 where

@@ -7,9 +7,9 @@ use Rattle.integers.proofs.AtKey.{same_or_other, chosen, passed, none_either, te
 use Rattle.integers.proofs.ByNode.{sum_at-same_key, sum_at-nothing, sum_at-alone, int_sum_at-nothing, int_sum_at-alone, int_sum_below-nothing}
 use Rattle.pool_model.specs.Network.{Net, IsLimited, HasFeeds}
 use Rattle.pool_model.specs.Plan.{Plan, Obeys, Carries, source_outflow, product_inflow, cost_of, mix, factor, quality_inflow, Written, weight, written_out, plan_of, IsWritten}
-use Rattle.pool_model.specs.Starting.{HasNoMinima, feeds_before, first_weight, zero_plan, simple_plan, straight, alone, suits, direct_flow}
+use Rattle.pool_model.specs.Starting.{HasNoMinima, MeetsMinima, feeds_before, first_weight, zero_plan, simple_plan, straight, alone, suits, direct_flow}
 use Rattle.integers.proofs.Tabulate.{length-tabulate, get_or-tabulate, get_or-nothing}
-use Rattle.pool_model.proofs.Shipments.{Ships, le-none_or, flow-le, flow-suits, carries-ships, blends-ships, cost-ships}
+use Rattle.pool_model.proofs.Shipments.{Ships, le-none_or, flow-le, flow-suits, carries-ships, blends-ships, cost-ships, ships-minima, meets-nothing, meets-none}
 
 -- a plan with an amount on one direct and nothing else, over 1
 record OnlyDirect (n : Net) (p : Plan) (e t : ℕ) : Type 0 where
@@ -47,7 +47,7 @@ ships-only n p e t o = record {
   quality = λ j k. quality_inflow-only n p e t j k o;
 }
 
-carries-only : (n : Net) (p : Plan) (e t : ℕ) → OnlyDirect n p e t → HasNoMinima n → t ≤ n.source_max (n.direct_source e) → t ≤ n.product_max (n.direct_product e) → Carries n p
+carries-only : (n : Net) (p : Plan) (e t : ℕ) → OnlyDirect n p e t → MeetsMinima n (n.direct_product e) t → t ≤ n.source_max (n.direct_source e) → t ≤ n.product_max (n.direct_product e) → Carries n p
 carries-only n p e t o m source product =
     carries-ships n p (n.direct_source e) (n.direct_product e) t (ships-only n p e t o) m source product
     (λ l lt. sum_at-nothing n.feed_pool l p.feed n.feeds o.feed ∙ sym (sum_at-nothing n.out_pool l p.out n.outs o.out))
@@ -69,9 +69,13 @@ zero-only n = record {
 pub zero-obeys : (n : Net) → HasNoMinima n → Obeys n (plan_of n (zero_plan n))
 zero-obeys n m = record {
   denominator = omega arith;
-  carries = carries-only n (plan_of n (zero_plan n)) 0 0 (zero-only n) m (omega arith) (omega arith);
+  carries = carries-only n (plan_of n (zero_plan n)) 0 0 (zero-only n) (meets-nothing n (n.direct_product 0) m) (omega arith) (omega arith);
   blends = blends-ships n (plan_of n (zero_plan n)) (n.direct_source 0) (n.direct_product 0) 0 (ships-only n (plan_of n (zero_plan n)) 0 0 (zero-only n)) (record { most = λ k u lk is. le-none_or (n.source_quality (n.direct_source 0) k) u 0 refl; least = λ k u lk is. le-none_or u (n.source_quality (n.direct_source 0) k) 0 refl });
 }
+
+pub zero-minima : (n : Net) → Obeys n (plan_of n (zero_plan n)) → HasNoMinima n
+zero-minima n obeys =
+    meets-none n (n.direct_product 0) (ships-minima n (plan_of n (zero_plan n)) (n.direct_source 0) (n.direct_product 0) 0 (ships-only n (plan_of n (zero_plan n)) 0 0 (zero-only n)) obeys)
 
 pub zero-cost : (n : Net) → cost_of n (plan_of n (zero_plan n)) ≡ pos 0
 zero-cost n =
@@ -126,7 +130,7 @@ direct-only n e h = record {
   direct = λ i lt. ap (λ z. 1 * z) (get_or-tabulate (alone e (direct_flow n e)) n.directs i 0 lt) ∙ omega arith;
 }
 
-pub direct-obeys : (n : Net) (e : ℕ) → HasNoMinima n → e < n.directs → Obeys n (plan_of n (simple_plan n (straight e)))
+pub direct-obeys : (n : Net) (e : ℕ) → MeetsMinima n (n.direct_product e) (direct_flow n e) → e < n.directs → Obeys n (plan_of n (simple_plan n (straight e)))
 direct-obeys n e m h =
     let p = plan_of n (simple_plan n (straight e)) in
     let i = n.direct_source e in
@@ -136,6 +140,11 @@ direct-obeys n e m h =
       carries = carries-only n p e (direct_flow n e) (direct-only n e h) m (flow-le (suits n i j) (min (n.source_max i) (n.product_max j)) (n.source_max i) (omega arith)) (flow-le (suits n i j) (min (n.source_max i) (n.product_max j)) (n.product_max j) (omega arith));
       blends = blends-ships n p i j (direct_flow n e) (ships-only n p e (direct_flow n e) (direct-only n e h)) (flow-suits n i j (min (n.source_max i) (n.product_max j)));
     }
+
+pub direct-minima : (n : Net) (e : ℕ) → e < n.directs → Obeys n (plan_of n (simple_plan n (straight e))) → MeetsMinima n (n.direct_product e) (direct_flow n e)
+direct-minima n e h obeys =
+    let p = plan_of n (simple_plan n (straight e)) in
+    ships-minima n p (n.direct_source e) (n.direct_product e) (direct_flow n e) (ships-only n p e (direct_flow n e) (direct-only n e h)) obeys
 
 pub direct-written : (n : Net) (e : ℕ) → HasFeeds n → e < n.directs → IsWritten n (simple_plan n (straight e))
 direct-written n e has h = record {

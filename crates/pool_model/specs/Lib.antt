@@ -7,5 +7,4 @@ pub mod Naming
 pub mod Plan
 pub mod Starting
 pub mod Claim
-pub mod Nodes
 pub mod Worked

@@ -1,10 +1,11 @@
 -- The starting plans, which the solver tries first, and the bound that margins alone give.
-use Rattle.std.specs.Prelude.{◌≡◌, ℕ, zero, suc, ◌<◌, min, Bool, true, ◌&&◌, ◌==◌, if◌then◌else◌, ◌⊎◌, Option, Some, None, ℤ, pos, neg_ℤ, ◌-ℤ◌, ◌*ℤ◌, int_le}
+use Rattle.std.specs.Prelude.{◌≡◌, ℕ, zero, suc, ◌+◌, ◌-◌, ◌<◌, ◌≤◌, nat_lt, min, length, Bool, true, ◌&&◌, ◌==◌, if◌then◌else◌, ◌⊎◌, Option, Some, None, ℤ, pos, neg_ℤ, ◌-ℤ◌, ◌*ℤ◌, ◌≤ℤ◌, ◌<ℤ◌, int_le}
 use Rattle.std.specs.Int.{int_min, int_max}
 use Rattle.integers.specs.Sums.{int_sum_below, sum_at}
 use Rattle.integers.specs.Numbers.{tabulate}
 use Rattle.pool_model.specs.Network.{Net}
-use Rattle.pool_model.specs.Plan.{Written}
+use Rattle.pool_model.specs.Paths.{paths_of, path_at}
+use Rattle.pool_model.specs.Plan.{Written, plan_of, Obeys, cost_of}
 
 -- no product must take anything
 abbrev pub HasNoMinima : Net → Type 0
@@ -89,9 +90,59 @@ simple_plan n (straight e) = record {
   direct = tabulate (alone e (direct_flow n e)) n.directs;
 }
 
+-- the source and the product at the ends of a way
+abbrev pub way_source : Net → Way → ℕ
+way_source n (through e o) = n.feed_source e
+way_source n (straight e) = n.direct_source e
+
+abbrev pub way_product : Net → Way → ℕ
+way_product n (through e o) = n.out_product o
+way_product n (straight e) = n.direct_product e
+
+-- how much a way alone carries
+abbrev pub way_flow : Net → Way → ℕ
+way_flow n (through e o) = path_flow n e o
+way_flow n (straight e) = direct_flow n e
+
+-- what the simple plan of a way costs, in picos: the source's cost less the product's price, for each unit that it carries
+abbrev pub way_cost : Net → Way → ℤ
+way_cost n way = (n.source_cost (way_source n way) -ℤ n.price (way_product n way)) *ℤ pos (way_flow n way)
+
+-- each product takes what it must, where so much flows to this product and nothing to the others
+abbrev pub MeetsMinima : Net → ℕ → ℕ → Type 0
+MeetsMinima n product flow = (j : ℕ) → j < n.products → n.product_min j ≤ (if product == j then flow else 0)
+
 -- the plans that the solver tries first
 abbrev pub IsStarting : Net → Written → Type 0
 IsStarting n w = (w ≡ zero_plan n) ⊎ ((way : Way) × IsWay n way × (w ≡ simple_plan n way))
+
+-- the ways in order: the paths, then the directs
+abbrev pub way_at : Net → ℕ → Way
+way_at n a = if nat_lt a (length (paths_of n)) then through (path_at n a).feed (path_at n a).out else straight (a - length (paths_of n))
+
+-- the starting plans in order: the zero plan, then the simple plan of each way
+abbrev pub start_at : Net → ℕ → Written
+start_at n zero = zero_plan n
+start_at n (suc a) = simple_plan n (way_at n a)
+
+abbrev pub starts : Net → ℕ
+starts n = 1 + length (paths_of n) + n.directs
+
+-- the starting plan of a number obeys, and what it costs
+abbrev pub StartObeys : Net → ℕ → Type 0
+StartObeys n k = Obeys n (plan_of n (start_at n k))
+
+abbrev pub start_cost : Net → ℕ → ℤ
+start_cost n k = cost_of n (plan_of n (start_at n k))
+
+-- A starting plan that obeys. No starting plan that obeys costs less, and those before it in order cost more.
+pub record IsCheapestStart (n : Net) (w : Written) : Type 0 where
+  pub number : ℕ
+  pub there : number < starts n
+  pub is : w ≡ start_at n number
+  pub obeys : Obeys n (plan_of n w)
+  pub no_dearer : (v : Written) → IsStarting n v → Obeys n (plan_of n v) → cost_of n (plan_of n w) ≤ℤ cost_of n (plan_of n v)
+  pub first : (k : ℕ) → k < number → StartObeys n k → cost_of n (plan_of n w) <ℤ start_cost n k
 
 -- ---- the reach bound
 
