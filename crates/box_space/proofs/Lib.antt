@@ -1,6 +1,6 @@
 pub mod TermLists
-pub mod KeyTerms
-pub mod WriteSteps
+pub mod Segments
+pub mod Writing
 pub mod Roots
 pub mod ViewSteps
 pub mod Halving

@@ -1,5 +1,6 @@
 pub mod Lines
-pub mod Numbers
+pub mod Blocks
+pub mod Keys
 pub mod Counted
 pub mod Tables
 pub mod Written

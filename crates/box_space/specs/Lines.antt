@@ -16,7 +16,11 @@ term_of v c = if unsigned_abs c == 0 then [] else record { var = v; coef = c } �
 abbrev pub terms_at : (ℕ → ℕ) → (ℕ → ℤ) → List ℕ → List Term
 terms_at var c numbers = flat_map (λ i. term_of (var i) (c i)) numbers
 
+-- the terms of so many variables: the variable of each number, with the coefficient of each
+abbrev pub terms_by : (ℕ → ℕ) → (ℕ → ℤ) → ℕ → List Term
+terms_by var f zero = []
+terms_by var f (suc n) = terms_by var f n ++ term_of (var n) (f n)
+
 -- the terms of so many variables from a first one on, by rising number
 abbrev pub terms_from : ℕ → (ℕ → ℤ) → ℕ → List Term
-terms_from first f zero = []
-terms_from first f (suc n) = terms_from first f n ++ term_of (first + n) (f n)
+terms_from first f n = terms_by (λ i. first + i) f n

@@ -1,10 +1,9 @@
-//! How many there are of each kind, and where the variables of each kind begin.
+//! How many there are of each kind.
 
 ghost use Rattle.std.specs.Prelude.{◌≡◌, ◌≤◌, ◌*◌};
 ghost use Rattle.pool_model.specs.Network.{net_of, IsLimited};
 ghost use Rattle.row_model.specs.Variables.{path_count};
-ghost use Rattle.box_space.specs.Counted.{AreCounts, AreFirsts};
-ghost use Rattle.box_space.specs.Numbers.{first_mixed};
+ghost use Rattle.box_space.specs.Counted.{AreCounts};
 
 use blend_network::Network;
 
@@ -37,43 +36,6 @@ pub fn counts_in(net: &Network) -> Counts
         outs,
         directs,
         paths: net.paths(),
-    }
-}
-
-/// The first variable of each kind but the first kind, the flows along feeds, which begin at 0.
-#[derive(Clone, Copy, Debug)]
-pub struct Firsts {
-    /// Flows along outs.
-    pub outs: u32,
-    /// Flows along directs.
-    pub directs: u32,
-    /// Flows along paths.
-    pub paths: u32,
-    /// Proportions of feeds.
-    pub proportions: u32,
-    /// Qualities of pools.
-    pub qualities: u32,
-    /// Qualities of pools times flows along outs.
-    pub mixed: u32,
-}
-
-/// The first variables of a network.
-pub fn firsts_in(net: &Network) -> Firsts
-    ensures firsts { AreFirsts (net_of net.now) result }
-    ensures small { first_mixed (net_of net.now) ≤ 1152 }
-{
-    let counts = counts_in(net);
-    let directs = counts.feeds + counts.outs;
-    let paths = directs + counts.directs;
-    let proportions = paths + counts.paths;
-    let qualities = proportions + counts.feeds;
-    Firsts {
-        outs: counts.feeds,
-        directs,
-        paths,
-        proportions,
-        qualities,
-        mixed: qualities + grid(counts.pools, counts.qualities),
     }
 }
 

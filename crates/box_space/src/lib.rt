@@ -10,7 +10,7 @@ mod arcs;
 mod boxes;
 mod coordinates;
 mod counts;
-mod kinds;
+mod keys;
 mod limits;
 mod multipliers;
 mod numbers;
@@ -24,15 +24,13 @@ mod write;
 pub use arcs::{direct_ends, feed_ends, out_ends, path_arcs, path_ends};
 pub use boxes::{BoxEnds, BoxView, can_cut, halves};
 pub use coordinates::{Coord, Form, Split, coord_at, coords, of_form};
-pub use counts::{Counts, Firsts, counts_in, firsts_in};
+pub use counts::{Counts, counts_in};
+pub use keys::Key;
 pub use limits::{count_limits, limit_at};
 pub use multipliers::{Part, Proof};
-pub use numbers::{flow_coordinate, mixed_number, quality_coordinate, quality_number};
+pub use numbers::{flow_coordinate, quality_coordinate, variable_number};
 pub use root::{root_box, root_ends};
 pub use rows::{LinRow, RowKind};
-pub use table::{
-    DirectTerms, FeedTerms, MixedTerms, MixingTerms, OutTerms, PathTerms, ProportionTerms,
-    QualityTerms, Rate, RowTable,
-};
+pub use table::{Block, Factor, Rate, RowTable, Terms};
 pub use terms::Term;
 pub use variables::{Variable, var_cost, var_ends, variable_at, vars};

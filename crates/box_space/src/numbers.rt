@@ -3,29 +3,36 @@
 ghost use Rattle.std.specs.Prelude.{◌≡◌, ◌+◌, ◌*◌, ◌<◌, ◌≤◌, ◌^◌};
 ghost use Rattle.pool_model.specs.Network.{net_of};
 ghost use Rattle.row_model.specs.Boxes.{qual_number, flow_number};
-ghost use Rattle.box_space.specs.Numbers.{first_qualities, first_mixed};
+ghost use Rattle.box_space.specs.Blocks.{IsBlock, size_of, number_of};
 
-use crate::counts::{counts_in, firsts_in, grid};
+use crate::counts::{counts_in, grid};
+use crate::table::Block;
 use blend_network::Network;
 
-/// The number of a pool's quality among the variables.
-pub fn quality_number(net: &Network, pool: u32, quality: u32) -> u32
-    requires pool { pool < (net_of net.now).pools }
-    requires quality { quality < (net_of net.now).qualities }
-    ensures { result ≡ first_qualities (net_of net.now) + (pool * (net_of net.now).qualities + quality) }
+/// The number of a block's variable among all variables.
+pub fn variable_number(net: &Network, block: Block, number: u32) -> u32
+    requires block { IsBlock (net_of net.now) block }
+    requires among { number < size_of (net_of net.now) block }
+    ensures { result ≡ number_of (net_of net.now) block number }
 {
     let counts = counts_in(net);
-    firsts_in(net).qualities + in_grid(pool, counts.qualities, quality)
-}
-
-/// The number of a quality times an out's flow among the variables.
-pub fn mixed_number(net: &Network, out: u32, quality: u32) -> u32
-    requires out { out < (net_of net.now).outs }
-    requires quality { quality < (net_of net.now).qualities }
-    ensures { result ≡ first_mixed (net_of net.now) + (out * (net_of net.now).qualities + quality) }
-{
-    let counts = counts_in(net);
-    firsts_in(net).mixed + in_grid(out, counts.qualities, quality)
+    let outs = counts.feeds;
+    let directs = outs + counts.outs;
+    let paths = directs + counts.directs;
+    let proportions = paths + counts.paths;
+    let qualities = proportions + counts.feeds;
+    match block {
+        Block::Feeds => number,
+        Block::Outs => outs + number,
+        Block::Directs => directs + number,
+        Block::Paths => paths + number,
+        Block::Proportions => proportions + number,
+        Block::Qualities(quality) => qualities + in_grid(number, counts.qualities, quality),
+        Block::Mixed(quality) => {
+            let mixed = qualities + grid(counts.pools, counts.qualities);
+            mixed + in_grid(number, counts.qualities, quality)
+        }
+    }
 }
 
 /// The number of a pool's quality among the coordinates.

@@ -1,6 +1,26 @@
-//! A row kind by kind: which variables it takes, and with which coefficients.
+//! Rows as tables: which variables a row takes, and with which coefficients.
 
+use crate::keys::Key;
 use crate::rows::RowKind;
+
+/// The variables of one kind, numbered one after another.
+#[derive(Clone, Copy, Debug)]
+pub enum Block {
+    /// What flows along each feed.
+    Feeds,
+    /// What flows along each out.
+    Outs,
+    /// What flows along each direct.
+    Directs,
+    /// What flows along each path.
+    Paths,
+    /// Each feed's proportion in its pool.
+    Proportions,
+    /// A quality of each pool.
+    Qualities(u32),
+    /// A quality of each out's pool, times what flows along the out.
+    Mixed(u32),
+}
 
 /// What is made of a source's quality, in millionths.
 #[derive(Clone, Copy, Debug)]
@@ -15,100 +35,29 @@ pub enum Rate {
     Above(i64),
 }
 
-/// What a row takes of the flows along feeds.
+/// The coefficients of some variables of a block.
 #[derive(Clone, Copy, Debug)]
-pub enum FeedTerms {
+pub enum Factor {
+    /// One for all.
+    Same(i128),
+    /// What is made of a quality of the source that each comes from.
+    OfQuality(u32, Rate),
+}
+
+/// What a row takes of a block of variables.
+#[derive(Clone, Copy, Debug)]
+pub enum Terms {
     Nothing,
-    /// One feed.
-    One(u32, i128),
-    /// The feeds from a source.
-    From(u32, i128),
-    /// The feeds to a pool.
-    To(u32, i128),
-    /// The feeds to a pool, each by a quality of its source.
-    RatedTo(u32, u32, Rate),
+    /// One variable, by its number in the block, and its coefficient.
+    One(Block, u32, i128),
+    /// All that a key has at a node.
+    All(Block, Key, u32, Factor),
 }
 
-/// What a row takes of the flows along outs.
-#[derive(Clone, Copy, Debug)]
-pub enum OutTerms {
-    Nothing,
-    /// One out.
-    One(u32, i128),
-    /// The outs from a pool.
-    From(u32, i128),
-    /// The outs to a product.
-    To(u32, i128),
-}
-
-/// What a row takes of the flows along directs.
-#[derive(Clone, Copy, Debug)]
-pub enum DirectTerms {
-    Nothing,
-    /// The directs from a source.
-    From(u32, i128),
-    /// The directs to a product.
-    To(u32, i128),
-    /// The directs to a product, each by a quality of its source.
-    RatedTo(u32, u32, Rate),
-}
-
-/// What a row takes of the flows along paths.
-#[derive(Clone, Copy, Debug)]
-pub enum PathTerms {
-    Nothing,
-    /// One path.
-    One(u32, i128),
-    /// The paths that begin with a feed.
-    From(u32, i128),
-    /// The paths that end with an out.
-    By(u32, i128),
-    /// The paths to a product, each by a quality of its source.
-    RatedTo(u32, u32, Rate),
-}
-
-/// What a row takes of the proportions of feeds.
-#[derive(Clone, Copy, Debug)]
-pub enum ProportionTerms {
-    Nothing,
-    /// One feed.
-    One(u32, i128),
-    /// The feeds to a pool.
-    To(u32, i128),
-}
-
-/// What a row takes of the qualities of pools.
-#[derive(Clone, Copy, Debug)]
-pub enum QualityTerms {
-    Nothing,
-    /// One pool and one quality.
-    One(u32, u32, i128),
-}
-
-/// What a row takes of the qualities of pools times the flows along outs.
-#[derive(Clone, Copy, Debug)]
-pub enum MixedTerms {
-    Nothing,
-    /// One out and one quality.
-    One(u32, u32, i128),
-    /// One quality of some outs.
-    Each(OutTerms, u32),
-}
-
-/// What a row takes of the variables that stand for the mixing in pools: by proportions, or by qualities.
-#[derive(Clone, Copy, Debug)]
-pub enum MixingTerms {
-    Proportions(PathTerms, ProportionTerms),
-    Qualities(QualityTerms, MixedTerms),
-}
-
-/// A row, kind by kind.
+/// A row. Its blocks rise in the order of [`Block`], each once.
 #[derive(Clone, Copy, Debug)]
 pub struct RowTable {
     pub kind: RowKind,
-    pub feeds: FeedTerms,
-    pub outs: OutTerms,
-    pub directs: DirectTerms,
-    pub mixing: MixingTerms,
+    pub terms: [Terms; 3],
     pub constant: i128,
 }

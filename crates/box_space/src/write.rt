@@ -1,119 +1,107 @@
 //! Rows written from their tables.
 
-ghost use Rattle.std.specs.Prelude.{◌≡◌, ◌++◌, ◌+◌, ◌*◌, ◌/◌, ◌%◌, ◌<◌, ◌≤◌, All, length};
+ghost use Rattle.std.specs.Prelude.{◌≡◌, ◌++◌, ◌+◌, ◌<◌, ◌≤◌, length};
 ghost use Rattle.pool_model.specs.Network.{net_of};
-ghost use Rattle.box_space.specs.Lines.{terms_at, terms_from};
-ghost use Rattle.box_space.specs.Numbers.{first_qualities, first_mixed};
-ghost use Rattle.box_space.specs.Tables as tables;
+ghost use Rattle.box_space.specs.Blocks.{IsBlock, size_of, source_of as source_in, HasSource};
+ghost use Rattle.box_space.specs.Keys.{nodes_of, count_of};
+ghost use Rattle.box_space.specs.Tables.{IsTable, row_of, AreTerms, IsFactor, terms_of, most_of, factor_of, rated as made_of};
 ghost use Rattle.box_space.specs.Written.{IsLineOf};
 
+use crate::arcs::{direct_ends, feed_ends, path_ends};
 use crate::counts::counts_in;
-use crate::numbers::{mixed_number, quality_number};
+use crate::keys::{Key, numbers_at};
+use crate::numbers::variable_number;
 use crate::rows::{LinRow, RowKind};
-use crate::table::{MixedTerms, MixingTerms, OutTerms, QualityTerms, RowTable};
+use crate::table::{Block, Factor, Rate, RowTable, Terms};
 use blend_network::Network;
 
 impl LinRow {
     /// Writes the row of a table in place of what stands there: terms by rising variable, each variable once. It costs what
-    /// the terms cost.
+    /// the terms cost: the network names the arcs and the paths that have one.
     pub fn write(&mut self, net: &Network, table: &RowTable) -> RowKind
-        requires { tables.IsTable (net_of net.now) table.now }
-        ensures { IsLineOf (net_of net.now) (tables.row_of (net_of net.now) table.now) self.new result }
+        requires { IsTable (net_of net.now) table.now }
+        ensures { IsLineOf (net_of net.now) (row_of (net_of net.now) table.now) self.new result }
     {
         // Arcs and paths are few enough that there is room.
         let _counts = counts_in(net);
         self.clear();
         self.set_constant(table.constant);
-        self.add_feeds(net, table.feeds);
-        self.add_outs(net, table.outs);
-        self.add_directs(net, table.directs);
-        self.add_mixing(net, table.mixing);
+        for terms in &table.terms {
+            self.add_terms(net, *terms);
+        }
         table.kind
     }
 
-    /// Adds the terms of what stands for the mixing in pools.
-    fn add_mixing(&mut self, net: &Network, terms: MixingTerms)
-        requires terms { tables.AreMixingTerms (net_of net.now) terms }
-        requires room { length self.old.terms ≤ 256 }
-        ensures terms { self.new.terms ≡ self.old.terms ++ tables.mixing_terms (net_of net.now) terms }
+    /// Adds terms.
+    fn add_terms(&mut self, net: &Network, terms: Terms)
+        requires known { AreTerms (net_of net.now) terms }
+        requires room { length self.old.terms + most_of (net_of net.now) terms ≤ 1024 }
+        ensures terms { self.new.terms ≡ self.old.terms ++ terms_of (net_of net.now) terms }
         ensures constant { self.new.constant ≡ self.old.constant }
     {
         match terms {
-            MixingTerms::Proportions(paths, proportions) => {
-                let _counts = counts_in(net);
-                self.add_paths(net, paths);
-                self.add_proportions(net, proportions);
+            Terms::Nothing => {}
+            Terms::One(block, number, coef) => {
+                self.add_term(variable_number(net, block, number), coef);
             }
-            MixingTerms::Qualities(qualities, mixed) => {
-                let _counts = counts_in(net);
-                self.add_quality(net, qualities);
-                self.add_mixed(net, mixed);
-            }
+            Terms::All(block, key, node, factor) => self.add_all(net, block, key, node, factor),
         }
     }
 
-    /// Adds the terms of qualities.
-    fn add_quality(&mut self, net: &Network, terms: QualityTerms)
-        requires terms { tables.AreQualityTerms (net_of net.now) terms }
-        requires room { length self.old.terms < 1024 }
-        ensures terms { self.new.terms ≡ self.old.terms ++ terms_from (first_qualities (net_of net.now)) (λ i. tables.quality_coef terms (i / (net_of net.now).qualities) (i % (net_of net.now).qualities)) ((net_of net.now).pools * (net_of net.now).qualities) }
-        ensures size { length self.new.terms ≤ length self.old.terms + 1 }
+    /// Adds a term for each number that a key has at a node.
+    fn add_all(&mut self, net: &Network, block: Block, key: Key, node: u32, factor: Factor)
+        requires known { AreTerms (net_of net.now) (Terms.All block key node factor) }
+        requires room { length self.old.terms + size_of (net_of net.now) block ≤ 1024 }
+        ensures terms { self.new.terms ≡ self.old.terms ++ terms_of (net_of net.now) (Terms.All block key node factor) }
         ensures constant { self.new.constant ≡ self.old.constant }
     {
-        match terms {
-            QualityTerms::Nothing => {}
-            QualityTerms::One(pool, quality, coef) => {
-                self.add_term(quality_number(net, pool, quality), coef);
-            }
+        let numbers = numbers_at(net, key, node);
+        for number in numbers {
+            let coef = coef_at(net, block, factor, *number);
+            self.add_term(variable_number(net, block, *number), coef);
         }
     }
+}
 
-    /// Adds the terms of qualities times flows.
-    fn add_mixed(&mut self, net: &Network, terms: MixedTerms)
-        requires terms { tables.AreMixedTerms (net_of net.now) terms }
-        requires room { length self.old.terms + (net_of net.now).outs < 1024 }
-        ensures terms { self.new.terms ≡ self.old.terms ++ terms_from (first_mixed (net_of net.now)) (λ i. tables.mixed_coef (net_of net.now) terms (i / (net_of net.now).qualities) (i % (net_of net.now).qualities)) ((net_of net.now).outs * (net_of net.now).qualities) }
-        ensures constant { self.new.constant ≡ self.old.constant }
-    {
-        match terms {
-            MixedTerms::Nothing => {}
-            MixedTerms::One(out, quality, coef) => {
-                self.add_term(mixed_number(net, out, quality), coef);
-            }
-            MixedTerms::Each(outs, quality) => self.add_column(net, outs, quality),
+/// The coefficient of a block's variable.
+fn coef_at(net: &Network, block: Block, factor: Factor, number: u32) -> i128
+    requires factor { IsFactor (net_of net.now) block factor }
+    requires among { number < size_of (net_of net.now) block }
+    ensures { result ≡ factor_of (net_of net.now) block factor number }
+{
+    match factor {
+        Factor::Same(coef) => coef,
+        Factor::OfQuality(quality, rate) => {
+            let source = source_of(net, block, number);
+            rated(rate, net.source_quality(source, quality))
         }
     }
+}
 
-    /// Adds the terms of one quality times the flows along some outs.
-    fn add_column(&mut self, net: &Network, outs: OutTerms, quality: u32)
-        requires outs { tables.AreOutTerms (net_of net.now) outs }
-        requires quality { quality < (net_of net.now).qualities }
-        requires room { length self.old.terms + (net_of net.now).outs < 1024 }
-        ensures terms { self.new.terms ≡ self.old.terms ++ terms_from (first_mixed (net_of net.now)) (tables.mixed_column (net_of net.now) outs quality) ((net_of net.now).outs * (net_of net.now).qualities) }
-        ensures constant { self.new.constant ≡ self.old.constant }
-    {
-        match outs {
-            OutTerms::Nothing => {}
-            OutTerms::One(out, coef) => self.add_term(mixed_number(net, out, quality), coef),
-            OutTerms::From(pool, coef) => {
-                self.add_mixed_each(net, net.outs_from(pool), quality, coef);
-            }
-            OutTerms::To(product, coef) => {
-                self.add_mixed_each(net, net.outs_into(product), quality, coef);
-            }
-        }
+/// The source of a feed, of a direct or of a path.
+fn source_of(net: &Network, block: Block, number: u32) -> u32
+    requires flow { HasSource block }
+    requires among { number < size_of (net_of net.now) block }
+    ensures source { result ≡ source_in (net_of net.now) block number }
+    ensures known { result < (net_of net.now).sources }
+{
+    match block {
+        Block::Feeds => feed_ends(net, number).0,
+        Block::Directs => direct_ends(net, number).0,
+        Block::Paths => path_ends(net, number).0,
+        _ => unreachable!(),
     }
+}
 
-    /// Adds a term of one coefficient for one quality times the flow along each of these outs.
-    fn add_mixed_each(&mut self, net: &Network, outs: &[u32], quality: u32, coef: i128)
-        requires known { All (λ o. o < (net_of net.now).outs) outs.now }
-        requires quality { quality < (net_of net.now).qualities }
-        requires room { length self.old.terms + length outs.now ≤ 1024 }
-        ensures terms { self.new.terms ≡ self.old.terms ++ terms_at (λ o. first_mixed (net_of net.now) + (o * (net_of net.now).qualities + quality)) (λ o. coef) outs.now }
-        ensures constant { self.new.constant ≡ self.old.constant }
-    {
-        for out in outs {
-            self.add_term(mixed_number(net, *out, quality), coef);
-        }
+/// What is made of a quality.
+fn rated(rate: Rate, quality: i64) -> i128
+    ensures { result ≡ made_of rate quality }
+{
+    let quality = i128::from(quality);
+    match rate {
+        Rate::Plain => quality,
+        Rate::Less => -quality,
+        Rate::Below(limit) => i128::from(limit) - quality,
+        Rate::Above(limit) => quality - i128::from(limit),
     }
 }
