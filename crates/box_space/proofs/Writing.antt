@@ -11,14 +11,17 @@ use Rattle.integers.proofs.AtKey.{same_or_other, chosen, passed}
 use Rattle.integers.proofs.Numbers.{numbers_at-each}
 use Rattle.pool_model.specs.Network.{Net, IsLimited}
 use Rattle.row_model.specs.Variables.{path_count}
+use Rattle.row_model.specs.Catalogue.{Row}
 use Rattle.box_space.specs.declared.table.Block.{Block}
 use Rattle.box_space.specs.declared.table.Block.TheVariants.{Feeds, Outs, Directs, Paths, Proportions, Qualities, Mixed}
 use Rattle.box_space.specs.declared.table.Terms.{Terms}
 use Rattle.box_space.specs.declared.table.Terms.TheVariants.{Nothing, One, All as Every}
 use Rattle.box_space.specs.Blocks.{rank, size_of, number_of}
 use Rattle.box_space.specs.Keys.{key_of, count_of}
-use Rattle.box_space.specs.Lines.{term_of, terms_at}
+use Rattle.box_space.specs.declared.rows.RowKind.{RowKind}
+use Rattle.box_space.specs.Lines.{Line, term_of, terms_at}
 use Rattle.box_space.specs.Tables.{AreTerms, AreKnown, AreRising, factor_of, terms_of, most_of}
+use Rattle.box_space.specs.Written.{IsLineOf}
 use Rattle.box_space.proofs.TermLists.{length-term_of}
 
 -- ---- one item more of a list whose items have pieces
@@ -119,3 +122,9 @@ table-few n r [] l p known rising = omega arith
 table-few n r (Nothing ∷ ts) l p known rising = omega (arith, sum_by-cons (most_of n) Nothing ts, table-few n r ts l p known.1 rising)
 table-few n r (One b i c ∷ ts) l p known rising = omega (arith, sum_by-cons (most_of n) (One b i c) ts, table-few n (suc (rank b)) ts l p known.1 rising.1, block-few n b l p, spare-less r (rank b) rising.0, known.0.1)
 table-few n r (Every b key node f ∷ ts) l p known rising = omega (arith, sum_by-cons (most_of n) (Every b key node f) ts, table-few n (suc (rank b)) ts l p known.1 rising.1, block-few n b l p, spare-less r (rank b) rising.0)
+
+-- ---- a line of a row
+
+-- is one of the same row by another name
+pub line-same : (n : Net) (r s : Row) (line : Line) (said : RowKind) → r ≡ s → IsLineOf n r line said → IsLineOf n s line said
+line-same n r s line said e h = subst (λ (t : Row). IsLineOf n t line said) e h

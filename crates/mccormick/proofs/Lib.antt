@@ -1,1 +1,2 @@
 pub mod ThreeTerms
+pub mod BlockRows

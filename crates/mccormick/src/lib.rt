@@ -1,6 +1,7 @@
 //! The envelope of a product of two numbers between their ends (McCormick 1976): the four rows that bound `scale * w = a * b`.
 //!
-//! [`side_of`] gives a side's coefficients, and [`envelope`] writes them into a row, at the numbers of three variables.
+//! [`envelope`] writes a side into a row, at the numbers of three variables. `proofs/BlockRows.antt` says which row of a network
+//! that is.
 #![tactic(auto)]
 
 mod sides;
@@ -8,5 +9,5 @@ mod sides;
 mod tests;
 mod written;
 
-pub use sides::{Ends, Side, side_of};
+pub use sides::Ends;
 pub use written::envelope;

@@ -14,16 +14,16 @@ pub struct Ends {
 }
 
 /// The coefficients of w, a and b, and the constant, of a row that is at least 0.
-#[derive(Clone, Copy, Debug)]
-pub struct Side {
-    pub of_w: i128,
-    pub of_a: i128,
-    pub of_b: i128,
-    pub constant: i128,
+#[derive(Clone, Copy)]
+pub(crate) struct Side {
+    pub(crate) of_w: i128,
+    pub(crate) of_a: i128,
+    pub(crate) of_b: i128,
+    pub(crate) constant: i128,
 }
 
 /// A side of the envelope of `scale * w = a * b`, by its number from 1 to 4: two that bound w from below, and two from above.
-pub fn side_of(side: u8, scale: i64, ends: &Ends) -> Side
+pub(crate) fn side_of(side: u8, scale: i64, ends: &Ends) -> Side
     requires low { 1 ≤ side }
     requires high { side ≤ 4 }
     ensures { shown_side result ≡ side_lem side scale (shown_ends ends.now) }

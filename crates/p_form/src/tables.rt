@@ -74,13 +74,15 @@ fn mixed_most(u: Limit) -> RowTable
     ensures row { (n : Net) → row_of n result ≡ mixed_most_row n (shown_limit u) }
     ensures table { (n : Net) → u.product < n.products → u.quality < n.qualities → IsTable n result }
 {
+    let mixed = Block::Mixed(u.quality);
+    let limit = Factor::Same(u.limit.into());
     let room = Factor::OfQuality(u.quality, Rate::Below(u.limit));
     RowTable {
         kind: RowKind::AtLeast,
         terms: [
-            Terms::All(Block::Outs, Key::OutsInto, u.product, Factor::Same(u.limit.into())),
+            Terms::All(Block::Outs, Key::OutsInto, u.product, limit),
             Terms::All(Block::Directs, Key::DirectsInto, u.product, room),
-            Terms::All(Block::Mixed(u.quality), Key::OutsInto, u.product, Factor::Same(-1)),
+            Terms::All(mixed, Key::OutsInto, u.product, Factor::Same(-1)),
         ],
         constant: 0,
     }
@@ -91,13 +93,15 @@ fn mixed_least(u: Limit) -> RowTable
     ensures row { (n : Net) → row_of n result ≡ mixed_least_row n (shown_limit u) }
     ensures table { (n : Net) → u.product < n.products → u.quality < n.qualities → IsTable n result }
 {
+    let mixed = Block::Mixed(u.quality);
+    let limit = Factor::Same(-i128::from(u.limit));
     let room = Factor::OfQuality(u.quality, Rate::Above(u.limit));
     RowTable {
         kind: RowKind::AtLeast,
         terms: [
-            Terms::All(Block::Outs, Key::OutsInto, u.product, Factor::Same(-i128::from(u.limit))),
+            Terms::All(Block::Outs, Key::OutsInto, u.product, limit),
             Terms::All(Block::Directs, Key::DirectsInto, u.product, room),
-            Terms::All(Block::Mixed(u.quality), Key::OutsInto, u.product, Factor::Same(1)),
+            Terms::All(mixed, Key::OutsInto, u.product, Factor::Same(1)),
         ],
         constant: 0,
     }

@@ -6,15 +6,15 @@
 
 ghost use Rattle.std.specs.Prelude.{◌≡◌, ◌<◌, ◌≤◌};
 ghost use Rattle.pool_model.specs.Network.{Net, net_of};
-ghost use Rattle.row_model.specs.Catalogue.{pq_families, row_count, row_in, out_row as out_row_lem, share_row as share_row_lem};
+ghost use Rattle.row_model.specs.Catalogue as catalogue;
+ghost use Rattle.row_model.specs.Catalogue.{pq_families, row_count, row_in};
 ghost use Rattle.box_space.specs.Views.{IsView, shown_box};
 ghost use Rattle.box_space.specs.Written.{IsLineOf};
 ghost use Rattle.box_space.specs.Tables.{row_of, IsTable};
 
 use blend_network::Network;
 use box_space::{
-    BoxView, DirectTerms, FeedTerms, LinRow, MixingTerms, OutTerms, PathTerms, ProportionTerms,
-    RowKind, RowTable, counts_in, feed_ends,
+    Block, BoxView, Factor, Key, LinRow, RowKind, RowTable, Terms, counts_in, feed_ends,
 };
 
 /// How many parts a proportion is counted in.
@@ -54,15 +54,16 @@ fn table_at(net: &Network, n: u32) -> RowTable
 
 /// What flows along an out comes along its paths.
 fn out_row(out: u32) -> RowTable
-    ensures row { (n : Net) → row_of n result ≡ out_row_lem n out }
+    ensures row { (n : Net) → row_of n result ≡ catalogue.out_row n out }
     ensures table { (n : Net) → out < n.outs → IsTable n result }
 {
     RowTable {
         kind: RowKind::Equal,
-        feeds: FeedTerms::Nothing,
-        outs: OutTerms::One(out, -1),
-        directs: DirectTerms::Nothing,
-        mixing: MixingTerms::Proportions(PathTerms::By(out, 1), ProportionTerms::Nothing),
+        terms: [
+            Terms::One(Block::Outs, out, -1),
+            Terms::All(Block::Paths, Key::PathsAlong, out, Factor::Same(1)),
+            Terms::Nothing,
+        ],
         constant: 0,
     }
 }
@@ -70,19 +71,17 @@ fn out_row(out: u32) -> RowTable
 /// A feed brings no more than its proportion of its pool's maximum.
 fn share_row(net: &Network, feed: u32) -> RowTable
     requires { feed < (net_of net.now).feeds }
-    ensures row { row_of (net_of net.now) result ≡ share_row_lem (net_of net.now) feed }
+    ensures row { row_of (net_of net.now) result ≡ catalogue.share_row (net_of net.now) feed }
     ensures table { IsTable (net_of net.now) result }
 {
     let (_, pool) = feed_ends(net, feed);
     RowTable {
         kind: RowKind::AtLeast,
-        feeds: FeedTerms::Nothing,
-        outs: OutTerms::Nothing,
-        directs: DirectTerms::Nothing,
-        mixing: MixingTerms::Proportions(
-            PathTerms::From(feed, -GRAIN),
-            ProportionTerms::One(feed, net.pool_max(pool).into()),
-        ),
+        terms: [
+            Terms::All(Block::Paths, Key::PathsFrom, feed, Factor::Same(-GRAIN)),
+            Terms::One(Block::Proportions, feed, net.pool_max(pool).into()),
+            Terms::Nothing,
+        ],
         constant: 0,
     }
 }

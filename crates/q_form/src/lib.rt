@@ -5,6 +5,7 @@
 //! [`count`] says how many rows there are, and [`row`] writes one, in a box, in place of what stood in the row.
 #![tactic(auto)]
 
+mod envelopes;
 mod tables;
 
 ghost use Rattle.std.specs.Prelude.{◌≡◌, ◌<◌, ◌≤◌};
@@ -14,19 +15,15 @@ ghost use Rattle.row_model.specs.Catalogue.{q_families, row_count, row_in};
 ghost use Rattle.box_space.specs.Views.{IsView, shown_box};
 ghost use Rattle.box_space.specs.Written.{IsLineOf};
 
-use blend_network::{Bound, Network};
-use box_space::{BoxView, LinRow, RowKind, count_limits, counts_in};
+use blend_network::Network;
+use box_space::{BoxView, LinRow, RowKind};
 
 /// How many rows the form has: in every box as many.
 pub fn count(net: &Network) -> u32
     ensures count { (b : Box) → result ≡ row_count (q_families (net_of net.now) b) }
     ensures small { result ≤ 3344 }
 {
-    let counts = counts_in(net);
-    counts.pools
-        + (counts.feeds
-            + (count_limits(net, Bound::Most)
-                + (count_limits(net, Bound::Least) + counts.paths * 4)))
+    tables::count(net) + net.paths() * 4
 }
 
 /// Writes the row of a number.
@@ -35,6 +32,10 @@ pub fn row(net: &Network, n: u32, v: &BoxView, row: &mut LinRow) -> RowKind
     requires among { n < row_count (q_families (net_of net.now) (shown_box v.now)) }
     ensures { IsLineOf (net_of net.now) (row_in (q_families (net_of net.now) (shown_box v.now)) n) row.new result }
 {
-    let table = tables::table_at(net, v, n);
-    row.write(net, &table)
+    let first = tables::count(net);
+    if n < first {
+        let table = tables::table_at(net, n);
+        return row.write(net, &table);
+    }
+    envelopes::write(net, n - first, v, row)
 }

@@ -1,5 +1,5 @@
 -- The faults of a proof rest on the ends of the box's coordinates alone, and a proof in order has none.
-use Rattle.std.proofs.Common.{◌≡◌, ◌^◌, ◌<◌, All, ℕ, ℤ, pos, ◌≤ℤ◌, arith, subst}
+use Rattle.std.proofs.Common.{◌^◌, ◌<◌, All, ℕ, ℤ, pos, ◌≤ℤ◌, arith, subst}
 use Rattle.integers.proofs.Ring.{additive}
 use Rattle.pool_model.specs.Network.{Net, IsLimited}
 use Rattle.row_model.specs.Boxes.{Box, Agree}

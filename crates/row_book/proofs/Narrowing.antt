@@ -4,7 +4,7 @@ use Rattle.std.proofs.lemmas.List.{length-set}
 use Rattle.integers.proofs.Ring.{additive}
 use Rattle.integers.proofs.AtKey.{same_or_other}
 use Rattle.pool_model.specs.Network.{Net}
-use Rattle.row_model.specs.Boxes.{coords, root_low, root_high, coord_at, IsProper}
+use Rattle.row_model.specs.Boxes.{root_low, root_high, coord_at}
 use Rattle.box_space.specs.Views.{AreEnds}
 use Rattle.box_space.specs.declared.boxes.BoxEnds.{BoxEnds}
 

@@ -1,9 +1,8 @@
 -- The group of a row and its number there.
-use Rattle.std.proofs.Common.{◌≡◌, ℕ, ◌+◌, ◌-◌, ◌<◌, ◌≤◌, nat_lt, true, false, List, ◌++◌, refl, arith, sym, ap, subst, ◌∙◌}
+use Rattle.std.proofs.Common.{◌≡◌, ℕ, ◌+◌, ◌-◌, ◌<◌, ◌≤◌, ◌++◌, refl, arith, sym, ap, subst, ◌∙◌}
 use Rattle.pool_model.specs.Network.{Net, IsLimited}
 use Rattle.row_model.specs.Boxes.{Box, root, IsProper}
-use Rattle.row_model.specs.Catalogue.{Family, Row, network_families, p_families, q_families, pq_families, row_count, row_in, rows, row_at, catalogue}
-use Rattle.row_book.specs.declared.catalogue.Group.{Group}
+use Rattle.row_model.specs.Catalogue.{Row, network_families, p_families, q_families, pq_families, row_count, row_in, rows}
 use Rattle.row_book.specs.declared.catalogue.Group.TheVariants.{Network, P, Q, Further}
 use Rattle.row_book.specs.Groups.{group_by, row_by, row_in_group, IsPlaced}
 use Rattle.row_book.specs.PartRows.{kind_at, coef_at, constant_at, IsRow}

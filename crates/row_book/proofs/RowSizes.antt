@@ -1,19 +1,19 @@
 -- Every coefficient of every row is at most 10^14 in size.
-use Rattle.std.proofs.Common.{◌≡◌, ℕ, zero, suc, ◌+◌, ◌-◌, ◌*◌, ◌/◌, ◌%◌, ◌^◌, ◌<◌, ◌≤◌, min, Bool, true, false, ◌==◌, if◌then◌else◌, List, [], ◌∷◌, ◌++◌, length, get_or, All, Option, Some, None, ℤ, pos, neg_ℤ, ◌-ℤ◌, ◌≤ℤ◌, unsigned_abs, refl, arith, sym, ap, subst, ◌∙◌}
+use Rattle.std.proofs.Common.{◌≡◌, ℕ, zero, suc, ◌+◌, ◌*◌, ◌/◌, ◌%◌, ◌^◌, ◌<◌, ◌≤◌, min, Bool, true, false, ◌==◌, if◌then◌else◌, ◌++◌, length, get_or, Option, Some, None, ℤ, pos, neg_ℤ, ◌-ℤ◌, ◌≤ℤ◌, unsigned_abs, arith}
 use Rattle.std.specs.Prelude.{unwrap_or}
 use Rattle.std.proofs.lemmas.Int.{ints, clamps}
-use Rattle.std.proofs.lemmas.List.Elements.{All-nil, All-cons, All-append, All-get_or}
+use Rattle.std.proofs.lemmas.List.Elements.{All-get_or}
 use Rattle.pool_model.specs.Network.{Net, IsLimited, IsWithin}
 use Rattle.pool_model.specs.Starting.{lesser, least_below}
-use Rattle.row_model.specs.Boxes.{Box, Coord, prop, qual, flow, coords, coord_at, root_low, root_high, IsProper, greater, greatest_below, fed_quality, prop_number, qual_number, flow_number}
+use Rattle.row_model.specs.Boxes.{Box, Coord, coords, coord_at, root_low, root_high, IsProper, greater, greatest_below, fed_quality, prop_number, qual_number, flow_number}
 use Rattle.row_model.specs.Variables.{PerVariable, path_count, path_feed, path_out, variables, by_number}
 use Rattle.row_model.specs.Envelopes.{Ends, Side, side}
 use Rattle.pool_model.specs.Limits.{Limit, limits, no_limit, most_limits, least_limits}
 use Rattle.pool_model.proofs.Limits.{IsSet, limits-set}
-use Rattle.row_model.specs.Catalogue.{Family, Row, when, rows, row_at, catalogue, row_in, row_count, network_families, p_families, q_families, pq_families, source_row, balance_row, pool_row, maximum_row, minimum_row, mixing_row, mixed_most_row, mixed_least_row, quality_ends, quality_envelope_row, proportions_row, feed_row, path_most_row, path_least_row, proportion_ends, proportion_envelope_row, out_row, share_row}
+use Rattle.row_model.specs.Catalogue.{Row, when, rows, row_at, catalogue, network_families, p_families, q_families, pq_families, source_row, balance_row, pool_row, maximum_row, minimum_row, mixing_row, mixed_most_row, mixed_least_row, quality_ends, quality_envelope_row, proportions_row, feed_row, path_most_row, path_least_row, proportion_ends, proportion_envelope_row, out_row, share_row}
 use Rattle.integers.proofs.Grids.{grid-below, grid-row, grid-column}
 use Rattle.row_model.proofs.Numbering.{at_coord, HoldsByKind, by_number-each}
-use Rattle.row_model.proofs.PathSums.{path_feed-below, path_out-below, path-joined}
+use Rattle.row_model.proofs.PathSums.{path_feed-below, path_out-below}
 use Rattle.row_book.proofs.Families.{HoldsOfEach, each_row, each-append}
 
 -- at most 10^14 in size

@@ -6,10 +6,7 @@ ghost use Rattle.row_model.specs.Catalogue.{network_families, row_count, row_in,
 ghost use Rattle.box_space.specs.Tables.{row_of, IsTable};
 
 use blend_network::Network;
-use box_space::{
-    DirectTerms, FeedTerms, MixingTerms, OutTerms, PathTerms, ProportionTerms, RowKind, RowTable,
-    counts_in,
-};
+use box_space::{Block, Factor, Key, RowKind, RowTable, Terms, counts_in};
 
 /// How many rows of the network there are.
 pub(crate) fn count(net: &Network) -> u32
@@ -46,9 +43,6 @@ pub(crate) fn table_at(net: &Network, n: u32) -> RowTable
     minimum(net, n)
 }
 
-/// Nothing of what stands for the mixing in pools.
-const UNMIXED: MixingTerms = MixingTerms::Proportions(PathTerms::Nothing, ProportionTerms::Nothing);
-
 /// A source sends no more than its maximum.
 fn source(net: &Network, source: u32) -> RowTable
     requires { source < (net_of net.now).sources }
@@ -57,10 +51,11 @@ fn source(net: &Network, source: u32) -> RowTable
 {
     RowTable {
         kind: RowKind::AtLeast,
-        feeds: FeedTerms::From(source, -1),
-        outs: OutTerms::Nothing,
-        directs: DirectTerms::From(source, -1),
-        mixing: UNMIXED,
+        terms: [
+            Terms::All(Block::Feeds, Key::FeedsFrom, source, Factor::Same(-1)),
+            Terms::All(Block::Directs, Key::DirectsFrom, source, Factor::Same(-1)),
+            Terms::Nothing,
+        ],
         constant: net.source_max(source).into(),
     }
 }
@@ -72,10 +67,11 @@ fn balance(pool: u32) -> RowTable
 {
     RowTable {
         kind: RowKind::Equal,
-        feeds: FeedTerms::To(pool, 1),
-        outs: OutTerms::From(pool, -1),
-        directs: DirectTerms::Nothing,
-        mixing: UNMIXED,
+        terms: [
+            Terms::All(Block::Feeds, Key::FeedsInto, pool, Factor::Same(1)),
+            Terms::All(Block::Outs, Key::OutsFrom, pool, Factor::Same(-1)),
+            Terms::Nothing,
+        ],
         constant: 0,
     }
 }
@@ -88,10 +84,11 @@ fn pool(net: &Network, pool: u32) -> RowTable
 {
     RowTable {
         kind: RowKind::AtLeast,
-        feeds: FeedTerms::Nothing,
-        outs: OutTerms::From(pool, -1),
-        directs: DirectTerms::Nothing,
-        mixing: UNMIXED,
+        terms: [
+            Terms::All(Block::Outs, Key::OutsFrom, pool, Factor::Same(-1)),
+            Terms::Nothing,
+            Terms::Nothing,
+        ],
         constant: net.pool_max(pool).into(),
     }
 }
@@ -104,10 +101,11 @@ fn maximum(net: &Network, product: u32) -> RowTable
 {
     RowTable {
         kind: RowKind::AtLeast,
-        feeds: FeedTerms::Nothing,
-        outs: OutTerms::To(product, -1),
-        directs: DirectTerms::To(product, -1),
-        mixing: UNMIXED,
+        terms: [
+            Terms::All(Block::Outs, Key::OutsInto, product, Factor::Same(-1)),
+            Terms::All(Block::Directs, Key::DirectsInto, product, Factor::Same(-1)),
+            Terms::Nothing,
+        ],
         constant: net.product_max(product).into(),
     }
 }
@@ -120,10 +118,11 @@ fn minimum(net: &Network, product: u32) -> RowTable
 {
     RowTable {
         kind: RowKind::AtLeast,
-        feeds: FeedTerms::Nothing,
-        outs: OutTerms::To(product, 1),
-        directs: DirectTerms::To(product, 1),
-        mixing: UNMIXED,
+        terms: [
+            Terms::All(Block::Outs, Key::OutsInto, product, Factor::Same(1)),
+            Terms::All(Block::Directs, Key::DirectsInto, product, Factor::Same(1)),
+            Terms::Nothing,
+        ],
         constant: -i128::from(net.product_min(product)),
     }
 }

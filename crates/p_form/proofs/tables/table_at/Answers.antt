@@ -3,16 +3,15 @@ use Rattle.pool_model.specs.Network.{net_of}
 use Rattle.pool_model.specs.Limits.{most_limits, least_limits, no_limit}
 use Rattle.row_model.specs.Catalogue.{mixing_row, mixed_most_row, mixed_least_row}
 use Rattle.integers.proofs.Grids.{grid-row, grid-column}
-use Rattle.box_space.specs.Views.{shown_box}
 use Rattle.p_form.proofs.Families.{at_mixing, at_most, at_least}
 use Rattle.p_form.proofs.tables.table_at.Goals as goal
 
 pub returns-then-n-mixing_rows-clause-row : goal.returns-then-n-mixing_rows-clause-row
-returns-then-n-mixing_rows-clause-row c =
+returns-then-n-mixing_rows-clause-row c = λ b.
     let n = net_of c.args.net.now in
     let counts = c.counts_in-counts.ensures.counts in
     let rows : c.mixings-mixing_rows.result ≡ n.pools * n.qualities = omega (arith, c.mixings-mixing_rows.ensures.value, ap (λ (z : ℕ). z * c.counts_in-counts.result.qualities) counts.pools, ap (λ (z : ℕ). n.pools * z) counts.qualities) in
-    c.mixing.ensures.row n ∙ ap (λ (q : ℕ). mixing_row n (c.args.n / q) (c.args.n % q)) counts.qualities ∙ sym (at_mixing n (shown_box c.args.v.now) c.args.n (omega (arith, rows)))
+    c.mixing.ensures.row n ∙ ap (λ (q : ℕ). mixing_row n (c.args.n / q) (c.args.n % q)) counts.qualities ∙ sym (at_mixing n b c.args.n (omega (arith, rows)))
 
 pub returns-then-n-mixing_rows-clause-table : goal.returns-then-n-mixing_rows-clause-table
 returns-then-n-mixing_rows-clause-table c =
@@ -23,26 +22,26 @@ returns-then-n-mixing_rows-clause-table c =
     (omega (arith, counts.qualities, grid-column c.counts_in-counts.result.pools c.counts_in-counts.result.qualities c.args.n among))
 
 pub returns-then-n-most-clause-row : goal.returns-then-n-most-clause-row
-returns-then-n-most-clause-row c =
+returns-then-n-most-clause-row c = λ b.
     let n = net_of c.args.net.now in
     let counts = c.counts_in-counts.ensures.counts in
     let rows : c.mixings-mixing_rows.result ≡ n.pools * n.qualities = omega (arith, c.mixings-mixing_rows.ensures.value, ap (λ (z : ℕ). z * c.counts_in-counts.result.qualities) counts.pools, ap (λ (z : ℕ). n.pools * z) counts.qualities) in
     let place : c.args.n - c.mixings-mixing_rows.result ≡ c.args.n - n.pools * n.qualities = omega (arith, rows) in
     c.mixed_most.ensures.row n ∙ ap (mixed_most_row n) (c.limit_at.ensures.limit ∙ ap (λ (z : ℕ). get_or (most_limits n) z no_limit) place)
-    ∙ sym (at_most n (shown_box c.args.v.now) c.args.n (omega (arith, rows)) (omega (arith, rows, c.count_limits-most.ensures.count)))
+    ∙ sym (at_most n b c.args.n (omega (arith, rows)) (omega (arith, rows, c.count_limits-most.ensures.count)))
 
-pub returns-then-n-least-clause-row : goal.returns-then-n-least-clause-row
-returns-then-n-least-clause-row c =
+pub returns-clause-row : goal.returns-clause-row
+returns-clause-row c = λ b.
     let n = net_of c.args.net.now in
     let counts = c.counts_in-counts.ensures.counts in
     let most = c.count_limits-most.ensures.count in
     let rows : c.mixings-mixing_rows.result ≡ n.pools * n.qualities = omega (arith, c.mixings-mixing_rows.ensures.value, ap (λ (z : ℕ). z * c.counts_in-counts.result.qualities) counts.pools, ap (λ (z : ℕ). n.pools * z) counts.qualities) in
     let place : c.args.n - c.mixings-mixing_rows.result - c.count_limits-most.result ≡ c.args.n - n.pools * n.qualities - length (most_limits n) = omega (arith, rows, most) in
-    c.mixed_least.ensures.row n ∙ ap (mixed_least_row n) (c.limit_at-then-n-least.ensures.limit ∙ ap (λ (z : ℕ). get_or (least_limits n) z no_limit) place)
-    ∙ sym (at_least n (shown_box c.args.v.now) c.args.n (omega (arith, rows)) (omega (arith, rows, most)) (omega (arith, rows, most, c.count_limits-least.ensures.count)))
+    c.mixed_least.ensures.row n ∙ ap (mixed_least_row n) (c.limit_at-2.ensures.limit ∙ ap (λ (z : ℕ). get_or (least_limits n) z no_limit) place)
+    ∙ sym (at_least n b c.args.n (omega (arith, rows)) (omega (arith, rows, most)) (omega (arith, rows, most)))
 
 pub returns-then-n-most-clause-table : goal.returns-then-n-most-clause-table
 returns-then-n-most-clause-table c = c.mixed_most.ensures.table (net_of c.args.net.now) c.limit_at.ensures.product c.limit_at.ensures.quality
 
-pub returns-then-n-least-clause-table : goal.returns-then-n-least-clause-table
-returns-then-n-least-clause-table c = c.mixed_least.ensures.table (net_of c.args.net.now) c.limit_at-then-n-least.ensures.product c.limit_at-then-n-least.ensures.quality
+pub returns-clause-table : goal.returns-clause-table
+returns-clause-table c = c.mixed_least.ensures.table (net_of c.args.net.now) c.limit_at-2.ensures.product c.limit_at-2.ensures.quality

@@ -1,4 +1,4 @@
-use Rattle.std.proofs.Common.{ℕ, ◌<◌, ap, subst, ◌∙◌}
+use Rattle.std.proofs.Common.{◌<◌, ap, subst, ◌∙◌}
 use Rattle.pool_model.specs.Network.{net_of}
 use Rattle.box_space.specs.Views.{shown_box}
 use Rattle.box_space.specs.Tables.{row_of}
