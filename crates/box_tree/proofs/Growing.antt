@@ -14,9 +14,8 @@ use Rattle.row_model.specs.Trees.{Split, no_split, split_at, left_node, right_no
 use Rattle.row_model.specs.Entries.{Searched, after, split_of, IsSplitEntryInOrder, IsSearched}
 use Rattle.row_model.proofs.TreeLaw.{length_before, same_node, other_leaf}
 use Rattle.row_model.proofs.EntryLaw.{length-more, box_before, box_left, box_right, searched-kept}
-use Rattle.box_tree.specs.declared.span.Span.{Span}
-use Rattle.box_tree.specs.Spans.{IsSpanOf}
-use Rattle.box_tree.proofs.Spans.{spans-more}
+use Rattle.split_tree.specs.declared.span.Span.{Span}
+use Rattle.split_tree.specs.Splits.{with_split, IsOf as AreCut}
 use Rattle.box_tree.specs.Kept.{Kept, searched_of, IsKeptOf}
 use Rattle.box_tree.specs.Taken.{grown, IsTaken}
 
@@ -66,8 +65,8 @@ proof_at proofs left right t node long = elim (where_node t node) [
 abbrev searched_with : Searched → List Split → (ℕ → Option Proof) → Searched
 searched_with s splits proof = record s { tree = record { splits = splits; proof = proof } }
 
-grown-made : (k : Kept) (split : Split) (span : Span) (left right : Option Proof) (lb rb : Option ℤ) → length k.proofs ≡ nodes k.splits → searched_of (grown k split span left right lb rb) ≡ after (searched_of k) (split_of split left right)
-grown-made k split span left right lb rb long = ap (searched_with (searched_of k) (k.splits ++ split ∷ [])) (fun_ext (λ node. proof_at k.proofs left right (length k.splits) node long))
+grown-made : (k : Kept) (split : Split) (span : Span) (left right : Option Proof) (lb rb : Option ℤ) → length k.proofs ≡ nodes k.splits.list → searched_of (grown k split span left right lb rb) ≡ after (searched_of k) (split_of split left right)
+grown-made k split span left right lb rb long = ap (searched_with (searched_of k) (k.splits.list ++ split ∷ [])) (fun_ext (λ node. proof_at k.proofs left right (length k.splits.list) node long))
 
 -- ---- bounds
 
@@ -131,69 +130,22 @@ module _ (n : Net) (s : Searched) (split : Split) (left right : Option Proof) (i
       bound-new (right_node t) (right_of (box_of n s.tree.splits split.leaf) split.coord split.cut) right (cc (other_leaf (right_node t) (left_node t) (omega arith), same_node (right_node t))) there (box_right n s.tree.splits split)
       (passed (right_node t) (left_node t) left (if right_node t == right_node t then right else s.tree.proof (right_node t)) (omega arith) ∙ chosen (right_node t) (right_node t) right (s.tree.proof (right_node t)) refl)
 
--- ---- marks
-
-none_passes : (p : Split → Bool) (xs : List Split) → ((i : ℕ) → i < length xs → p (split_at xs i) ≡ false) → list_any p xs ≡ false
-none_passes p [] h = refl
-none_passes p (x ∷ xs) h =
-    let here : p x ≡ false = h 0 (omega arith) in
-    let rest = none_passes p xs (λ i lt. h (suc i) (omega arith)) in
-    cc
-
-cut_more : (splits : List Split) (s : Split) (node : ℕ) → is_cut (splits ++ s ∷ []) node ≡ (is_cut splits node || (s.leaf == node))
-cut_more splits s node = list_any-append (λ z. z.leaf == node) splits (s ∷ []) ∙ or_one (is_cut splits node) (s.leaf == node)
-  where
-    or_one : (a b : Bool) → (a || (b || false)) ≡ (a || b)
-    or_one true b = refl
-    or_one false true = refl
-    or_one false false = refl
-
--- no split cuts a node that is not there yet
-uncut_new : (n : Net) (tree : Tree) (split : Split) (node : ℕ) → IsTree n tree → split.leaf < nodes tree.splits → nodes tree.splits ≤ node → is_cut (tree.splits ++ split ∷ []) node ≡ false
-uncut_new n tree split node is there new =
-    let old : is_cut tree.splits node ≡ false = none_passes (λ z. z.leaf == node) tree.splits
-    (λ i lt. other_leaf (split_at tree.splits i).leaf node (omega (arith, (is.splits i lt).leaf.there, length_before tree.splits i (omega arith)))) in
-    let last : (split.leaf == node) ≡ false = other_leaf split.leaf node (omega arith) in
-    cut_more tree.splits split node ∙ ap (λ (b : Bool). b || (split.leaf == node)) old ∙ last
-
-mark_old : (cuts : List Bool) (splits : List Split) (split : Split) (node : ℕ) → split.leaf < length cuts → get_or cuts node false ≡ is_cut splits node
-    → get_or (set cuts split.leaf true) node false ≡ is_cut (splits ++ split ∷ []) node
-mark_old cuts splits split node lt same = elim (same_or_other node split.leaf) [
-  | inl e ↦
-      ap (λ (i : ℕ). get_or (set cuts split.leaf true) i false) e ∙ get_or-set_same cuts split.leaf true false lt
-      ∙ sym (cut_more splits split node ∙ ap (λ (b : Bool). is_cut splits node || b) (ap (λ (i : ℕ). split.leaf == i) e ∙ same_node split.leaf) ∙ or_true (is_cut splits node))
-  | inr d ↦
-      get_or-set_other cuts split.leaf node true false d ∙ same
-      ∙ sym (cut_more splits split node ∙ ap (λ (b : Bool). is_cut splits node || b) (other_leaf split.leaf node (λ e. d (sym e))) ∙ or_false (is_cut splits node))
-]
-  where
-    or_true : (a : Bool) → (a || true) ≡ true
-    or_true true = refl
-    or_true false = refl
-
-    or_false : (a : Bool) → (a || false) ≡ a
-    or_false true = refl
-    or_false false = refl
-
 -- ---- all of it
 
 pub split-taken : (n : Net) (k : Kept) (split : Split) (span : Span) (left right : Option Proof) (lb rb : Option ℤ) → IsKeptOf n k → IsSplitEntryInOrder n (searched_of k) split left right
-    → IsSpanOf (box_of n k.splits split.leaf) split.coord span
-    → lb ≡ raised (get_or k.bounds split.leaf None) (option_map (shown_by n (left_of (box_of n k.splits split.leaf) split.coord split.cut)) left)
-    → rb ≡ raised (get_or k.bounds split.leaf None) (option_map (shown_by n (right_of (box_of n k.splits split.leaf) split.coord split.cut)) right)
+    → AreCut n (with_split k.splits split span)
+    → lb ≡ raised (get_or k.bounds split.leaf None) (option_map (shown_by n (left_of (box_of n k.splits.list split.leaf) split.coord split.cut)) left)
+    → rb ≡ raised (get_or k.bounds split.leaf None) (option_map (shown_by n (right_of (box_of n k.splits.list split.leaf) split.coord split.cut)) right)
     → IsTaken n (split_of split left right) k (grown k split span left right lb rb)
-split-taken n k split span left right lb rb is order ends left_is right_is =
+split-taken n k split span left right lb rb is order cut left_is right_is =
     let s = searched_of k in
-    let t = length k.splits in
+    let t = length k.splits.list in
     let there = order.cuts.leaf.there in
     let made = grown-made k split span left right lb rb is.proved in
-    let more = length-more k.splits split in
+    let more = length-more k.splits.list split in
     let above : (o : Option Shown) → raised (get_or k.bounds split.leaf None) o ≡ raised (node_bound n s.tree split.leaf) o = λ o. ap (λ (b : Option ℤ). raised b o) (is.bounds split.leaf there) in
-    let one : length (span ∷ []) ≡ 1 = refl in
     let proofs : length (left ∷ right ∷ []) ≡ 2 = refl in
     let two : length (lb ∷ rb ∷ []) ≡ 2 = refl in
-    let marks : length (false ∷ false ∷ []) ≡ 2 = refl in
-    let set_long = length-set k.cuts split.leaf true in
     record {
       in_order = order;
       made = made;
@@ -201,16 +153,14 @@ split-taken n k split span left right lb rb is order ends left_is right_is =
         searched = subst (λ (z : Searched). IsSearched n z) (sym made) (searched-kept n s (split_of split left right) is.searched order);
         proved = omega (arith, length-append k.proofs (left ∷ right ∷ []), is.proved, more, proofs);
         bounded = omega (arith, length-append k.bounds (lb ∷ rb ∷ []), is.bounded, more, two);
-        spanned = omega (arith, length-append k.spans (span ∷ []), is.spanned, more, one);
-        spans = λ t h. spans-more n k split span is there (leaf_below n s split left right is.searched.tree) ends t (omega (arith, h, more));
-        marked = omega (arith, length-append (set k.cuts split.leaf true) (false ∷ false ∷ []), is.marked, more, marks, set_long);
+        splits = cut;
         bounds = λ node h. subst (λ (z : Searched). get_or (k.bounds ++ lb ∷ rb ∷ []) node None ≡ node_bound n z.tree node) (sym made) (elim (where_node t node) [
           | inl e ↦ at_left k.bounds lb rb None t is.bounded node e
-              ∙ left_is ∙ above (option_map (shown_by n (left_of (box_of n k.splits split.leaf) split.coord split.cut)) left)
+              ∙ left_is ∙ above (option_map (shown_by n (left_of (box_of n k.splits.list split.leaf) split.coord split.cut)) left)
               ∙ sym (ap (λ (m : ℕ). node_bound n (after s (split_of split left right)).tree m) e ∙ bound-left n s split left right is.searched.tree there)
           | inr r ↦ elim r [
             | inl e ↦ at_right k.bounds lb rb None t is.bounded node e
-                ∙ right_is ∙ above (option_map (shown_by n (right_of (box_of n k.splits split.leaf) split.coord split.cut)) right)
+                ∙ right_is ∙ above (option_map (shown_by n (right_of (box_of n k.splits.list split.leaf) split.coord split.cut)) right)
                 ∙ sym (ap (λ (m : ℕ). node_bound n (after s (split_of split left right)).tree m) e ∙ bound-right n s split left right is.searched.tree there)
             | inr o ↦ elim o [
               | inl b ↦ at_before k.bounds lb rb None t is.bounded node b ∙ is.bounds node b ∙ sym (bound-old n s split left right is.searched.tree node b)
@@ -218,17 +168,6 @@ split-taken n k split span left right lb rb is order ends left_is right_is =
             ]
           ]
         ]);
-        cuts = λ node h. elim (where_node t node) [
-          | inl e ↦ at_left (set k.cuts split.leaf true) false false false t (set_long ∙ is.marked) node e ∙ sym (uncut_new n s.tree split node is.searched.tree there (omega arith))
-          | inr r ↦ elim r [
-            | inl e ↦ at_right (set k.cuts split.leaf true) false false false t (set_long ∙ is.marked) node e ∙ sym (uncut_new n s.tree split node is.searched.tree there (omega arith))
-            | inr o ↦ elim o [
-              | inl b ↦ at_before (set k.cuts split.leaf true) false false false t (set_long ∙ is.marked) node b
-                  ∙ mark_old k.cuts k.splits split node (omega (arith, is.marked, there)) (is.cuts node b)
-              | inr p ↦ absurd (omega (arith, h, p, more))
-            ]
-          ]
-        ];
         cost = is.cost;
       };
     }

@@ -69,13 +69,10 @@ plan-taken n k w a is cost less =
       made = refl;
       kept = record {
         searched = searched-kept n (searched_of k) (improve w) is.searched order;
+        splits = is.splits;
         proved = is.proved;
         bounded = is.bounded;
-        marked = is.marked;
-        spanned = is.spanned;
-        spans = is.spans;
         bounds = is.bounds;
-        cuts = is.cuts;
         cost = cost;
       };
     }

@@ -1,117 +1,92 @@
 -- No fault comes before the first one that is found.
-use Rattle.std.proofs.Common.{◌≢◌, ℕ, ◌<◌, ◌≤◌, inl, inr, length, Option, Some, None, arith, refl, sym, subst}
+use Rattle.std.proofs.Common.{◌≢◌, ℕ, ◌<◌, ◌≤◌, inl, inr, List, [], length, Option, Some, None, arith, refl, sym, subst}
 use Rattle.std.specs.Prelude.{Result, Ok, Err, IfErr}
 use Rattle.std.specs.Option.{ForSome}
 use Rattle.integers.proofs.Ring.{additive}
+use Rattle.faults.proofs.First.{IsClear, lone-first}
 use Rattle.pool_model.specs.Network.{Net}
 use Rattle.pool_model.specs.Plan.{Written, plan_of, IsWritten, Obeys}
 use Rattle.plan_core.specs.Checks as plans
 use Rattle.plan_core.specs.declared.fault.PlanFault.{PlanFault}
 use Rattle.plan_core.specs.declared.fault.PlanFault.TheVariants.{Shape, WeightSum, SourceOver, PoolOver, ProductOver, ProductUnder, QualityOver, QualityUnder}
-use Rattle.row_model.specs.Boxes.{Box, root, coords, left_of, right_of}
+use Rattle.row_model.specs.Boxes.{Box, root}
 use Rattle.row_model.specs.Multipliers.{Proof, IsInOrder}
-use Rattle.row_model.specs.Trees.{Split, IsLeaf, box_of, CutsLeaf}
+use Rattle.row_model.specs.Trees.{Split, most_splits, box_of}
 use Rattle.row_model.specs.Entries.{Entry, Searched, root_proof, split_of, improve, IsCheaper, IsRootInOrder, IsSplitEntryInOrder, IsPlanInOrder, IsEntryInOrder}
 use Rattle.row_book.proofs.AgreedFaults.{no-fault}
 use Rattle.row_book.specs.Faults as proofs
 use Rattle.row_book.specs.declared.fault.ProofFault.{ProofFault}
-use Rattle.box_tree.specs.EntryFaults.{IsInside, IsProofFault, IsBadProof, IsHalfFault, SplitHas, RootHas, PlanHas, place, IsFirstFault}
+use Rattle.split_tree.specs.Faults as splits
+use Rattle.split_tree.specs.Faults.{Holds as SplitHolds}
+use Rattle.split_tree.specs.declared.fault.SplitFault.{SplitFault}
+use Rattle.split_tree.specs.declared.fault.SplitFault.TheVariants.{NotALeaf as NoLeaf, BadCoord as NoCoord, CutOutside as Outside, TooManySplits as TooMany}
+use Rattle.split_tree.specs.declared.span.Side.TheVariants.{Left, Right}
+use Rattle.split_tree.specs.Spans.{half_at}
+use Rattle.split_tree.specs.Splits.{MayCome}
+use Rattle.box_tree.specs.EntryFaults.{of_split, IsProofFault, IsBadProof, IsHalfFault, SplitHas, RootHas, PlanHas, number, IsFirstFault}
 use Rattle.box_tree.specs.declared.entry.EntryFault.{EntryFault}
 use Rattle.box_tree.specs.declared.entry.EntryFault.TheVariants.{NotALeaf, BadCoord, CutOutside, TooManySplits, BadProof, BadPlan, PlanNotBetter, RootLate, Memory}
 
 -- ---- splits
 
--- what is known of a split of which so many faults are ruled out
-pub record IsClear (n : Net) (s : Searched) (split : Split) (count : ℕ) : Type 0 where
-  pub leaf : 1 < count → IsLeaf s.tree.splits split.leaf
-  pub coord : 2 < count → split.coord < coords n
-  pub inside : 3 < count → IsInside (box_of n s.tree.splits split.leaf) split
-  pub few : 4 < count → length s.tree.splits < 20000
-  pub end : count ≤ 5
+-- a split that may come next has none of the faults of a split alone
+no-split-fault : (n : Net) (splits : List Split) (split : Split) (f : SplitFault) → MayCome n splits split → length splits < most_splits → ¬ SplitHolds n splits split f
+no-split-fault n splits split NoLeaf cuts few h = h cuts.leaf
+no-split-fault n splits split NoCoord cuts few h = omega (arith, h, cuts.coord)
+no-split-fault n splits split Outside cuts few h = h record { low = cuts.low; high = cuts.high }
+no-split-fault n splits split TooMany cuts few h = omega (arith, h, few)
 
-clear : (n : Net) (s : Searched) (split : Split) (left right : Option Proof) (count : ℕ) → IsClear n s split count → (earlier : EntryFault) → place earlier < count → ¬ SplitHas n s split left right earlier
-clear n s split left right count is NotALeaf lt has = has (is.leaf lt)
-clear n s split left right count is BadCoord lt has = let coord = is.coord lt in omega (arith, coord, has)
-clear n s split left right count is CutOutside lt has = has (is.inside lt)
-clear n s split left right count is TooManySplits lt has = let few = is.few lt in omega (arith, few, has)
-clear n s split left right count is (BadProof f) lt has = absurd (omega (arith, is.end, lt))
-clear n s split left right count is (BadPlan f) lt has = has
-clear n s split left right count is PlanNotBetter lt has = has
-clear n s split left right count is RootLate lt has = has
-clear n s split left right count is Memory lt has = has
+module _ (n : Net) (s : Searched) (split : Split) (left right : Option Proof) where
+  split_clear : (count : ℕ) → count ≤ 5 → ((f : SplitFault) → splits.number f < count → ¬ SplitHolds n s.tree.splits split f) → IsClear number (SplitHas n s split left right) count
+  split_clear count most clear = record { none = none }
+    where
+      none : (f : EntryFault) → number f < count → ¬ SplitHas n s split left right f
+      none NotALeaf less = clear NoLeaf less
+      none BadCoord less = clear NoCoord less
+      none CutOutside less = clear Outside less
+      none TooManySplits less = clear TooMany less
+      none f less = absurd (omega (arith, less, most))
 
-pub no-leaf : (n : Net) (s : Searched) (split : Split) (left right : Option Proof) → ¬ IsLeaf s.tree.splits split.leaf → IsFirstFault n s (split_of split left right) NotALeaf
-no-leaf n s split left right h = record {
-  holds = h;
-  first = clear n s split left right 1 record { leaf = λ lt. absurd (omega arith); coord = λ lt. absurd (omega arith); inside = λ lt. absurd (omega arith); few = λ lt. absurd (omega arith); end = omega arith };
-}
+  before : (f : SplitFault) → splits.IsFirstFault n s.tree.splits split f → (g : SplitFault) → splits.number g < splits.number f → ¬ SplitHolds n s.tree.splits split g
+  before f h g less = h.first g (inl less)
 
-pub no-coord : (n : Net) (s : Searched) (split : Split) (left right : Option Proof) → IsLeaf s.tree.splits split.leaf → coords n ≤ split.coord → IsFirstFault n s (split_of split left right) BadCoord
-no-coord n s split left right leaf h = record {
-  holds = h;
-  first = clear n s split left right 2 record { leaf = λ lt. leaf; coord = λ lt. absurd (omega arith); inside = λ lt. absurd (omega arith); few = λ lt. absurd (omega arith); end = omega arith };
-}
+  -- the first fault of a split alone is the entry's
+  pub bad-split : (f : SplitFault) → splits.IsFirstFault n s.tree.splits split f → IsFirstFault n s (split_of split left right) (of_split f)
+  bad-split NoLeaf h = lone-first {about = λ f. []} NotALeaf refl h.holds (split_clear 1 (omega arith) (before NoLeaf h))
+  bad-split NoCoord h = lone-first {about = λ f. []} BadCoord refl h.holds (split_clear 2 (omega arith) (before NoCoord h))
+  bad-split Outside h = lone-first {about = λ f. []} CutOutside refl h.holds (split_clear 3 (omega arith) (before Outside h))
+  bad-split TooMany h = lone-first {about = λ f. []} TooManySplits refl h.holds (split_clear 4 (omega arith) (before TooMany h))
 
-pub not-inside : (n : Net) (s : Searched) (split : Split) (left right : Option Proof) → IsLeaf s.tree.splits split.leaf → split.coord < coords n → ¬ IsInside (box_of n s.tree.splits split.leaf) split
-    → IsFirstFault n s (split_of split left right) CutOutside
-not-inside n s split left right leaf coord h = record {
-  holds = h;
-  first = clear n s split left right 3 record { leaf = λ lt. leaf; coord = λ lt. coord; inside = λ lt. absurd (omega arith); few = λ lt. absurd (omega arith); end = omega arith };
-}
+  bad-half : (f : ProofFault) → MayCome n s.tree.splits split → length s.tree.splits < most_splits → IsHalfFault n (box_of n s.tree.splits split.leaf) split left right f
+      → IsFirstFault n s (split_of split left right) (BadProof f)
+  bad-half f cuts few h = lone-first {about = λ f. []} (BadProof f) refl h (split_clear 5 (omega arith) (λ g less. no-split-fault n s.tree.splits split g cuts few))
 
-pub too-many : (n : Net) (s : Searched) (split : Split) (left right : Option Proof) → IsLeaf s.tree.splits split.leaf → split.coord < coords n → IsInside (box_of n s.tree.splits split.leaf) split → 20000 ≤ length s.tree.splits
-    → IsFirstFault n s (split_of split left right) TooManySplits
-too-many n s split left right leaf coord inside h = record {
-  holds = h;
-  first = clear n s split left right 4 record { leaf = λ lt. leaf; coord = λ lt. coord; inside = λ lt. inside; few = λ lt. absurd (omega arith); end = omega arith };
-}
+  -- the same by what a half's proof was answered with
+  pub bad-left : (fault : EntryFault) → MayCome n s.tree.splits split → length s.tree.splits < most_splits
+      → IsBadProof n (half_at n s.tree.splits split Left) left fault → IsFirstFault n s (split_of split left right) fault
+  bad-left fault cuts few bad = subst (IsFirstFault n s (split_of split left right)) (sym bad.is) (bad-half bad.found cuts few (inl bad.first))
 
-pub bad-half : (n : Net) (s : Searched) (split : Split) (left right : Option Proof) (f : ProofFault) → CutsLeaf n s.tree.splits (box_of n s.tree.splits split.leaf) split → length s.tree.splits < 20000
-    → IsHalfFault n (box_of n s.tree.splits split.leaf) split left right f → IsFirstFault n s (split_of split left right) (BadProof f)
-bad-half n s split left right f cuts few h = record {
-  holds = h;
-  first = clear n s split left right 5 record { leaf = λ lt. cuts.leaf; coord = λ lt. cuts.coord; inside = λ lt. record { low = cuts.low; high = cuts.high }; few = λ lt. few; end = omega arith };
-}
-
--- the same by what a half's proof was answered with
-pub bad-left : (n : Net) (s : Searched) (split : Split) (left right : Option Proof) (fault : EntryFault) → CutsLeaf n s.tree.splits (box_of n s.tree.splits split.leaf) split → length s.tree.splits < 20000
-    → IsBadProof n (left_of (box_of n s.tree.splits split.leaf) split.coord split.cut) left fault → IsFirstFault n s (split_of split left right) fault
-bad-left n s split left right fault cuts few bad = subst (λ (f : EntryFault). IsFirstFault n s (split_of split left right) f) (sym bad.is) (bad-half n s split left right bad.found cuts few (inl bad.first))
-
-pub bad-right : (n : Net) (s : Searched) (split : Split) (left right : Option Proof) (fault : EntryFault) → CutsLeaf n s.tree.splits (box_of n s.tree.splits split.leaf) split → length s.tree.splits < 20000
-    → ForSome left (IsInOrder n (left_of (box_of n s.tree.splits split.leaf) split.coord split.cut)) → IsBadProof n (right_of (box_of n s.tree.splits split.leaf) split.coord split.cut) right fault
-    → IsFirstFault n s (split_of split left right) fault
-bad-right n s split left right fault cuts few order bad = subst (λ (f : EntryFault). IsFirstFault n s (split_of split left right) f) (sym bad.is) (bad-half n s split left right bad.found cuts few (inr (order, bad.first)))
+  pub bad-right : (fault : EntryFault) → MayCome n s.tree.splits split → length s.tree.splits < most_splits
+      → ForSome left (IsInOrder n (half_at n s.tree.splits split Left)) → IsBadProof n (half_at n s.tree.splits split Right) right fault → IsFirstFault n s (split_of split left right) fault
+  bad-right fault cuts few order bad = subst (IsFirstFault n s (split_of split left right)) (sym bad.is) (bad-half bad.found cuts few (inr (order, bad.first)))
 
 -- ---- proofs of the root
 
 pub bad-root : (n : Net) (s : Searched) (proof : Proof) (f : ProofFault) → proofs.IsFirstFault n (root n) proof f → IsFirstFault n s (root_proof proof) (BadProof f)
-bad-root n s proof f h = record { holds = h; first = none }
+bad-root n s proof f h = lone-first {about = λ f. []} (BadProof f) refl h record { none = none }
   where
-    none : (earlier : EntryFault) → place earlier < 5 → ¬ RootHas n s proof earlier
-    none NotALeaf lt has = has
-    none BadCoord lt has = has
-    none CutOutside lt has = has
-    none TooManySplits lt has = has
-    none (BadProof g) lt has = omega (arith, lt)
-    none (BadPlan g) lt has = has
-    none PlanNotBetter lt has = has
-    none RootLate lt has = omega (arith, lt)
-    none Memory lt has = has
+    none : (f : EntryFault) → number f < 5 → ¬ RootHas n s proof f
+    none (BadProof g) less has = omega (arith, less)
+    none RootLate less has = omega (arith, less)
+    none _ less has = has
 
 pub root-late : (n : Net) (s : Searched) (proof : Proof) → IsInOrder n (root n) proof → RootHas n s proof RootLate → IsFirstFault n s (root_proof proof) RootLate
-root-late n s proof is h = record { holds = h; first = none }
+root-late n s proof is h = lone-first {about = λ f. []} RootLate refl h record { none = none }
   where
-    none : (earlier : EntryFault) → place earlier < 8 → ¬ RootHas n s proof earlier
-    none NotALeaf lt has = has
-    none BadCoord lt has = has
-    none CutOutside lt has = has
-    none TooManySplits lt has = has
-    none (BadProof g) lt has = no-fault n (root n) proof g is has.holds
-    none (BadPlan g) lt has = has
-    none PlanNotBetter lt has = has
-    none RootLate lt has = omega (arith, lt)
-    none Memory lt has = has
+    none : (f : EntryFault) → number f < 8 → ¬ RootHas n s proof f
+    none (BadProof g) less has = no-fault n (root n) proof g is has.holds
+    none RootLate less has = omega (arith, less)
+    none _ less has = has
 
 -- ---- plans
 
@@ -126,32 +101,20 @@ no-plan-fault n w (QualityOver j k) is o h = let keeps = o.blends.at_most j k h.
 no-plan-fault n w (QualityUnder j k) is o h = let keeps = o.blends.at_least j k h.2.least h.0 h.1 h.2.is in omega (arith, additive, keeps, h.2.below)
 
 pub bad-plan : (n : Net) (s : Searched) (w : Written) (f : PlanFault) → plans.IsFirstFault n w f → IsFirstFault n s (improve w) (BadPlan f)
-bad-plan n s w f h = record { holds = h; first = none }
+bad-plan n s w f h = lone-first {about = λ f. []} (BadPlan f) refl h record { none = none }
   where
-    none : (earlier : EntryFault) → place earlier < 6 → ¬ PlanHas n s w earlier
-    none NotALeaf lt has = has
-    none BadCoord lt has = has
-    none CutOutside lt has = has
-    none TooManySplits lt has = has
-    none (BadProof g) lt has = has
-    none (BadPlan g) lt has = omega (arith, lt)
-    none PlanNotBetter lt has = omega (arith, lt)
-    none RootLate lt has = has
-    none Memory lt has = has
+    none : (f : EntryFault) → number f < 6 → ¬ PlanHas n s w f
+    none (BadPlan g) less has = omega (arith, less)
+    none PlanNotBetter less has = omega (arith, less)
+    none _ less has = has
 
 pub not-better : (n : Net) (s : Searched) (w : Written) → IsWritten n w → Obeys n (plan_of n w) → ¬ ForSome s.best (IsCheaper n w) → IsFirstFault n s (improve w) PlanNotBetter
-not-better n s w is o h = record { holds = h; first = none }
+not-better n s w is o h = lone-first {about = λ f. []} PlanNotBetter refl h record { none = none }
   where
-    none : (earlier : EntryFault) → place earlier < 7 → ¬ PlanHas n s w earlier
-    none NotALeaf lt has = has
-    none BadCoord lt has = has
-    none CutOutside lt has = has
-    none TooManySplits lt has = has
-    none (BadProof g) lt has = has
-    none (BadPlan g) lt has = no-plan-fault n w g is o has.holds
-    none PlanNotBetter lt has = omega (arith, lt)
-    none RootLate lt has = has
-    none Memory lt has = has
+    none : (f : EntryFault) → number f < 7 → ¬ PlanHas n s w f
+    none (BadPlan g) less has = no-plan-fault n w g is o has.holds
+    none PlanNotBetter less has = omega (arith, less)
+    none _ less has = has
 
 -- ---- an entry with a fault is not in order
 
@@ -160,40 +123,25 @@ no-half-fault n b None f is h = h
 no-half-fault n b (Some proof) f is h = no-fault n b proof f (is proof refl) h.holds
 
 split-refused : (n : Net) (s : Searched) (split : Split) (left right : Option Proof) (f : EntryFault) → SplitHas n s split left right f → ¬ IsSplitEntryInOrder n s split left right
-split-refused n s split left right NotALeaf h is = h is.cuts.leaf
-split-refused n s split left right BadCoord h is = omega (arith, h, is.cuts.coord)
-split-refused n s split left right CutOutside h is = h record { low = is.cuts.low; high = is.cuts.high }
-split-refused n s split left right TooManySplits h is = omega (arith, h, is.few)
+split-refused n s split left right NotALeaf h is = no-split-fault n s.tree.splits split NoLeaf is.cuts is.few h
+split-refused n s split left right BadCoord h is = no-split-fault n s.tree.splits split NoCoord is.cuts is.few h
+split-refused n s split left right CutOutside h is = no-split-fault n s.tree.splits split Outside is.cuts is.few h
+split-refused n s split left right TooManySplits h is = no-split-fault n s.tree.splits split TooMany is.cuts is.few h
 split-refused n s split left right (BadProof f) h is = elim h [
-  | inl a ↦ no-half-fault n (left_of (box_of n s.tree.splits split.leaf) split.coord split.cut) left f is.left_proof a
-  | inr b ↦ no-half-fault n (right_of (box_of n s.tree.splits split.leaf) split.coord split.cut) right f is.right_proof b.1
+  | inl a ↦ no-half-fault n (half_at n s.tree.splits split Left) left f is.left_proof a
+  | inr b ↦ no-half-fault n (half_at n s.tree.splits split Right) right f is.right_proof b.1
 ]
-split-refused n s split left right (BadPlan f) h is = h
-split-refused n s split left right PlanNotBetter h is = h
-split-refused n s split left right RootLate h is = h
-split-refused n s split left right Memory h is = h
+split-refused n s split left right _ h is = h
 
 root-refused : (n : Net) (s : Searched) (proof : Proof) (f : EntryFault) → RootHas n s proof f → ¬ IsRootInOrder n s proof
-root-refused n s proof NotALeaf h is = h
-root-refused n s proof BadCoord h is = h
-root-refused n s proof CutOutside h is = h
-root-refused n s proof TooManySplits h is = h
 root-refused n s proof (BadProof f) h is = no-fault n (root n) proof f is.shows h.holds
-root-refused n s proof (BadPlan f) h is = h
-root-refused n s proof PlanNotBetter h is = h
 root-refused n s proof RootLate h is = elim h [ inl a ↦ a is.unproved | inr b ↦ cc (b, is.uncut) ]
-root-refused n s proof Memory h is = h
+root-refused n s proof _ h is = h
 
 plan-refused : (n : Net) (s : Searched) (w : Written) (f : EntryFault) → PlanHas n s w f → ¬ IsPlanInOrder n s w
-plan-refused n s w NotALeaf h is = h
-plan-refused n s w BadCoord h is = h
-plan-refused n s w CutOutside h is = h
-plan-refused n s w TooManySplits h is = h
-plan-refused n s w (BadProof f) h is = h
 plan-refused n s w (BadPlan f) h is = no-plan-fault n w f is.written is.obeys h.holds
 plan-refused n s w PlanNotBetter h is = h is.cheaper
-plan-refused n s w RootLate h is = h
-plan-refused n s w Memory h is = h
+plan-refused n s w _ h is = h
 
 pub refused : (n : Net) (s : Searched) (e : Entry) (f : EntryFault) → IsFirstFault n s e f → ¬ IsEntryInOrder n s e
 refused n s (root_proof proof) f h is = root-refused n s proof f h.holds is

@@ -44,21 +44,20 @@ first_bound n tree l node e f = ap (λ (m : ℕ). bound_after n tree m node) e �
 first_box : (n : Net) (splits : List Split) (l : ℕ) → l ≡ 0 → box_after n splits l 0 ≡ root n
 first_box n splits l e = ap (λ (m : ℕ). box_after n splits m 0) e
 
-pub root-taken : (n : Net) (k : Kept) (proof : Proof) (bound : Option ℤ) → IsKeptOf n k → IsInOrder n (root n) proof → get_or k.proofs 0 None ≡ None → get_or k.cuts 0 false ≡ false
+pub root-taken : (n : Net) (k : Kept) (proof : Proof) (bound : Option ℤ) → IsKeptOf n k → IsInOrder n (root n) proof → get_or k.proofs 0 None ≡ None → is_cut k.splits.list 0 ≡ false
     → bound ≡ raised (get_or k.bounds 0 None) (Some (shown_by n (root n) proof)) → IsTaken n (root_proof proof) k (rooted k proof bound)
-root-taken n k proof bound is shows unproved unmarked bound_is =
+root-taken n k proof bound is shows unproved uncut bound_is =
     let s = searched_of k in
     let new = (after s (root_proof proof)).tree in
     let made = rooted-made k proof bound (omega (arith, is.proved)) in
-    let uncut : is_cut k.splits 0 ≡ false = sym (is.cuts 0 (omega arith)) ∙ unmarked in
     let order : IsRootInOrder n s proof = record { shows = shows; unproved = unproved; uncut = uncut } in
     let only = no_splits n s.tree is.searched.tree uncut in
     let before : get_or k.bounds 0 None ≡ Some (reach_bound n) =
-    is.bounds 0 (omega arith) ∙ first_bound n s.tree (length k.splits) 0 only refl
-    ∙ ap (λ (o : Option Proof). raised (Some (reach_bound n)) (option_map (shown_by n (box_of n k.splits 0)) o)) unproved in
+    is.bounds 0 (omega arith) ∙ first_bound n s.tree (length k.splits.list) 0 only refl
+    ∙ ap (λ (o : Option Proof). raised (Some (reach_bound n)) (option_map (shown_by n (box_of n k.splits.list 0)) o)) unproved in
     let now : bound ≡ raised (Some (reach_bound n)) (own n new 0) =
     bound_is ∙ ap (λ (o : Option ℤ). raised o (Some (shown_by n (root n) proof))) before
-    ∙ ap (λ (b : Box). raised (Some (reach_bound n)) (Some (shown_by n b proof))) (sym (first_box n k.splits (length k.splits) only)) in
+    ∙ ap (λ (b : Box). raised (Some (reach_bound n)) (Some (shown_by n b proof))) (sym (first_box n k.splits.list (length k.splits.list) only)) in
     let long_set = length-set k.bounds 0 bound in
     record {
       in_order = order;
@@ -67,21 +66,15 @@ root-taken n k proof bound is shows unproved unmarked bound_is =
         searched = subst (λ (z : Searched). IsSearched n z) (sym made) (searched-kept n s (root_proof proof) is.searched order);
         proved = length-set k.proofs 0 (Some proof) ∙ is.proved;
         bounded = long_set ∙ is.bounded;
-        marked = is.marked;
-        spanned = is.spanned;
-        spans = is.spans;
+        splits = is.splits;
         bounds = λ node h. subst (λ (z : Searched). get_or (set k.bounds 0 bound) node None ≡ node_bound n z.tree node) (sym made)
             (let first : node ≡ 0 = omega (arith, h, only) in
-            ap (λ (i : ℕ). get_or (set k.bounds 0 bound) i None) first ∙ get_or-set_same k.bounds 0 bound None (omega (arith, is.bounded)) ∙ now ∙ sym (first_bound n new (length k.splits) node only first));
-        cuts = is.cuts;
+            ap (λ (i : ℕ). get_or (set k.bounds 0 bound) i None) first ∙ get_or-set_same k.bounds 0 bound None (omega (arith, is.bounded)) ∙ now ∙ sym (first_bound n new (length k.splits.list) node only first));
         cost = is.cost;
       };
     }
 
 -- a root that is not open has a proof or is cut
-pub late : (n : Net) (k : Kept) → IsKeptOf n k → ¬ ((get_or k.proofs 0 None ≡ None) × (get_or k.cuts 0 false ≡ false)) → (get_or k.proofs 0 None ≢ None) ⊎ (is_cut k.splits 0 ≡ true)
-late n k is h = either (get_or k.proofs 0 None) (get_or k.cuts 0 false) (is.cuts 0 (omega arith)) h
-  where
-    either : (o : Option Proof) (b : Bool) → b ≡ is_cut k.splits 0 → ¬ ((o ≡ None) × (b ≡ false)) → (o ≢ None) ⊎ (is_cut k.splits 0 ≡ true)
-    either o true e h = inr (sym e)
-    either o false e h = inl (λ f. h (f, refl))
+pub late : (o : Option Proof) (b : Bool) → ¬ ((o ≡ None) × (b ≡ false)) → (o ≢ None) ⊎ (b ≡ true)
+late o true h = inr refl
+late o false h = inl (λ e. h (e, refl))

@@ -1,31 +1,27 @@
 -- What a tree holds, and when it is a network's.
-use Rattle.std.specs.Prelude.{◌≡◌, ℕ, ◌+◌, ◌*◌, ◌<◌, ◌≤◌, List, length, get_or, Bool, false, if◌then◌else◌, Option, None, Some, ℤ}
+use Rattle.std.specs.Prelude.{◌≡◌, ℕ, ◌+◌, ◌*◌, ◌<◌, ◌≤◌, List, length, get_or, if◌then◌else◌, Option, None, Some, ℤ}
 use Rattle.pool_model.specs.Network.{Net}
 use Rattle.pool_model.specs.Plan.{Written}
 use Rattle.plan_core.specs.Checks.{IsCostOf}
 use Rattle.plan_core.specs.declared.plan.Cost.{Cost}
 use Rattle.row_model.specs.Multipliers.{Proof}
-use Rattle.row_model.specs.Trees.{Split, split_at, nodes, is_cut, box_of, node_bound}
+use Rattle.row_model.specs.Trees.{nodes, most_splits, is_cut, node_bound}
 use Rattle.row_model.specs.Entries.{Searched, IsSearched}
 use Rattle.row_book.specs.Fitting.{Fits}
 use Rattle.row_book.specs.declared.scratch.Scratch.{Scratch}
-use Rattle.box_tree.specs.declared.span.Span.{Span}
-use Rattle.box_tree.specs.Spans.{no_span, IsSpanOf}
+use Rattle.split_tree.specs.Splits.{Splits, IsOf as AreCut}
 
--- The splits, and for each the ends of its leaf at its coordinate; for each node its proof, its bound, None where it holds no plan,
--- and whether a split cuts it; the best plan, and what it costs.
+-- The splits; for each node its proof, and its bound, None where it holds no plan; the best plan, and what it costs.
 pub record Kept : Type 0 where
-  pub splits : List Split
-  pub spans : List Span
+  pub splits : Splits
   pub proofs : List (Option Proof)
   pub bounds : List (Option ℤ)
-  pub cuts : List Bool
   pub best : Option Written
   pub cost : Option Cost
 
 -- the tree and the plan that it stands for
 abbrev pub searched_of : Kept → Searched
-searched_of k = record { tree = record { splits = k.splits; proof = λ node. get_or k.proofs node None }; best = k.best }
+searched_of k = record { tree = record { splits = k.splits.list; proof = λ node. get_or k.proofs node None }; best = k.best }
 
 -- what it keeps, and the memory that proofs are valued in
 pub record Held : Type 0 where
@@ -34,7 +30,7 @@ pub record Held : Type 0 where
 
 -- a node's bound as it is kept, and nothing for a node that is cut
 abbrev pub kept_leaf_bound : Kept → ℕ → Option ℤ
-kept_leaf_bound k node = if get_or k.cuts node false then None else get_or k.bounds node None
+kept_leaf_bound k node = if is_cut k.splits.list node then None else get_or k.bounds node None
 
 -- there is a cost exactly where there is a plan, and it is the plan's
 abbrev pub IsKeptCost : Net → Option Written → Option Cost → Type 0
@@ -43,17 +39,13 @@ IsKeptCost n None (Some cost) = ⊥
 IsKeptCost n (Some plan) None = ⊥
 IsKeptCost n (Some plan) (Some cost) = IsCostOf n plan cost
 
--- What is kept is a network's: splits, proofs and plan are in order there, and all ends, bounds, marks and the cost are the ones that
--- they stand for.
+-- What is kept is a network's: splits, proofs and plan are in order there, and bounds and cost are the ones that they stand for.
 pub record IsKeptOf (n : Net) (k : Kept) : Type 0 where
   pub searched : IsSearched n (searched_of k)
-  pub spanned : length k.spans ≡ length k.splits
-  pub proved : length k.proofs ≡ nodes k.splits
-  pub bounded : length k.bounds ≡ nodes k.splits
-  pub marked : length k.cuts ≡ nodes k.splits
-  pub spans : (t : ℕ) → t < length k.splits → IsSpanOf (box_of n k.splits (split_at k.splits t).leaf) (split_at k.splits t).coord (get_or k.spans t no_span)
-  pub bounds : (node : ℕ) → node < nodes k.splits → get_or k.bounds node None ≡ node_bound n (searched_of k).tree node
-  pub cuts : (node : ℕ) → node < nodes k.splits → get_or k.cuts node false ≡ is_cut k.splits node
+  pub splits : AreCut n k.splits
+  pub proved : length k.proofs ≡ nodes k.splits.list
+  pub bounded : length k.bounds ≡ nodes k.splits.list
+  pub bounds : (node : ℕ) → node < nodes k.splits.list → get_or k.bounds node None ≡ node_bound n (searched_of k).tree node
   pub cost : IsKeptCost n k.best k.cost
 
 -- the tree is the network's
@@ -61,10 +53,8 @@ pub record IsOf (n : Net) (t : Held) : Type 0 where
   pub kept : IsKeptOf n t.kept
   pub scratch : Fits n t.scratch
 
--- there are ends for each split, as many proofs, bounds and marks as nodes, and no more splits than there may be
-pub record AreSized (splits spans proofs bounds cuts : ℕ) : Type 0 where
-  pub few : splits ≤ 20000
-  pub spanned : spans ≡ splits
+-- there are as many proofs and bounds as nodes, and no more splits than there may be
+pub record AreSized (splits proofs bounds : ℕ) : Type 0 where
+  pub few : splits ≤ most_splits
   pub proved : proofs ≡ 2 * splits + 1
   pub bounded : bounds ≡ 2 * splits + 1
-  pub marked : cuts ≡ 2 * splits + 1

@@ -1,5 +1,4 @@
 pub mod Kept
-pub mod Shown
+pub mod Views
 pub mod EntryFaults
-pub mod Spans
 pub mod Taken

@@ -1,12 +1,13 @@
 -- An entry that was taken, and what a split makes of what a tree keeps.
-use Rattle.std.specs.Prelude.{◌≡◌, [], ◌∷◌, ◌++◌, true, false, slice_set, Option, Some, ℤ}
+use Rattle.std.specs.Prelude.{◌≡◌, [], ◌∷◌, ◌++◌, slice_set, Option, Some, ℤ}
 use Rattle.pool_model.specs.Network.{Net}
 use Rattle.pool_model.specs.Plan.{Written}
 use Rattle.plan_core.specs.declared.plan.Cost.{Cost}
 use Rattle.row_model.specs.Multipliers.{Proof}
 use Rattle.row_model.specs.Trees.{Split}
 use Rattle.row_model.specs.Entries.{Entry, after, IsEntryInOrder}
-use Rattle.box_tree.specs.declared.span.Span.{Span}
+use Rattle.split_tree.specs.declared.span.Span.{Span}
+use Rattle.split_tree.specs.Splits.{with_split}
 use Rattle.box_tree.specs.Kept.{Kept, searched_of, IsKeptOf}
 
 -- the entry was in order on what was kept, and what is kept now is what it makes of it
@@ -23,14 +24,12 @@ improved k plan cost = record k { best = Some plan; cost = Some cost }
 abbrev pub rooted : Kept → Proof → Option ℤ → Kept
 rooted k proof bound = record k { proofs = slice_set k.proofs 0 (Some proof); bounds = slice_set k.bounds 0 bound }
 
--- a split and the ends of its leaf at the end, two nodes with their proofs and bounds, and the mark of the node that is cut
+-- a split with the ends of its leaf, and two nodes with their proofs and bounds
 abbrev pub grown : Kept → Split → Span → (left right : Option Proof) → (left_bound right_bound : Option ℤ) → Kept
 grown k split span left right left_bound right_bound = record {
-  splits = k.splits ++ split ∷ [];
-  spans = k.spans ++ span ∷ [];
+  splits = with_split k.splits split span;
   proofs = k.proofs ++ left ∷ right ∷ [];
   bounds = k.bounds ++ left_bound ∷ right_bound ∷ [];
-  cuts = slice_set k.cuts split.leaf true ++ false ∷ false ∷ [];
   best = k.best;
   cost = k.cost;
 }

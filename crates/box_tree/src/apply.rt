@@ -3,22 +3,22 @@
 ghost use Rattle.std.specs.Prelude.{◌≡◌, ◌≢◌, ◌<◌, ◌↔◌, get_or, None, false, IfOk, IfErr, IsTrue, pos, ◌*ℤ◌, ◌<ℤ◌};
 ghost use Rattle.std.specs.Option.{ForSome};
 ghost use Rattle.pool_model.specs.Network.{net_of};
+ghost use Rattle.row_model.specs.Trees.{is_cut};
 ghost use Rattle.row_model.specs.Entries.{after, improve as improve_lem, root_proof, IsEntryInOrder};
 ghost use Rattle.plan_core.specs.Shown.{written_of};
 ghost use Rattle.box_space.specs.Views.{shown_proof};
 ghost use Rattle.row_book.specs.Fitting.{Fits};
 ghost use Rattle.box_tree.specs.EntryFaults.{IsFirstFault};
 ghost use Rattle.box_tree.specs.Kept.{searched_of, IsOf};
-ghost use Rattle.box_tree.specs.Shown.{shown_entry};
+ghost use Rattle.box_tree.specs.Views.{shown_entry};
 ghost use Rattle.box_tree.specs.Taken.{IsTaken, improved, rooted};
 
 use crate::entry::{Entry, EntryFault};
-use crate::raising::raised;
 use crate::tree::{Best, Tree};
 use blend_network::Network;
-use box_space::{Proof, root_box};
+use bounds::{raised, value_in};
+use box_space::Proof;
 use plan_core::{Cost, WrittenPlan, check_plan, compare_cost};
-use row_book::value;
 use std::cmp::Ordering;
 
 impl Tree {
@@ -87,9 +87,8 @@ impl Tree {
         ensures unchanged { IfErr result (λ _. self.new.kept ≡ self.old.kept) }
         ensures scratch { Fits (net_of net.now) self.new.scratch }
     {
-        let _counts = net.counts();
-        let ends = root_box(self.alloc, net)?;
-        let shown = value(net, &ends.view(), &proof, &mut self.scratch)?;
+        let ends = self.box_of(net, 0)?;
+        let shown = value_in(net, &ends, &proof, &mut self.scratch)?;
         if !self.is_root_open() {
             return Err(EntryFault::RootLate);
         }
@@ -100,9 +99,9 @@ impl Tree {
 
     /// Whether the root has no proof, and is not cut.
     fn is_root_open(&self) -> bool
-        ensures { IsTrue result ↔ ((get_or self.now.kept.proofs 0 None ≡ None) × (get_or self.now.kept.cuts 0 false ≡ false)) }
+        ensures { IsTrue result ↔ ((get_or self.now.kept.proofs 0 None ≡ None) × (is_cut self.now.kept.splits.list 0 ≡ false)) }
     {
-        self.proof_of(0).is_none() && !self.cuts.as_slice()[0]
+        self.proof_of(0).is_none() && !self.splits.is_cut(0)
     }
 
     /// Gives the root a proof and a bound.

@@ -1,12 +1,15 @@
 //! Entries of a search, and why one is refused.
 
 ghost use Rattle.std.specs.Prelude.{◌≡◌};
-ghost use Rattle.box_tree.specs.declared.entry.EntryFault.TheVariants as faults;
+ghost use Rattle.box_tree.specs.EntryFaults.{of_split, rank as fault_rank};
+ghost use Rattle.box_tree.specs.declared.entry.EntryFault.TheVariants as entry_faults;
 
 use box_space::{Proof, Split};
 use edge_io::Memory as NoMemory;
+use faults::Ranked;
 use plan_core::{PlanFault, WrittenPlan};
 use row_book::ProofFault;
+use split_tree::SplitFault;
 use std::alloc::AllocError;
 
 /// What a search records.
@@ -29,7 +32,7 @@ pub enum EntryFault {
     BadCoord,
     /// The cut is not strictly inside the leaf's box.
     CutOutside,
-    /// There are 20,000 splits already.
+    /// There are as many splits as there may be.
     TooManySplits,
     /// The proof is not in order in its node's box; of two halves, the left one's first.
     BadProof(ProofFault),
@@ -43,8 +46,25 @@ pub enum EntryFault {
     Memory,
 }
 
+impl Ranked for EntryFault {
+    ghost rank = { fault_rank };
+}
+
+impl From<SplitFault> for EntryFault {
+    ghost from_gives = { λ f e. e ≡ of_split f };
+
+    fn from(fault: SplitFault) -> EntryFault {
+        match fault {
+            SplitFault::NotALeaf => EntryFault::NotALeaf,
+            SplitFault::BadCoord => EntryFault::BadCoord,
+            SplitFault::CutOutside => EntryFault::CutOutside,
+            SplitFault::TooManySplits => EntryFault::TooManySplits,
+        }
+    }
+}
+
 impl From<ProofFault> for EntryFault {
-    ghost from_gives = { λ f e. e ≡ faults.BadProof f };
+    ghost from_gives = { λ f e. e ≡ entry_faults.BadProof f };
 
     fn from(fault: ProofFault) -> EntryFault {
         EntryFault::BadProof(fault)
@@ -52,7 +72,7 @@ impl From<ProofFault> for EntryFault {
 }
 
 impl From<PlanFault> for EntryFault {
-    ghost from_gives = { λ f e. e ≡ faults.BadPlan f };
+    ghost from_gives = { λ f e. e ≡ entry_faults.BadPlan f };
 
     fn from(fault: PlanFault) -> EntryFault {
         EntryFault::BadPlan(fault)
@@ -60,7 +80,7 @@ impl From<PlanFault> for EntryFault {
 }
 
 impl From<NoMemory> for EntryFault {
-    ghost from_gives = { λ _ e. e ≡ faults.Memory };
+    ghost from_gives = { λ _ e. e ≡ entry_faults.Memory };
 
     fn from(_e: NoMemory) -> EntryFault {
         EntryFault::Memory
@@ -68,7 +88,7 @@ impl From<NoMemory> for EntryFault {
 }
 
 impl From<AllocError> for EntryFault {
-    ghost from_gives = { λ _ e. e ≡ faults.Memory };
+    ghost from_gives = { λ _ e. e ≡ entry_faults.Memory };
 
     fn from(_e: AllocError) -> EntryFault {
         EntryFault::Memory

@@ -5,15 +5,13 @@
 //! [`Tree::bound`] is then below what any plan costs, and [`Tree::best_plan`] is the cheapest plan so far.
 //!
 //! Trees, bounds and entries in order are defined in `row_model`; `specs/EntryFaults.antt` says when a fault holds, and
-//! `specs/Kept.antt` when a tree is a network's. Which leaf to split, and where, is left to the crates above.
+//! `specs/Kept.antt` when a tree is a network's. The splits and the boxes of nodes are those of `split_tree`. Which leaf to split,
+//! and where, is left to the crates above.
 #![tactic(auto)]
 
 mod apply;
-mod boxes;
 mod entry;
 mod leaves;
-mod raising;
-mod span;
 mod splitting;
 #[cfg(test)]
 mod tests;

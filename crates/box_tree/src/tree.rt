@@ -5,15 +5,15 @@ ghost use Rattle.pool_model.specs.Network.{Net, net_of};
 ghost use Rattle.plan_core.specs.Shown.{written_of};
 ghost use Rattle.row_model.specs.Trees as trees;
 ghost use Rattle.row_model.specs.Entries as entries;
-ghost use Rattle.box_space.specs.Views.{shown_proof, shown_split};
+ghost use Rattle.box_space.specs.Views.{AreEndsOf, shown_proof, shown_split};
 ghost use Rattle.box_tree.specs.Kept.{IsOf, searched_of};
 
-use crate::span::Span;
 use blend_network::Network;
-use box_space::{Proof, Split};
+use box_space::{BoxEnds, Proof, Split};
 use edge_io::Memory;
 use plan_core::{Cost, WrittenPlan};
 use row_book::Scratch;
+use split_tree::SplitTree;
 use std::alloc::Global;
 use std::marker::Model;
 
@@ -25,43 +25,37 @@ pub(crate) struct Best {
 }
 
 /// A tree of boxes. Node 0 is the root, which holds all plans; split number t, from 0, cuts its node into the nodes 2t + 1, left,
-/// and 2t + 2, right. It keeps each split's ends, each node's proof, its bound and whether it is cut, and the cheapest plan so far.
+/// and 2t + 2, right. It keeps the splits, each node's proof and its bound, and the cheapest plan so far.
 #[derive(Drop)]
 pub struct Tree {
-    pub(crate) splits: Vec<Split>,
-    /// Of each split: the ends of its node at its coordinate.
-    pub(crate) spans: Vec<Span>,
+    pub(crate) splits: SplitTree,
     pub(crate) proofs: Vec<Option<Proof>>,
     /// Of each node, in picos: None where it holds no plan.
     pub(crate) bounds: Vec<Option<i128>>,
-    pub(crate) cuts: Vec<bool>,
     pub(crate) best: Option<Best>,
     pub(crate) scratch: Scratch,
-    pub(crate) alloc: Global,
 }
 
 impl Model for Tree {
     ghost use Rattle.std.specs.Prelude.{map, length, option_map};
     ghost use Rattle.plan_core.specs.Shown.{written_of};
-    ghost use Rattle.box_space.specs.Views.{shown_proof, shown_split};
+    ghost use Rattle.box_space.specs.Views.{shown_proof};
     ghost use Rattle.box_tree.specs.Kept.{Held, AreSized};
 
     ghost Value = { Held };
 
     ghost view = { λ t. record {
       kept = record {
-        splits = map shown_split t.splits.items;
-        spans = t.spans.items;
+        splits = t.splits;
         proofs = map (option_map shown_proof) t.proofs.items;
         bounds = t.bounds.items;
-        cuts = t.cuts.items;
         best = option_map (λ b. written_of b.plan) t.best;
         cost = option_map (λ b. b.cost) t.best;
       };
       scratch = t.scratch;
     } };
 
-    ghost invariant = { λ t. AreSized (length t.splits.items) (length t.spans.items) (length t.proofs.items) (length t.bounds.items) (length t.cuts.items) };
+    ghost invariant = { λ t. AreSized (length t.splits.list) (length t.proofs.items) (length t.bounds.items) };
 }
 
 impl Tree {
@@ -71,14 +65,11 @@ impl Tree {
         ensures tree { IfOk result (IsOf (net_of net.now)) }
     {
         Ok(Tree {
-            splits: Vec::new(alloc),
-            spans: Vec::new(alloc),
+            splits: SplitTree::new(alloc)?,
             proofs: vec![in alloc; None]?,
             bounds: vec![in alloc; Some(net.reach_bound())]?,
-            cuts: vec![in alloc; false]?,
             best: None,
             scratch: Scratch::new(alloc, net)?,
-            alloc,
         })
     }
 
@@ -104,9 +95,18 @@ impl Tree {
 
     /// The splits, by number.
     pub fn splits(&self) -> &[Split]
-        ensures { map shown_split result.now ≡ self.now.kept.splits }
+        ensures { map shown_split result.now ≡ self.now.kept.splits.list }
     {
-        self.splits.as_slice()
+        self.splits.splits()
+    }
+
+    /// The box of a node. It goes from the node up to the root, and keeps the innermost cut on each side.
+    pub fn box_of(&self, net: &Network, node: u32) -> Result<BoxEnds, Memory>
+        requires tree { IsOf (net_of net.now) self.now }
+        requires there { node < trees.nodes self.now.kept.splits.list }
+        ensures { IfOk result (AreEndsOf (net_of net.now) (trees.box_of (net_of net.now) self.now.kept.splits.list node)) }
+    {
+        self.splits.box_of(net, node)
     }
 
     /// The proof of a node; None where it has none, or is none of the tree.
@@ -122,7 +122,7 @@ impl Tree {
     /// The bound of a node, in picos: no plan in its box costs less. None where the box holds no plan, and for a node that is none
     /// of the tree.
     pub fn node_bound(&self, node: u32) -> Option<i128>
-        ensures bound { (n : Net) → IsOf n self.now → node < trees.nodes self.now.kept.splits → result ≡ trees.node_bound n (searched_of self.now.kept).tree node }
+        ensures bound { (n : Net) → IsOf n self.now → node < trees.nodes self.now.kept.splits.list → result ≡ trees.node_bound n (searched_of self.now.kept).tree node }
         ensures kept { result ≡ get_or self.now.kept.bounds node None }
     {
         match self.bounds.get(node as usize) {

@@ -5,8 +5,8 @@ ghost use Rattle.std.specs.Int.{int_min, int_max};
 ghost use Rattle.pool_model.specs.Network.{net_of};
 ghost use Rattle.row_model.specs.Boxes.{coords};
 ghost use Rattle.row_model.specs.Trees as trees;
-ghost use Rattle.split_tree.specs.Splits.{IsOf};
-ghost use Rattle.split_tree.specs.Spans.{IsSpanOf, half_of};
+ghost use Rattle.split_tree.specs.Splits.{IsOf, MayCome};
+ghost use Rattle.split_tree.specs.Spans.{IsSpanOf, half_at};
 ghost use Rattle.box_space.specs.Views.{shown_split, AreEndsOf};
 
 use crate::span::{Side, Span};
@@ -42,8 +42,8 @@ impl SplitTree {
     /// The box of a half of a split that cuts a leaf, before it is added.
     pub fn half_box(&self, net: &Network, split: &Split, side: Side) -> Result<BoxEnds, Memory>
         requires tree { IsOf (net_of net.now) self.now }
-        requires cuts { trees.CutsLeaf (net_of net.now) self.now.list (trees.box_of (net_of net.now) self.now.list split.now.leaf) (shown_split split.now) }
-        ensures { IfOk result (AreEndsOf (net_of net.now) (half_of side (trees.box_of (net_of net.now) self.now.list split.now.leaf) split.now.coord split.now.cut)) }
+        requires cuts { MayCome (net_of net.now) self.now.list (shown_split split.now) }
+        ensures { IfOk result (AreEndsOf (net_of net.now) (half_at (net_of net.now) self.now.list (shown_split split.now) side)) }
     {
         let mut ends = self.box_of(net, split.leaf)?;
         match side {

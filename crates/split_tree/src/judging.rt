@@ -5,8 +5,8 @@ ghost use Rattle.pool_model.specs.Network.{net_of};
 ghost use Rattle.row_model.specs.Trees as trees;
 ghost use Rattle.box_space.specs.Views.{shown_split};
 ghost use Rattle.split_tree.specs.Faults.{IsFirstFault};
-ghost use Rattle.split_tree.specs.Spans.{IsSpanOf};
-ghost use Rattle.split_tree.specs.Splits.{IsOf};
+ghost use Rattle.split_tree.specs.Spans.{CutsBetween};
+ghost use Rattle.split_tree.specs.Splits.{IsOf, MayCome};
 
 use crate::fault::SplitFault;
 use crate::span::Span;
@@ -18,9 +18,8 @@ impl SplitTree {
     /// The ends that a split cuts between, exactly where it may come next; else the first fault.
     pub fn judge(&self, net: &Network, split: &Split) -> Result<Span, SplitFault>
         requires { IsOf (net_of net.now) self.now }
-        ensures span { IfOk result (IsSpanOf (trees.box_of (net_of net.now) self.now.list split.now.leaf) split.now.coord) }
-        ensures cuts { IfOk result (λ _. trees.CutsLeaf (net_of net.now) self.now.list
-            (trees.box_of (net_of net.now) self.now.list split.now.leaf) (shown_split split.now)) }
+        ensures span { IfOk result (CutsBetween (net_of net.now) self.now.list (shown_split split.now)) }
+        ensures cuts { IfOk result (λ _. MayCome (net_of net.now) self.now.list (shown_split split.now)) }
         ensures few { IfOk result (λ _. length self.now.list < trees.most_splits) }
         ensures fault { IfErr result (IsFirstFault (net_of net.now) self.now.list (shown_split split.now)) }
     {

@@ -4,8 +4,8 @@ ghost use Rattle.std.specs.Prelude.{◌≡◌, ◌<◌, ◌↔◌, [], length, m
 ghost use Rattle.pool_model.specs.Network.{Net};
 ghost use Rattle.row_model.specs.Trees as trees;
 ghost use Rattle.box_space.specs.Views.{shown_split};
-ghost use Rattle.split_tree.specs.Spans.{IsSpanOf};
-ghost use Rattle.split_tree.specs.Splits.{IsOf, with_split};
+ghost use Rattle.split_tree.specs.Spans.{CutsBetween};
+ghost use Rattle.split_tree.specs.Splits.{IsOf, MayCome, with_split};
 
 use crate::span::Span;
 use box_space::Split;
@@ -96,8 +96,8 @@ impl SplitTree {
         requires leaf { split.leaf < trees.nodes self.old.list }
         requires few { length self.old.list < trees.most_splits }
         ensures pushed { IfOk result (λ _. self.new ≡ with_split self.old (shown_split split) span) }
-        ensures tree { (n : Net) → IsOf n self.old → trees.CutsLeaf n self.old.list (trees.box_of n self.old.list split.leaf) (shown_split split)
-            → IsSpanOf (trees.box_of n self.old.list split.leaf) split.coord span → IfOk result (λ _. IsOf n self.new) }
+        ensures tree { (n : Net) → IsOf n self.old → MayCome n self.old.list (shown_split split)
+            → CutsBetween n self.old.list (shown_split split) span → IfOk result (λ _. IsOf n self.new) }
         ensures unchanged { IfErr result (λ _. self.new ≡ self.old) }
     {
         self.splits.reserve(1)?;

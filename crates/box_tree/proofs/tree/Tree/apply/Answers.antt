@@ -2,7 +2,7 @@ use Rattle.std.proofs.Common.{◌≢◌, IfErr, sym, subst}
 use Rattle.pool_model.specs.Network.{net_of}
 use Rattle.box_tree.specs.EntryFaults.{IsFirstFault}
 use Rattle.box_tree.specs.Kept.{searched_of}
-use Rattle.box_tree.specs.Shown.{shown_entry}
+use Rattle.box_tree.specs.Views.{shown_entry}
 use Rattle.box_tree.specs.declared.entry.Entry.{Entry}
 use Rattle.box_tree.specs.declared.entry.EntryFault.TheVariants.{Memory}
 use Rattle.box_tree.proofs.Refusals.{refused-each}

@@ -1,13 +1,12 @@
-use Rattle.std.proofs.Common.{rules}
+use Rattle.std.proofs.Common.{rules, sym, subst}
 use Rattle.std.specs.Option.{ForSome}
 use Rattle.pool_model.specs.Network.{net_of}
 use Rattle.row_model.specs.Entries.{improve}
 use Rattle.plan_core.specs.Shown.{written_of}
-use Rattle.box_tree.specs.Kept.{searched_of}
-use Rattle.box_tree.specs.Taken.{improved}
+use Rattle.box_tree.specs.Kept.{Kept, searched_of}
+use Rattle.box_tree.specs.Taken.{IsTaken}
 use Rattle.box_tree.proofs.Improving.{IsLess, dearer-kept, plan-taken}
 use Rattle.box_tree.proofs.Refusals.{not-better}
-use Rattle.box_tree.proofs.Viewed.{taken-now}
 use Rattle.box_tree.proofs.tree.Tree.improve.Goals as goal
 
 pub returns-then-not-is_cheaper-clause-fault : goal.returns-then-not-is_cheaper-clause-fault
@@ -24,4 +23,4 @@ returns-clause-taken c =
     let w = written_of c.args.plan in
     let k = c.args.self.now.kept in
     let less : ForSome k.cost (IsLess c.in_ok-cost.cost) = search rules in
-    taken-now n (improve w) k (improved k w c.in_ok-cost.cost) c.set_best.new.self.kept c.set_best.ensures.kept (plan-taken n k w c.in_ok-cost.cost c.requires.kept c.in_ok-cost.ensures.ok less)
+    subst (λ (z : Kept). IsTaken n (improve w) k z) (sym c.set_best.ensures.kept) (plan-taken n k w c.in_ok-cost.cost c.requires.kept c.in_ok-cost.ensures.ok less)

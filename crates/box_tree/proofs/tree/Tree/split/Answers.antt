@@ -1,25 +1,27 @@
-use Rattle.std.proofs.Common.{◌≡◌, get_or, Option, None, ℤ, option_map, ap, subst, ◌∙◌}
+use Rattle.std.proofs.Common.{◌≡◌, get_or, Option, None, ℤ, option_map, ap, sym, subst, ◌∙◌}
 use Rattle.std.proofs.lemmas.Result.{err_from_is_err_and}
 use Rattle.pool_model.specs.Network.{net_of}
-use Rattle.row_model.specs.Boxes.{left_of, right_of}
 use Rattle.row_model.specs.Multipliers.{Shown, shown_by, IsInOrder}
-use Rattle.row_model.specs.Trees.{raised, box_of}
+use Rattle.row_model.specs.Trees.{raised}
 use Rattle.row_model.specs.Entries.{split_of, IsSplitEntryInOrder}
 use Rattle.box_space.specs.Views.{shown_proof, shown_split}
 use Rattle.row_book.specs.Views.{shown_value}
 use Rattle.std.specs.Option.{ForSome}
+use Rattle.split_tree.specs.declared.span.Side.TheVariants.{Left, Right}
+use Rattle.split_tree.specs.Spans.{half_at, CutsBetween}
+use Rattle.split_tree.specs.Splits.{Splits, MayCome, IsOf as AreCut}
 use Rattle.box_tree.specs.EntryFaults.{IsBadProof}
 use Rattle.box_tree.specs.Kept.{Kept, searched_of}
-use Rattle.box_tree.specs.Taken.{grown}
+use Rattle.box_tree.specs.Taken.{grown, IsTaken}
 use Rattle.box_tree.proofs.Growing.{split-taken}
-use Rattle.box_tree.proofs.Refusals.{bad-left, bad-right}
-use Rattle.box_tree.proofs.Viewed.{taken-now}
+use Rattle.box_tree.proofs.Refusals.{bad-split, bad-left, bad-right}
 use Rattle.box_tree.proofs.tree.Tree.split.Goals as goal
 
 pub returns-in_err-span-clause-fault : goal.returns-in_err-span-clause-fault
 returns-in_err-span-clause-fault c =
     let p = err_from_is_err_and c.from_residual.result c.from_residual.ensures.1 in
-    rw (p.1, p.2) (λ _. c.in_err-span.ensures.fault (option_map shown_proof c.args.left) (option_map shown_proof c.args.right))
+    rw (p.1, p.2) (λ _. bad-split (net_of c.args.net.now) (searched_of c.args.self.now.kept) (shown_split c.args.split) (option_map shown_proof c.args.left) (option_map shown_proof c.args.right) c.in_err-span.field-0.0
+    c.in_err-span.ensures.fault)
 
 pub returns-in_err-left_shown-clause-fault : goal.returns-in_err-left_shown-clause-fault
 returns-in_err-left_shown-clause-fault c =
@@ -38,7 +40,7 @@ returns-in_err-right_shown-clause-fault c =
     let cut = c.in_ok-span.ensures in
     let p = err_from_is_err_and c.from_residual-in_err-right_shown.result c.from_residual-in_err-right_shown.ensures.1 in
     rw (p.1, p.2) (λ ne. bad-right n (searched_of c.args.self.now.kept) s (option_map shown_proof c.args.left) right f cut.cuts cut.few c.in_ok-left_shown.ensures.in_order
-    (subst (λ (z : Kept). IsBadProof n (right_of (box_of n z.splits s.leaf) s.coord s.cut) right f) c.in_ok-left_shown.ensures.kept (c.in_err-right_shown.ensures.fault ne)))
+    (subst (λ (z : Kept). IsBadProof n (half_at n z.splits.list s Right) right f) c.in_ok-left_shown.ensures.kept (c.in_err-right_shown.ensures.fault ne)))
 
 pub returns-clause-taken : goal.returns-clause-taken
 returns-clause-taken c =
@@ -48,24 +50,26 @@ returns-clause-taken c =
     let left = option_map shown_proof c.args.left in
     let right = option_map shown_proof c.args.right in
     let cut = c.in_ok-span.ensures in
-    let same = c.in_ok-right_shown.ensures.kept ∙ c.in_ok-left_shown.ensures.kept in
-    let left_half = left_of (box_of n k.splits s.leaf) s.coord s.cut in
-    let right_half = right_of (box_of n k.splits s.leaf) s.coord s.cut in
     let kept = c.in_ok-left_shown.ensures.kept in
-    let right_order = subst (λ (z : Kept). ForSome right (IsInOrder n (right_of (box_of n z.splits s.leaf) s.coord s.cut))) kept c.in_ok-right_shown.ensures.in_order in
-    let right_shows = subst (λ (z : Kept). option_map shown_value c.in_ok-right_shown.right_shown ≡ option_map (shown_by n (right_of (box_of n z.splits s.leaf) s.coord s.cut)) right) kept c.in_ok-right_shown.ensures.shown in
+    let same = c.in_ok-right_shown.ensures.kept ∙ kept in
+    let left_half = half_at n k.splits.list s Left in
+    let right_half = half_at n k.splits.list s Right in
     let order : IsSplitEntryInOrder n (searched_of k) s left right = record {
       cuts = cut.cuts;
       few = cut.few;
       left_proof = c.in_ok-left_shown.ensures.in_order;
-      right_proof = right_order;
+      right_proof = subst (λ (z : Kept). ForSome right (IsInOrder n (half_at n z.splits.list s Right))) kept c.in_ok-right_shown.ensures.in_order;
     } in
     let above : c.node_bound-above.result ≡ get_or k.bounds s.leaf None = c.node_bound-above.ensures.kept ∙ ap (λ (z : Kept). get_or z.bounds s.leaf None) same in
     let raise = λ (o : Option Shown). ap (λ (b : Option ℤ). raised b o) above in
     let left_is : c.raised.result ≡ raised (get_or k.bounds s.leaf None) (option_map (shown_by n left_half) left) =
-    c.raised.ensures ∙ raise (option_map shown_value c.in_ok-left_shown.left_shown) ∙ ap (λ (o : Option Shown). raised (get_or k.bounds s.leaf None) o) c.in_ok-left_shown.ensures.shown in
+    c.raised.ensures ∙ raise (option_map shown_value c.in_ok-left_shown.left_shown) ∙ ap (raised (get_or k.bounds s.leaf None)) c.in_ok-left_shown.ensures.shown in
     let right_is : c.raised-2.result ≡ raised (get_or k.bounds s.leaf None) (option_map (shown_by n right_half) right) =
-    c.raised-2.ensures ∙ raise (option_map shown_value c.in_ok-right_shown.right_shown) ∙ ap (λ (o : Option Shown). raised (get_or k.bounds s.leaf None) o) right_shows in
-    taken-now n (split_of s left right) k (grown k s c.in_ok-span.span left right c.raised.result c.raised-2.result) c.grow.new.self.kept
-    (c.in_ok-grow.ensures.grown ∙ ap (λ (z : Kept). grown z s c.in_ok-span.span left right c.raised.result c.raised-2.result) same)
-    (split-taken n k s c.in_ok-span.span left right c.raised.result c.raised-2.result c.requires.kept order cut.span left_is right_is)
+    c.raised-2.ensures ∙ raise (option_map shown_value c.in_ok-right_shown.right_shown) ∙ ap (raised (get_or k.bounds s.leaf None)) c.in_ok-right_shown.ensures.shown
+    ∙ ap (λ (z : Kept). raised (get_or k.bounds s.leaf None) (option_map (shown_by n (half_at n z.splits.list s Right)) right)) kept in
+    let grows = c.in_ok-grow.ensures.grown ∙ ap (λ (z : Kept). grown z s c.in_ok-span.span left right c.raised.result c.raised-2.result) same in
+    let splits = subst (λ (t : Splits). AreCut n t) (ap (λ (z : Kept). z.splits) grows)
+    (c.in_ok-grow.ensures.cut n (subst (λ (z : Kept). AreCut n z.splits) (sym same) c.requires.kept.splits) (subst (λ (z : Kept). MayCome n z.splits.list s) (sym same) cut.cuts)
+    (subst (λ (z : Kept). CutsBetween n z.splits.list s c.in_ok-span.span) (sym same) cut.span)) in
+    subst (λ (z : Kept). IsTaken n (split_of s left right) k z) (sym grows)
+    (split-taken n k s c.in_ok-span.span left right c.raised.result c.raised-2.result c.requires.kept order splits left_is right_is)
