@@ -1,0 +1,120 @@
+-- From the answers of parts to those of the whole, and that there is one answer.
+use Rattle.std.proofs.Common.{◌≡◌, ◌∙◌, ◌^◌, true≢false, false, refl, sym, ap, ap₂, subst, List, ℕ, ℤ, pos, ◌*ℤ◌, Option, Some, None, Ok, Err, codes, IfOk}
+use Rattle.std.specs.Prelude.{Result, IsSomeAnd}
+use Rattle.std.specs.Str.{bytes_eq}
+use Rattle.cli_words.proofs.Walks.{same_bytes}
+use Rattle.pool_model.specs.Quantity.{StandsFor, quantity}
+use Rattle.quantity.proofs.Laws.{quantity-only}
+use Rattle.cli_words.specs.Items.{Text}
+use Rattle.cli_words.specs.Requests.{Asked, Solving, line_of, solve, check, report, formulate, make, trial}
+use Rattle.cli_words.specs.Asks.{Asks, IsForm, IsGap, IsMoney, IsNodes, IsNumber, IsRule, IsSolving, Says, form_name, labelled, rule_name, value_in}
+use Rattle.cli_words.specs.Views.{Answers, Means, shown_request}
+use Rattle.box_space.specs.declared.coordinates.Form.{Form}
+use Rattle.box_space.specs.declared.coordinates.Form.TheVariants.{P, Q, Pq}
+use Rattle.cli_words.specs.declared.request.RuleName.{RuleName}
+use Rattle.cli_words.specs.declared.request.RuleName.TheVariants.{First, Widest, Violated}
+use Rattle.cli_words.specs.declared.request.Request.{Request}
+use Rattle.cli_words.specs.declared.request.WordsFault.{WordsFault}
+use Rattle.cli_words.specs.declared.request.WordsFault.TheVariants.{Usage, Memory}
+use Rattle.cli_words.specs.Lines.{Line, line_named}
+use Rattle.cli_words.proofs.Meanings.{line_named-command, same_parts, some_same}
+
+-- a part that is refused refuses the whole, where the whole needs it
+pub refused : {A B C D : Type 0} (shown : A → B) (Meant : B → Type 0) (whole : C → D) (WholeMeant : D → Type 0) (e : WordsFault) (r : Result C WordsFault)
+    → r ≡ Err e → ((d : D) → WholeMeant d → (b : B) × Meant b) → Answers shown Meant (Err e) → Answers whole WholeMeant r
+refused shown Meant whole WholeMeant e r is part h = subst (Answers whole WholeMeant) (sym is) (go e h)
+  where
+    go : (f : WordsFault) → Answers shown Meant (Err f) → Answers whole WholeMeant (Err f)
+    go Usage h = λ d m. let b = part d m in h b.0 b.1
+    go Memory h = tt
+
+-- texts that a test tells apart
+apart : (a b : Text) → bytes_eq a b ≡ false → a ≡ b → ⊥
+apart a b differ e = true≢false (sym (same_bytes a) ∙ ap (bytes_eq a) e ∙ differ)
+
+pub solving : (value : Text → Option Text) (asked : Asked) → Means (codes "solve") value asked → (s : Solving) × IsSolving value s
+solving value (solve s) m = (s, m.says)
+solving value asked m = absurd (apart _ _ refl m.is)
+
+pub formulating : (value : Text → Option Text) (asked : Asked) → Means (codes "formulate") value asked → (form : Form) × IsForm (value (codes "form")) form
+formulating value (formulate net form) m = (form, m.says.1)
+formulating value asked m = absurd (apart _ _ refl m.is)
+
+-- what is meant twice is answered twice
+pub answers_same : {A B : Type 0} (shown : A → B) (M N : B → Type 0) (r : Result A WordsFault) → ((b : B) → M b → N b) → ((b : B) → N b → M b) → Answers shown M r → Answers shown N r
+answers_same shown M N (Ok a) to from h = to (shown a) h
+answers_same shown M N (Err Usage) to from h = λ b n. h b (from b n)
+answers_same shown M N (Err Memory) to from h = tt
+
+-- ---- one request at most
+
+same_form : (f g : Form) → form_name f ≡ form_name g → f ≡ g
+same_form P P e = refl
+same_form Q Q e = refl
+same_form Pq Pq e = refl
+same_form f g e = absurd (apart _ _ refl e)
+
+same_rule : (r s : RuleName) → rule_name r ≡ rule_name s → r ≡ s
+same_rule First First e = refl
+same_rule Widest Widest e = refl
+same_rule Violated Violated e = refl
+same_rule r s e = absurd (apart _ _ refl e)
+
+one_form : (o : Option Text) (f g : Form) → IsForm o f → IsForm o g → f ≡ g
+one_form None f g h k = h ∙ sym k
+one_form (Some text) f g h k = same_form f g (sym h ∙ k)
+
+one_rule : (o : Option Text) (r s : RuleName) → IsRule o r → IsRule o s → r ≡ s
+one_rule None r s h k = h ∙ sym k
+one_rule (Some text) r s h k = same_rule r s (sym h ∙ k)
+
+one_nodes : (o : Option Text) (m n : ℕ) → IsNodes o m → IsNodes o n → m ≡ n
+one_nodes None m n h k = h ∙ sym k
+one_nodes (Some text) m n h k = sym h.amount ∙ k.amount
+
+one_number : (o : Option Text) (m n : ℕ) → IsSomeAnd o (λ text. IsNumber text m) → IsSomeAnd o (λ text. IsNumber text n) → m ≡ n
+one_number None m n h k = absurd h
+one_number (Some text) m n h k = sym h.amount ∙ k.amount
+
+one_gap : (o : Option Text) (g h : ℤ) → IsGap o g → IsGap o h → g ≡ h
+one_gap None g h is also = is ∙ sym also
+one_gap (Some text) g h is also =
+    let q = some_same _ _ (sym (quantity-only text is.quantity is.stands) ∙ quantity-only text also.quantity also.stands) in
+    is.amount ∙ ap (λ x. x *ℤ pos (10 ^ 6)) q ∙ sym also.amount
+
+one_solving : (value : Text → Option Text) (s t : Solving) → IsSolving value s → IsSolving value t → s ≡ t
+one_solving value s t h k =
+    let net = some_same _ _ (sym h.net ∙ k.net) in
+    let form = one_form (value (codes "form")) s.form t.form h.form k.form in
+    let nodes = one_nodes (value (codes "nodes")) s.nodes t.nodes h.nodes k.nodes in
+    let gap = one_gap (value (codes "gap")) s.gap t.gap h.gap k.gap in
+    let journal = sym h.journal ∙ k.journal in
+    let rule = one_rule (value (codes "rule")) s.rule t.rule h.rule k.rule in
+    λ i. record { net = net i; form = form i; nodes = nodes i; gap = gap i; journal = journal i; rule = rule i }
+
+one_said : (value : Text → Option Text) (a b : Asked) → (line_of a).command ≡ (line_of b).command → Says value a → Says value b → a ≡ b
+one_said value (solve s) (solve t) e h k = ap solve (one_solving value s t h k)
+one_said value (check a b) (check c d) e h k = ap₂ check (some_same _ _ (sym h.0 ∙ k.0)) (some_same _ _ (sym h.1 ∙ k.1))
+one_said value (report a b) (report c d) e h k = ap₂ report (some_same _ _ (sym h.0 ∙ k.0)) (some_same _ _ (sym h.1 ∙ k.1))
+one_said value (formulate n f) (formulate m g) e h k = ap₂ formulate (some_same _ _ (sym h.0 ∙ k.0)) (one_form (value (codes "form")) f g h.1 k.1)
+one_said value (make m) (make n) e h k = ap make (one_number (value (codes "number")) m n h k)
+one_said value (trial m) (trial n) e h k = ap trial (one_number (value (codes "number")) m n h k)
+one_said value a b e h k = absurd (apart _ _ refl e)
+
+-- words ask one request at most
+pub one_asked : (words : List Text) (a b : Asked) → Asks words a → Asks words b → a ≡ b
+one_asked words a b h k =
+    let s = same_parts words (line_of a) (line_of b) h.items k.items h.commands k.commands in
+    let line = some_same _ _ (sym (line_named-command a) ∙ ap line_named s.command ∙ line_named-command b) in
+    let values : value_in (labelled (line_of b).places k.items) ≡ value_in (labelled (line_of a).places h.items) =
+      ap (λ (x : Line). value_in (labelled x.places k.items)) (sym line) ∙ ap (λ gs. value_in (labelled (line_of a).places gs)) (sym s.items) in
+    one_said (value_in (labelled (line_of a).places h.items)) a b s.command h.says (subst (λ v. Says v b) values k.says)
+
+pub only_answer : (words : List Text) (r : Result Request WordsFault) → Answers shown_request (Asks words) r → IfOk r (λ request. (asked : Asked) → Asks words asked → asked ≡ shown_request request)
+only_answer words (Ok request) h = λ asked a. one_asked words asked (shown_request request) a h
+only_answer words (Err e) h = tt
+
+pub usage_answer : (words : List Text) (r : Result Request WordsFault) → Answers shown_request (Asks words) r → r ≡ Err Usage → (asked : Asked) → ¬ Asks words asked
+usage_answer words (Ok request) h e = cc
+usage_answer words (Err Usage) h e = h
+usage_answer words (Err Memory) h e = cc

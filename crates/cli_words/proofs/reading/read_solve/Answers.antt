@@ -1,0 +1,26 @@
+use Rattle.std.proofs.Common.{rules, subst, sym}
+use Rattle.clap.specs.Words.{first_of, found_of, rows_of}
+use Rattle.cli_words.specs.Asks.{IsForm, IsGap, IsNodes, IsRule}
+use Rattle.cli_words.specs.Views.{shown_request}
+use Rattle.cli_words.proofs.Answering.{refused, solving}
+use Rattle.cli_words.proofs.reading.read_solve.Goals as goal
+
+pub returns-in_err-form : goal.returns-in_err-form
+returns-in_err-form c =
+    let asked = solving (λ id. first_of id (rows_of (found_of c.args.matches.now))) in
+    refused (λ x. x) _ shown_request _ _ _ (search rules) (λ a m. let s = asked a m in (s.0.form, subst (λ o. IsForm o s.0.form) (sym c.text_of.ensures) s.1.form)) c.in_err-form.ensures
+
+pub returns-in_err-nodes : goal.returns-in_err-nodes
+returns-in_err-nodes c =
+    let asked = solving (λ id. first_of id (rows_of (found_of c.args.matches.now))) in
+    refused (λ x. x) _ shown_request _ _ _ (search rules) (λ a m. let s = asked a m in (s.0.nodes, subst (λ o. IsNodes o s.0.nodes) (sym c.text_of-2.ensures) s.1.nodes)) c.in_err-nodes.ensures
+
+pub returns-in_err-gap : goal.returns-in_err-gap
+returns-in_err-gap c =
+    let asked = solving (λ id. first_of id (rows_of (found_of c.args.matches.now))) in
+    refused (λ x. x) _ shown_request _ _ _ (search rules) (λ a m. let s = asked a m in (s.0.gap, subst (λ o. IsGap o s.0.gap) (sym c.text_of-3.ensures) s.1.gap)) c.in_err-gap.ensures
+
+pub returns-in_err-rule : goal.returns-in_err-rule
+returns-in_err-rule c =
+    let asked = solving (λ id. first_of id (rows_of (found_of c.args.matches.now))) in
+    refused (λ x. x) _ shown_request _ _ _ (search rules) (λ a m. let s = asked a m in (s.0.rule, subst (λ o. IsRule o s.0.rule) (sym c.text_of-4.ensures) s.1.rule)) c.in_err-rule.ensures

@@ -1,0 +1,113 @@
+-- Which words ask which request.
+use Rattle.std.specs.Prelude.{◌≡◌, ◌<◌, ◌≤◌, ◌^◌, ℕ, ℤ, pos, ◌*ℤ◌, ◌≤ℤ◌, true, List, [], ◌∷◌, Option, Some, None, length, codes, option_map, find, unwrap_or, IsSomeAnd}
+use Rattle.std.specs.Str.{bytes_eq}
+use Rattle.std.specs.Str.Parse.{IsNumeral, digits_value}
+use Rattle.pool_model.specs.Quantity.{StandsFor}
+use Rattle.cli_words.specs.Items.{Text, Given, ReadAs, fits}
+use Rattle.cli_words.specs.Lines.{Line}
+use Rattle.cli_words.specs.Requests.{Asked, Solving, line_of, solve, check, report, formulate, make, trial}
+use Rattle.box_space.specs.declared.coordinates.Form.{Form}
+use Rattle.box_space.specs.declared.coordinates.Form.TheVariants.{P, Q, Pq}
+use Rattle.cli_words.specs.declared.request.RuleName.{RuleName}
+use Rattle.cli_words.specs.declared.request.RuleName.TheVariants.{First, Widest, Violated}
+
+-- the words are the command of the line and these items: as many positionals as it has, and of its options each at most once
+pub record Commands (words : List Text) (line : Line) (items : List Given) : Type 0 where
+  pub rest : List Text
+  pub first : words ≡ line.command ∷ rest
+  pub read : ReadAs rest items
+  pub fitting : fits (length line.places) line.options items ≡ true
+
+-- ---- the value under each name of the line
+
+-- the name of the next positional, and the names of those after an item
+abbrev pub next_place : List Text → Text
+next_place [] = []
+next_place (place ∷ places) = place
+
+abbrev pub places_after : Option Text → List Text → List Text
+places_after (Some name) places = places
+places_after None [] = []
+places_after None (place ∷ places) = places
+
+-- each item's value under its name: an option's own, and a positional's that of its place
+abbrev pub labelled : List Text → List Given → List (Text × Text)
+labelled places [] = []
+labelled places (g ∷ gs) = (unwrap_or g.name (next_place places), g.value) ∷ labelled (places_after g.name places) gs
+
+-- the value under a name
+abbrev pub value_in : List (Text × Text) → Text → Option Text
+value_in values name = option_map (λ v. v.1) (find (λ v. bytes_eq v.0 name) values)
+
+-- ---- what a value says
+
+abbrev pub form_name : Form → Text
+form_name P = codes "p"
+form_name Q = codes "q"
+form_name Pq = codes "pq"
+
+-- the form that is named; pq where none is
+abbrev pub IsForm : Option Text → Form → Type 0
+IsForm None form = form ≡ Pq
+IsForm (Some text) form = text ≡ form_name form
+
+abbrev pub rule_name : RuleName → Text
+rule_name First = codes "first"
+rule_name Widest = codes "widest"
+rule_name Violated = codes "violated"
+
+-- the rule that is named; widest where none is
+abbrev pub IsRule : Option Text → RuleName → Type 0
+IsRule None rule = rule ≡ Widest
+IsRule (Some text) rule = text ≡ rule_name rule
+
+-- one to twenty decimal digits, of a number of at most 2^64 - 1
+pub record IsNumber (text : Text) (n : ℕ) : Type 0 where
+  pub digits : IsNumeral 10 text
+  pub short : length text ≤ 20
+  pub amount : digits_value 10 text ≡ n
+  pub small : n < 2 ^ 64
+
+-- the number of nodes that is written; 1000 where none is
+abbrev pub IsNodes : Option Text → ℕ → Type 0
+IsNodes None n = n ≡ 1000
+IsNodes (Some text) n = IsNumber text n
+
+-- a quantity of money from 0 to 10^12 millionths, as this many picos
+pub record IsMoney (text : Text) (picos : ℤ) : Type 0 where
+  pub quantity : ℤ
+  pub stands : StandsFor text quantity
+  pub low : pos 0 ≤ℤ quantity
+  pub high : quantity ≤ℤ pos (10 ^ 12)
+  pub amount : picos ≡ quantity *ℤ pos (10 ^ 6)
+
+-- the gap that is written, in picos; 0.01 of money where none is
+abbrev pub IsGap : Option Text → ℤ → Type 0
+IsGap None picos = picos ≡ pos (10 ^ 10)
+IsGap (Some text) picos = IsMoney text picos
+
+-- ---- the request
+
+-- what the values of `solve` say
+pub record IsSolving (value : Text → Option Text) (s : Solving) : Type 0 where
+  pub net : value (codes "net") ≡ Some s.net
+  pub form : IsForm (value (codes "form")) s.form
+  pub nodes : IsNodes (value (codes "nodes")) s.nodes
+  pub gap : IsGap (value (codes "gap")) s.gap
+  pub journal : value (codes "journal") ≡ s.journal
+  pub rule : IsRule (value (codes "rule")) s.rule
+
+-- the values say this, where the value under each name is given
+abbrev pub Says : (Text → Option Text) → Asked → Type 0
+Says value (solve s) = IsSolving value s
+Says value (check net cert) = (value (codes "net") ≡ Some net) × (value (codes "cert") ≡ Some cert)
+Says value (report net cert) = (value (codes "net") ≡ Some net) × (value (codes "cert") ≡ Some cert)
+Says value (formulate net form) = (value (codes "net") ≡ Some net) × IsForm (value (codes "form")) form
+Says value (make n) = IsSomeAnd (value (codes "number")) (λ text. IsNumber text n)
+Says value (trial n) = IsSomeAnd (value (codes "number")) (λ text. IsNumber text n)
+
+-- the words ask this: they are its command and items that fit, and it is what the items say
+pub record Asks (words : List Text) (asked : Asked) : Type 0 where
+  pub items : List Given
+  pub commands : Commands words (line_of asked) items
+  pub says : Says (value_in (labelled (line_of asked).places items)) asked

@@ -1,0 +1,33 @@
+-- What words can ask.
+use Rattle.std.specs.Prelude.{ℕ, ℤ, Option}
+use Rattle.cli_words.specs.Items.{Text}
+use Rattle.cli_words.specs.Lines.{Line, solve_line, check_line, report_line, formulate_line, make_line, trial_line}
+use Rattle.box_space.specs.declared.coordinates.Form.{Form}
+use Rattle.cli_words.specs.declared.request.RuleName.{RuleName}
+
+-- what `solve` is asked; the gap is in picos
+pub record Solving : Type 0 where
+  pub net : Text
+  pub form : Form
+  pub nodes : ℕ
+  pub gap : ℤ
+  pub journal : Option Text
+  pub rule : RuleName
+
+-- a request, without where it lies in memory
+pub data Asked : Type 0 where
+  solve : Solving → Asked
+  check : (net cert : Text) → Asked
+  report : (net cert : Text) → Asked
+  formulate : (net : Text) (form : Form) → Asked
+  make : (number : ℕ) → Asked
+  trial : (number : ℕ) → Asked
+
+-- the line of its command
+abbrev pub line_of : Asked → Line
+line_of (solve s) = solve_line
+line_of (check net cert) = check_line
+line_of (report net cert) = report_line
+line_of (formulate net form) = formulate_line
+line_of (make n) = make_line
+line_of (trial n) = trial_line

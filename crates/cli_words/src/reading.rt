@@ -1,0 +1,144 @@
+//! From words to a request.
+
+ghost use Rattle.std.specs.Prelude.{◌≡◌, IfOk, true, map, string_bytes, option_map, codes, Some, Err, IfErr};
+ghost use Rattle.clap.specs.Words.{first_of, found_of, rows_of};
+ghost use Rattle.cli_words.specs.Requests.{Asked};
+ghost use Rattle.cli_words.specs.Asks.{Asks};
+ghost use Rattle.cli_words.specs.Views.{Answers, Means, has_form, shown_request};
+
+use crate::items::has_form;
+use crate::program::{entered, matches_of, text_of};
+use crate::values::{read_form, read_gap, read_nodes, read_number, read_rule};
+use crate::{Request, SolveWords, WordsFault};
+use clap::ArgMatches;
+use std::alloc::Global;
+
+/// The request that the words ask. `words` leaves out the program's name.
+///
+/// `Usage` exactly where the words ask none; memory aside, every other list of words is answered.
+pub fn read_words(alloc: Global, words: &[String]) -> Result<Request, WordsFault>
+    ensures asks { IfOk result (λ request. Asks (map string_bytes words.now) (shown_request request)) }
+    ensures only { IfOk result (λ request. (asked : Asked) → Asks (map string_bytes words.now) asked → asked ≡ shown_request request) }
+    ensures usage { result ≡ Err WordsFault.Usage → (asked : Asked) → ¬ Asks (map string_bytes words.now) asked }
+{
+    match has_form(alloc, words) {
+        Ok(true) => read_formed(alloc, words),
+        Ok(false) => Err(WordsFault::Usage),
+        Err(_) => Err(WordsFault::Memory),
+    }
+}
+
+/// What words of the form ask.
+fn read_formed(alloc: Global, words: &[String]) -> Result<Request, WordsFault>
+    requires { has_form (map string_bytes words.now) ≡ true }
+    ensures { Answers shown_request (Asks (map string_bytes words.now)) result }
+{
+    let Ok(matches) = matches_of(alloc, words) else {
+        return Err(WordsFault::Memory);
+    };
+    let (command, inner) = entered(&matches).unwrap();
+    read_command(alloc, command, inner)
+}
+
+/// What the command asks with these values.
+fn read_command(
+    alloc: Global,
+    command: &str,
+    matches: &ArgMatches<'_>,
+) -> Result<Request, WordsFault>
+    ensures { Answers shown_request (Means command.now (λ id. first_of id (rows_of (found_of matches.now)))) result }
+{
+    match command {
+        "solve" => read_solve(alloc, matches),
+        "check" => read_check(alloc, matches),
+        "report" => read_report(alloc, matches),
+        "formulate" => read_formulate(alloc, matches),
+        "make" => read_make(matches),
+        "trial" => read_trial(matches),
+        _ => Err(WordsFault::Usage),
+    }
+}
+
+fn read_solve(alloc: Global, matches: &ArgMatches<'_>) -> Result<Request, WordsFault>
+    ensures { Answers shown_request (Means (codes "solve") (λ id. first_of id (rows_of (found_of matches.now)))) result }
+{
+    let form = read_form(text_of(matches, "form"))?;
+    let nodes = read_nodes(text_of(matches, "nodes"))?;
+    let gap = read_gap(text_of(matches, "gap"))?;
+    let rule = read_rule(text_of(matches, "rule"))?;
+    let journal = owned_option(alloc, text_of(matches, "journal"))?;
+    let net = owned(alloc, text_of(matches, "net"))?;
+    Ok(Request::Solve(SolveWords {
+        net,
+        form,
+        nodes,
+        gap,
+        journal,
+        rule,
+    }))
+}
+
+fn read_check(alloc: Global, matches: &ArgMatches<'_>) -> Result<Request, WordsFault>
+    ensures { Answers shown_request (Means (codes "check") (λ id. first_of id (rows_of (found_of matches.now)))) result }
+{
+    let net = owned(alloc, text_of(matches, "net"))?;
+    let cert = owned(alloc, text_of(matches, "cert"))?;
+    Ok(Request::Check(net, cert))
+}
+
+fn read_report(alloc: Global, matches: &ArgMatches<'_>) -> Result<Request, WordsFault>
+    ensures { Answers shown_request (Means (codes "report") (λ id. first_of id (rows_of (found_of matches.now)))) result }
+{
+    let net = owned(alloc, text_of(matches, "net"))?;
+    let cert = owned(alloc, text_of(matches, "cert"))?;
+    Ok(Request::Report(net, cert))
+}
+
+fn read_formulate(alloc: Global, matches: &ArgMatches<'_>) -> Result<Request, WordsFault>
+    ensures { Answers shown_request (Means (codes "formulate") (λ id. first_of id (rows_of (found_of matches.now)))) result }
+{
+    let form = read_form(text_of(matches, "form"))?;
+    let net = owned(alloc, text_of(matches, "net"))?;
+    Ok(Request::Formulate(net, form))
+}
+
+fn read_make(matches: &ArgMatches<'_>) -> Result<Request, WordsFault>
+    ensures { Answers shown_request (Means (codes "make") (λ id. first_of id (rows_of (found_of matches.now)))) result }
+{
+    let number = read_number(text_of(matches, "number"))?;
+    Ok(Request::Make(number))
+}
+
+fn read_trial(matches: &ArgMatches<'_>) -> Result<Request, WordsFault>
+    ensures { Answers shown_request (Means (codes "trial") (λ id. first_of id (rows_of (found_of matches.now)))) result }
+{
+    let number = read_number(text_of(matches, "number"))?;
+    Ok(Request::Trial(number))
+}
+
+/// The value, as a text of its own.
+fn owned(alloc: Global, value: Option<&str>) -> Result<String, WordsFault>
+    ensures { Answers string_bytes (λ text. option_map (λ s. s.now) value.entry ≡ Some text) result }
+{
+    match value {
+        None => Err(WordsFault::Usage),
+        Some(text) => copied(alloc, text),
+    }
+}
+
+/// The value, if there is one, as a text of its own.
+fn owned_option(alloc: Global, value: Option<&str>) -> Result<Option<String>, WordsFault>
+    ensures { Answers (option_map string_bytes) (λ text. option_map (λ s. s.now) value.entry ≡ text) result }
+{
+    match value {
+        None => Ok(None),
+        Some(text) => Ok(Some(copied(alloc, text)?)),
+    }
+}
+
+fn copied(alloc: Global, text: &str) -> Result<String, WordsFault>
+    ensures ok { IfOk result (λ s. string_bytes s ≡ text.now) }
+    ensures err { IfErr result (λ e. e ≡ WordsFault.Memory) }
+{
+    String::from_str(alloc, text).map_err(|_| WordsFault::Memory)
+}

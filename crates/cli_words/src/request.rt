@@ -1,0 +1,54 @@
+//! What words can ask.
+
+use box_space::Form;
+
+/// Which coordinate of a box is cut.
+#[derive(Clone, Copy, Debug, PartialEq, Eq)]
+pub enum RuleName {
+    /// The first that can be cut.
+    First,
+    /// The widest, measured by its width in the root box.
+    Widest,
+    /// The one whose products are missed most.
+    Violated,
+}
+
+/// What `solve` is asked.
+#[derive(Debug, Drop)]
+pub struct SolveWords {
+    /// The name of the network's file.
+    pub net: String,
+    pub form: Form,
+    /// The most splits that the search may make.
+    pub nodes: u64,
+    /// The gap that closes the search, in picos.
+    pub gap: i128,
+    /// The name of the journal's file.
+    pub journal: Option<String>,
+    pub rule: RuleName,
+}
+
+/// What the words ask.
+#[derive(Debug, Drop)]
+pub enum Request {
+    Solve(SolveWords),
+    /// To check a certificate: the names of the network's file and of the certificate's.
+    Check(String, String),
+    /// To report on a certificate: the names of the network's file and of the certificate's.
+    Report(String, String),
+    /// To write the program of the network in the file of this name.
+    Formulate(String, Form),
+    /// To make the network of this number.
+    Make(u64),
+    /// To try the network of this number.
+    Trial(u64),
+}
+
+/// Why there is no request.
+#[derive(Clone, Copy, Debug, PartialEq, Eq)]
+pub enum WordsFault {
+    /// The words ask none.
+    Usage,
+    /// Memory ran out.
+    Memory,
+}

@@ -1,0 +1,106 @@
+//! What the values of words say.
+
+ghost use Rattle.std.specs.Prelude.{option_map, IsSomeAnd};
+ghost use Rattle.cli_words.specs.Asks.{IsForm, IsGap, IsMoney, IsNodes, IsNumber, IsRule};
+ghost use Rattle.cli_words.specs.Views.{Answers};
+
+use crate::{RuleName, WordsFault};
+use box_space::Form;
+use quantity::quantity_of;
+
+/// The form that is named; pq where none is.
+pub(crate) fn read_form(text: Option<&str>) -> Result<Form, WordsFault>
+    ensures { Answers (λ f. f) (IsForm (option_map (λ s. s.now) text.entry)) result }
+{
+    match text {
+        None => Ok(Form::Pq),
+        Some("p") => Ok(Form::P),
+        Some("q") => Ok(Form::Q),
+        Some("pq") => Ok(Form::Pq),
+        Some(_) => Err(WordsFault::Usage),
+    }
+}
+
+/// The rule that is named; widest where none is.
+pub(crate) fn read_rule(text: Option<&str>) -> Result<RuleName, WordsFault>
+    ensures { Answers (λ r. r) (IsRule (option_map (λ s. s.now) text.entry)) result }
+{
+    match text {
+        None => Ok(RuleName::Widest),
+        Some("first") => Ok(RuleName::First),
+        Some("widest") => Ok(RuleName::Widest),
+        Some("violated") => Ok(RuleName::Violated),
+        Some(_) => Err(WordsFault::Usage),
+    }
+}
+
+/// The number of nodes that is written; 1000 where none is.
+pub(crate) fn read_nodes(text: Option<&str>) -> Result<u64, WordsFault>
+    ensures { Answers (λ n. n) (IsNodes (option_map (λ s. s.now) text.entry)) result }
+{
+    match text {
+        Some(text) => digits_of(text),
+        None => Ok(DEFAULT_NODES),
+    }
+}
+
+/// The gap that is written, in picos; 0.01 of money where none is.
+pub(crate) fn read_gap(text: Option<&str>) -> Result<i128, WordsFault>
+    ensures { Answers (λ g. g) (IsGap (option_map (λ s. s.now) text.entry)) result }
+{
+    match text {
+        Some(text) => read_money(text),
+        None => Ok(DEFAULT_GAP),
+    }
+}
+
+/// The number that is written; usage where none is.
+pub(crate) fn read_number(text: Option<&str>) -> Result<u64, WordsFault>
+    ensures { Answers (λ n. n) (λ n. IsSomeAnd (option_map (λ s. s.now) text.entry) (λ t. IsNumber t n)) result }
+{
+    match text {
+        Some(text) => digits_of(text),
+        None => Err(WordsFault::Usage),
+    }
+}
+
+/// One to twenty decimal digits, of a number of at most `2^64 - 1`.
+fn digits_of(text: &str) -> Result<u64, WordsFault>
+    ensures { Answers (λ n. n) (IsNumber text.now) result }
+{
+    if text.len() > MOST_DIGITS || text.starts_with('+') {
+        return Err(WordsFault::Usage);
+    }
+    match text.parse::<u64>() {
+        Ok(n) => Ok(n),
+        Err(_) => Err(WordsFault::Usage),
+    }
+}
+
+/// A quantity of money, in picos.
+fn read_money(text: &str) -> Result<i128, WordsFault>
+    ensures { Answers (λ g. g) (IsMoney text.now) result }
+{
+    let Some(millionths) = quantity_of(text) else {
+        return Err(WordsFault::Usage);
+    };
+    if millionths < 0 || millionths > MOST_MONEY {
+        return Err(WordsFault::Usage);
+    }
+    Ok(millionths * PICOS_IN_MILLIONTH)
+}
+
+/// How many splits `solve` may make unless it is told.
+const DEFAULT_NODES: u64 = 1000;
+
+/// The gap that closes `solve` unless it is told, in picos: 0.01 of money.
+const DEFAULT_GAP: i128 = 10_000_000_000;
+
+/// The most digits of a number.
+const MOST_DIGITS: usize = 20;
+
+/// The most money that a gap may be, in millionths.
+const MOST_MONEY: i128 = 1_000_000_000_000;
+
+/// How many picos a millionth of money has.
+const PICOS_IN_MILLIONTH: i128 = 1_000_000;
