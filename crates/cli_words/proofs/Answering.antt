@@ -3,11 +3,10 @@ use Rattle.std.proofs.Common.{◌≡◌, ◌∙◌, ◌^◌, true≢false, false
 use Rattle.std.specs.Prelude.{Result, IsSomeAnd}
 use Rattle.std.specs.Str.{bytes_eq}
 use Rattle.cli_words.proofs.Walks.{same_bytes}
-use Rattle.pool_model.specs.Quantity.{StandsFor, quantity}
 use Rattle.quantity.proofs.Laws.{quantity-only}
 use Rattle.cli_words.specs.Items.{Text}
 use Rattle.cli_words.specs.Requests.{Asked, Solving, line_of, solve, check, report, formulate, make, trial}
-use Rattle.cli_words.specs.Asks.{Asks, IsForm, IsGap, IsMoney, IsNodes, IsNumber, IsRule, IsSolving, Says, form_name, labelled, rule_name, value_in}
+use Rattle.cli_words.specs.Asks.{Asks, IsForm, IsGap, IsNodes, IsNumber, IsRule, IsSolving, Says, form_name, labelled, rule_name, value_in}
 use Rattle.cli_words.specs.Views.{Answers, Means, shown_request}
 use Rattle.box_space.specs.declared.coordinates.Form.{Form}
 use Rattle.box_space.specs.declared.coordinates.Form.TheVariants.{P, Q, Pq}
@@ -107,7 +106,7 @@ one_asked words a b h k =
     let s = same_parts words (line_of a) (line_of b) h.items k.items h.commands k.commands in
     let line = some_same _ _ (sym (line_named-command a) ∙ ap line_named s.command ∙ line_named-command b) in
     let values : value_in (labelled (line_of b).places k.items) ≡ value_in (labelled (line_of a).places h.items) =
-      ap (λ (x : Line). value_in (labelled x.places k.items)) (sym line) ∙ ap (λ gs. value_in (labelled (line_of a).places gs)) (sym s.items) in
+    ap (λ (x : Line). value_in (labelled x.places k.items)) (sym line) ∙ ap (λ gs. value_in (labelled (line_of a).places gs)) (sym s.items) in
     one_said (value_in (labelled (line_of a).places h.items)) a b s.command h.says (subst (λ v. Says v b) values k.says)
 
 pub only_answer : (words : List Text) (r : Result Request WordsFault) → Answers shown_request (Asks words) r → IfOk r (λ request. (asked : Asked) → Asks words asked → asked ≡ shown_request request)

@@ -1,5 +1,5 @@
 -- What the items of words that fit a command come to, under the ids of its arguments.
-use Rattle.std.proofs.Common.{rules, refl, sym, true, false, not, List, [], ◌∷◌, ◌≡◌, ◌&&◌, ◌||◌, ℕ, zero, suc, Bool, cond, Option, Some, None, subst, true≢false, length, arith}
+use Rattle.std.proofs.Common.{rules, refl, sym, true, false, not, List, [], ◌∷◌, ◌≡◌, ◌&&◌, ◌||◌, ℕ, Bool, cond, Option, Some, None, subst, true≢false, length, arith}
 use Rattle.std.specs.Prelude.{option_map, find, slice_get, unwrap_or, option_and_then}
 use Rattle.std.specs.List.{list_any, list_all}
 use Rattle.std.specs.Option.{option_map_or}
@@ -8,7 +8,7 @@ use Rattle.std.proofs.lemmas.Slice.Eq.{bytes_eq-Decides}
 use Rattle.clap.specs.Walk.{Rule, Row, first_of, arg_by_index, arg_by_long, arg_by_id}
 use Rattle.cli_words.specs.Items.{Text, Given, positionals, with_positional, is_named, is_option, has_only, once}
 use Rattle.cli_words.specs.Asks.{labelled, next_place, places_after, value_in}
-use Rattle.cli_words.proofs.Walks.{Apart, Serves, ServesAll, after_place, option_rule, or_parts, position_after, positional_rule, row_for, rows_for, same_bytes}
+use Rattle.cli_words.proofs.Walks.{Apart, Serves, ServesAll, after_place, option_rule, or_parts, position_after, positional_rule, row_for, rows_for}
 use Rattle.cli_words.proofs.Levels.{and_parts}
 
 -- ---- the arguments of a command: its places in order, and its options

@@ -1,10 +1,10 @@
 -- What the rows of `clap`'s matches say is what the words ask.
-use Rattle.std.proofs.Common.{ap, refl, sym, true, List, ◌∷◌, ◌≡◌, ◌∙◌, Option, Some, None, subst, length}
+use Rattle.std.proofs.Common.{ap, refl, sym, true, List, ◌∷◌, ◌≡◌, ◌∙◌, Option, Some, None, subst}
 use Rattle.std.specs.Prelude.{option_map, is_some, IsSome}
 use Rattle.std.specs.Borrow.{Bor}
 use Rattle.clap.specs.declared.ArgMatches.{ArgMatches}
 use Rattle.clap.specs.Words.{Row, first_of, found_of, rows_of, subcommand_of, subcommand_rows_of}
-use Rattle.cli_words.specs.Items.{Text, Given, ReadAs, items_of}
+use Rattle.cli_words.specs.Items.{Text, Given, items_of}
 use Rattle.cli_words.specs.Lines.{Line, line_named, program_app}
 use Rattle.cli_words.specs.Requests.{Asked, line_of, solve, check, report, formulate, make, trial}
 use Rattle.cli_words.specs.Asks.{Asks, Commands, Says, labelled, value_in}
@@ -84,7 +84,7 @@ module _ (words : List Text) (command : Text) (rows : List Row) (m : Met words c
       let s = same_parts words m.formed.line (line_of asked) m.formed.items a.items m.formed.commands a.commands in
       let line : m.formed.line ≡ line_of asked = some_same _ _ (sym m.formed.known ∙ ap line_named s.command ∙ line_named-command asked) in
       let values : value_in (labelled m.formed.line.places m.formed.items) ≡ value_in (labelled (line_of asked).places a.items) =
-        ap (λ (x : Line). value_in (labelled x.places m.formed.items)) line ∙ ap (λ gs. value_in (labelled (line_of asked).places gs)) s.items in
+      ap (λ (x : Line). value_in (labelled x.places m.formed.items)) line ∙ ap (λ gs. value_in (labelled (line_of asked).places gs)) s.items in
       record { is = m.is ∙ s.command; says = subst (λ v. Says v asked) (sym (same_values ∙ values)) a.says }
 
 abbrev shown : Bor Text × Bor ArgMatches → Text × List Row

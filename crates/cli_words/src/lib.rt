@@ -22,3 +22,6 @@ mod values;
 
 pub use reading::read_words;
 pub use request::{Request, RuleName, SolveWords, WordsFault};
+
+#[cfg(test)]
+mod tests;

@@ -1,6 +1,6 @@
 use Rattle.std.proofs.Common.{rules, subst, sym}
 use Rattle.clap.specs.Words.{first_of, found_of, rows_of}
-use Rattle.cli_words.specs.Asks.{IsForm, IsGap, IsNodes, IsRule}
+use Rattle.cli_words.specs.Asks.{IsForm}
 use Rattle.cli_words.specs.Views.{shown_request}
 use Rattle.cli_words.proofs.Answering.{refused, formulating}
 use Rattle.cli_words.proofs.reading.read_formulate.Goals as goal
