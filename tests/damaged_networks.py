@@ -96,6 +96,20 @@ def turn_arc(rng, net):
         rng.choice([arc.reverse, lambda: arc.__setitem__(rng.randrange(2), rng.choice(names + ["nobody"]))])()
 
 
+def join_pools(rng, net):
+    net["arcs"].append([rng.choice(net["pools"])["name"], rng.choice(net["pools"])["name"]])
+
+
+def strand_pool(rng, net):
+    """All arcs into or out of a pool go."""
+    name, end = rng.choice(net["pools"])["name"], rng.randrange(2)
+    net["arcs"] = [arc for arc in net["arcs"] if arc[end] != name]
+
+
+def rename_node(rng, net):
+    rng.choice(net[rng.choice(["sources", "pools", "products"])])["name"] = rng.choice(["", "n" * 41, "\u00e4", "A\n", "n" * 40, "A", "X"])
+
+
 def lower_maximum(rng, net):
     product = rng.choice(net["products"]) if net["products"] else {}
     product.update(rng.choice([{"min": 101, "max": 100}, {"least": {"sulfur": 4}, "most": {"sulfur": 3}}, {"least": {"load": "90.1"}}]))
@@ -116,7 +130,7 @@ def widen_pool(rng, net):
 
 
 DAMAGES = [damage_value, damage_quantity, damage_quantity, drop_member, rename_member, drop_element, repeat_element, turn_arc, turn_arc,
-           lower_maximum, lengthen_list, widen_pool]
+           join_pools, strand_pool, rename_node, lower_maximum, lengthen_list, widen_pool]
 
 
 def damage_bytes(rng, data):
@@ -191,6 +205,7 @@ def main(pool):
             met[program.removeprefix("network refused: ") or "taken"] += 1
             if program != here:
                 differ.append(f"file {number}: the program says {program!r}, tools/explain {here!r}: {data[:300]!r}")
+    differ += [f"no file was refused for {cause}" for cause in explain.CAUSES if cause != "1" and not met[cause]]
     print(*differ, sep="\n", end="\n" if differ else "")
     print(f"{FILES - len(differ)} of {FILES} damaged files alike; " + ", ".join(f"{cause}: {n}" for cause, n in sorted(met.items())))
     return 1 if differ else 0

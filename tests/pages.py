@@ -1,0 +1,82 @@
+#!/usr/bin/env python3
+"""Whether the pages are true where a script can tell: `pages.py`
+
+Each link and each path that README.md, docs/ and examples/README.md name is there; each crate stands in the table of
+docs/ARCHITECTURE.md; and each command of theirs that begins with ./pool or tools/ runs as written,
+in a folder where the repository's own files are linked, with the status that stands behind it as `# ends with N`, else 0.
+"""
+
+import re
+import subprocess
+import sys
+import tempfile
+from pathlib import Path
+
+TOP = Path(__file__).resolve().parent.parent
+PAGES = [TOP / "README.md", TOP / "examples" / "README.md", *sorted((TOP / "docs").glob("*.md"))]
+LINK = re.compile(r"\]\(([^)\s]+)\)")
+PATH = re.compile(r"(?<![\w./*-])((?:docs|examples|tests|tools|crates|\.ci)/[\w./-]*[\w/])(?![\w*])")
+
+
+def headings(page):
+    """The names under which the headings of a page can be linked."""
+    lines = [line.lstrip("#").strip() for line in page.read_text().splitlines() if line.startswith("#")]
+    return {re.sub(r"[^\w -]", "", line.lower()).replace(" ", "-") for line in lines}
+
+
+def dead_links(page):
+    for link in LINK.findall(page.read_text()):
+        if re.match(r"https?:", link):
+            continue
+        name, _, heading = link.partition("#")
+        target = (page.parent / name) if name else page
+        if not target.exists() or (heading and heading not in headings(target)):
+            yield f"the link {link} leads nowhere"
+
+
+def missing_paths(page):
+    for path in sorted(set(PATH.findall(page.read_text()))):
+        if not (TOP / path).exists():
+            yield f"there is no {path}"
+
+
+def crates_left_out(page):
+    """Crates that the tables of a page lack."""
+    crates = {path.name for path in (TOP / "crates").iterdir() if (path / "src").is_dir()}
+    named = set(re.findall(r"`(\w+)`", " ".join(re.findall(r"(?m)^\| ((?:`\w+`(?:, )?)+) \|", page.read_text()))))
+    yield from (f"the crate {name} has no row" for name in sorted(crates - named))
+
+
+def commands(page):
+    """The commands of a page, as written in lines of their own, each with the status that it ends with."""
+    for line in page.read_text().splitlines():
+        found = re.fullmatch(r"    ((?:\./pool|tools/)[^#]*?)(?:\s+# ends with (\d+).*|\s+#.*)?", line)
+        if found:
+            yield found.group(1), int(found.group(2) or 0)
+
+
+def failed_commands(page):
+    with tempfile.TemporaryDirectory() as folder:
+        for name in ("pool", "tools", "tests", "examples", "docs", "crates"):
+            (Path(folder) / name).symlink_to(TOP / name)
+        for command, status in commands(page):
+            run = subprocess.run(["bash", "-c", command], cwd=folder, capture_output=True, text=True)
+            if run.returncode != status:
+                yield f"`{command}` ends with {run.returncode}, and not with {status}: {run.stderr.strip()}"
+
+
+def main():
+    found, tried = [], 0
+    for page in PAGES:
+        judges = [dead_links, missing_paths, failed_commands]
+        if page.name == "ARCHITECTURE.md":
+            judges.append(crates_left_out)
+        tried += len(list(commands(page)))
+        found += [f"{page.relative_to(TOP)}: {fault}" for judge in judges for fault in judge(page)]
+    print(*found, sep="\n", end="\n" if found else "")
+    print(f"{len(PAGES)} pages, {tried} commands of theirs, {len(found)} faults")
+    return 1 if found else 0
+
+
+if __name__ == "__main__":
+    sys.exit(main())
