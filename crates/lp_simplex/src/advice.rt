@@ -1,0 +1,93 @@
+//! The calls, and what they answer.
+
+ghost use Rattle.std.specs.Prelude.{◌≡◌, vec_len, IfOk};
+ghost use Rattle.lp_simplex.specs.Columns.{NamesColumns};
+
+use crate::answer::one_row;
+use crate::lp::Lp;
+use crate::program::{Scaled, scale};
+use crate::simplex::{End, Simplex};
+use crate::start::{cold_start, start_at_rest};
+use box_space::Proof;
+use edge_io::Memory;
+use std::alloc::{AllocError, Global};
+
+/// What the method suggests, in units of 2^-32. None of it is to be trusted before it is tested.
+#[derive(Debug, Drop)]
+pub struct Advice {
+    /// The duals are meant to show that no point of the box meets the rows, and not to bound the cost.
+    pub ray: bool,
+    pub duals: Vec<i128>,
+    pub point: Vec<i128>,
+    /// Where the method ended: the variables strictly between their ends, by number, and the rows that bind, by their
+    /// places past the count of variables.
+    pub basis: Vec<u32>,
+}
+
+/// An advice, and how the method came to it.
+#[derive(Drop)]
+struct Solution {
+    advice: Advice,
+    is_final: bool,
+    pivots: u32,
+}
+
+/// Advice on the program after at most `pivots` changes of the basis.
+pub fn advise(alloc: Global, lp: &Lp, pivots: u32) -> Result<Advice, Memory>
+    ensures duals { IfOk result (λ a. vec_len a.duals ≡ vec_len lp.now.rows) }
+    ensures point { IfOk result (λ a. vec_len a.point ≡ vec_len lp.now.low) }
+    ensures basis { IfOk result (λ a. NamesColumns lp.now a.basis.items) }
+{
+    let start = cold_start(alloc, lp)?;
+    Ok(solve(alloc, lp, &start, pivots)?.advice)
+}
+
+/// Advice from a start in the form of `Advice::basis`, in any order. Every list is allowed: what is not there, comes twice,
+/// is fixed or makes the start singular is left out. Where the method comes to no end from there, a cold call follows with
+/// the pivots that are left.
+pub fn advise_from(alloc: Global, lp: &Lp, start: &[u32], pivots: u32) -> Result<Advice, Memory>
+    ensures duals { IfOk result (λ a. vec_len a.duals ≡ vec_len lp.now.rows) }
+    ensures point { IfOk result (λ a. vec_len a.point ≡ vec_len lp.now.low) }
+    ensures basis { IfOk result (λ a. NamesColumns lp.now a.basis.items) }
+{
+    let solution = solve(alloc, lp, start, pivots)?;
+    if solution.is_final || solution.pivots >= pivots {
+        return Ok(solution.advice);
+    }
+    advise(alloc, lp, pivots.saturating_sub(solution.pivots))
+}
+
+/// A start from a rounded proof alone, its parts in any order: the rows with a multiplier, by `LpRow::id`, and the
+/// variables that they leave no cost but for rounding. The multipliers are `scale` times the duals; a `scale` of 0 is that
+/// of a proof that there is no point.
+pub fn start_of_proof(alloc: Global, lp: &Lp, proof: &Proof) -> Result<Vec<u32>, Memory>
+    ensures { IfOk result (λ start. NamesColumns lp.now start.items) }
+{
+    Ok(lp.named(start_at_rest(alloc, lp, proof)?))
+}
+
+fn solve(alloc: Global, lp: &Lp, start: &[u32], pivots: u32) -> Result<Solution, AllocError>
+    ensures duals { IfOk result (λ s. vec_len s.advice.duals ≡ vec_len lp.now.rows) }
+    ensures point { IfOk result (λ s. vec_len s.advice.point ≡ vec_len lp.now.low) }
+    ensures basis { IfOk result (λ s. NamesColumns lp.now s.advice.basis.items) }
+{
+    match scale(alloc, lp)? {
+        Scaled::NoPoint { row, sign } => Ok(Solution {
+            advice: one_row(alloc, lp, row, sign)?,
+            is_final: true,
+            pivots: 0,
+        }),
+        Scaled::Program(program) => {
+            let mut simplex = Simplex::new(alloc, program)?;
+            simplex.begin_at(alloc, start)?;
+            let end = simplex.run(alloc, pivots)?;
+            let is_final = matches!(&end, End::Optimal | End::Ray(_));
+            let advice = simplex.advice(alloc, lp, end)?;
+            Ok(Solution {
+                advice,
+                is_final,
+                pivots: simplex.progress.pivots,
+            })
+        }
+    }
+}

@@ -1,0 +1,122 @@
+//! The basis: the rows that are active, those whose slack is not basic, and the variables that are basic.
+//!
+//! A row that is not active costs nothing here, so a basis is as large as its kernel and not as the program.
+
+use lp_factors::Column;
+use lp_factors::lookup::{NOWHERE, at, put};
+use std::alloc::{AllocError, Global};
+
+/// Active rows and basic variables, as many of the one as of the other, but for a start that has no factors yet.
+#[derive(Drop)]
+pub struct Basis {
+    pub variables: Vec<usize>,
+    pub rows: Vec<usize>,
+    /// Where a variable is among the basic ones, and a row among the active ones, or `NOWHERE`.
+    variable_places: Vec<usize>,
+    row_places: Vec<usize>,
+}
+
+impl Basis {
+    /// The empty basis of a program of so many variables and rows.
+    pub fn new(alloc: Global, variables: usize, rows: usize) -> Result<Basis, AllocError> {
+        Ok(Basis {
+            variables: Vec::new(alloc),
+            rows: Vec::new(alloc),
+            variable_places: vec![in alloc; NOWHERE; variables]?,
+            row_places: vec![in alloc; NOWHERE; rows]?,
+        })
+    }
+
+    pub fn size(&self) -> usize {
+        self.variables.len()
+    }
+
+    #[inline]
+    pub fn variable(&self, place: usize) -> usize {
+        at(&self.variables, place, NOWHERE)
+    }
+
+    #[inline]
+    pub fn row(&self, place: usize) -> usize {
+        at(&self.rows, place, NOWHERE)
+    }
+
+    #[inline]
+    pub fn variable_place(&self, variable: usize) -> usize {
+        at(&self.variable_places, variable, NOWHERE)
+    }
+
+    #[inline]
+    pub fn is_basic(&self, variable: usize) -> bool {
+        self.variable_place(variable) != NOWHERE
+    }
+
+    #[inline]
+    pub fn is_active(&self, row: usize) -> bool {
+        at(&self.row_places, row, NOWHERE) != NOWHERE
+    }
+
+    pub fn add_variable(&mut self, variable: usize) -> Result<(), AllocError> {
+        put(&mut self.variable_places, variable, self.variables.len());
+        self.variables.push(variable)?;
+        Ok(())
+    }
+
+    pub fn add_row(&mut self, row: usize) -> Result<(), AllocError> {
+        put(&mut self.row_places, row, self.rows.len());
+        self.rows.push(row)?;
+        Ok(())
+    }
+
+    /// A variable is basic no more. It stays in the list until that is made anew.
+    pub fn forget_variable(&mut self, variable: usize) {
+        put(&mut self.variable_places, variable, NOWHERE);
+    }
+
+    /// The same for a row.
+    pub fn forget_row(&mut self, row: usize) {
+        put(&mut self.row_places, row, NOWHERE);
+    }
+
+    /// One column leaves its side, and another enters.
+    pub fn change(&mut self, leaving: Column, entering: Column) -> Result<(), AllocError> {
+        match (leaving, entering) {
+            (Column::Slack(row), Column::Structural(variable)) => {
+                self.add_row(row)?;
+                self.add_variable(variable)
+            }
+            (Column::Slack(new), Column::Slack(old)) => {
+                replace(&mut self.rows, &mut self.row_places, old, new);
+                Ok(())
+            }
+            (Column::Structural(old), Column::Structural(new)) => {
+                replace(&mut self.variables, &mut self.variable_places, old, new);
+                Ok(())
+            }
+            (Column::Structural(variable), Column::Slack(row)) => {
+                take_out(&mut self.variables, &mut self.variable_places, variable);
+                take_out(&mut self.rows, &mut self.row_places, row);
+                Ok(())
+            }
+        }
+    }
+}
+
+fn replace(members: &mut [usize], places: &mut [usize], old: usize, new: usize) {
+    let place = at(places, old, NOWHERE);
+    put(members, place, new);
+    put(places, old, NOWHERE);
+    put(places, new, place);
+}
+
+/// Takes a member out of a list whose members know their places; the last one moves there.
+fn take_out(members: &mut Vec<usize>, places: &mut [usize], member: usize) {
+    let place = at(places, member, NOWHERE);
+    if place < members.len() {
+        let _member = members.swap_remove(place);
+        if place < members.len() {
+            put(places, members[place], place);
+        }
+    }
+    put(places, member, NOWHERE);
+}
