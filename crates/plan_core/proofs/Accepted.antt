@@ -24,8 +24,8 @@ pub record KeepsAll (n : Net) (w : Written) : Type 0 where
   pub most : KeepsEach n w (λ j k. QualityOver j k)
   pub least : KeepsEach n w (λ j k. QualityUnder j k)
 
-pub written_of-shape : (n : Net) (w : Written) → IsShaped n w → Keeps n w (λ l. WeightSum l) → IsWritten n w
-written_of-shape n w shaped sums = record {
+pub written-shape : (n : Net) (w : Written) → IsShaped n w → Keeps n w (λ l. WeightSum l) → IsWritten n w
+written-shape n w shaped sums = record {
   base = shaped.base;
   flow_base = shaped.flow_base;
   weights = shaped.weights;
@@ -54,7 +54,7 @@ blends n w kept = record {
 
 pub cost_is : (n : Net) (w : Written) (c : Cost) → KeepsAll n w → c.num ≡ cost_of n (plan_of n w) → c.base ≡ w.flow_base * w.base → IsCostOf n w c
 cost_is n w c kept num base = record {
-  written = written_of-shape n w kept.flows.shaped kept.flows.sums;
+  written = written-shape n w kept.flows.shaped kept.flows.sums;
   obeys = record { denominator = mul-le-mul kept.flows.shaped.flow_base.0 kept.flows.shaped.base.0; carries = carries n w kept.flows; blends = blends n w kept };
   num = num;
   base = base;

@@ -11,7 +11,7 @@ use Rattle.pool_model.proofs.Paths.{path_at-way}
 use Rattle.pool_model.proofs.StartOrder.{start_at-every, start_at-written, way-obeys, way-minima, way-cost}
 use Rattle.plan_core.specs.Checks.{IsCostOf}
 use Rattle.plan_core.specs.Cheapest.{better, is_cheaper, IsFirstLeast, IsFirstLeastAt}
-use Rattle.plan_core.specs.Shown.{way_of, IsInRange}
+use Rattle.plan_core.specs.Views.{shown_way, IsInRange}
 use Rattle.plan_core.specs.declared.cheapest.Choice.{Choice}
 use Rattle.plan_core.specs.declared.plan.Cost.{Cost}
 use Rattle.plan_core.specs.declared.plan.Way.{Way}
@@ -93,26 +93,26 @@ small-better small best count (Some c) kept new = either (is_cheaper best c)
 pub start-zero : (n : Net) (k : ℕ) → k ≡ 0 → start_at n k ≡ zero_plan n
 start-zero n k e = ap (start_at n) e
 
-pub start-way : (n : Net) (k : ℕ) (way : Way) → 0 < k → way_at n (k - 1) ≡ way_of n way → start_at n k ≡ simple_plan n (way_of n way)
+pub start-way : (n : Net) (k : ℕ) (way : Way) → 0 < k → way_at n (k - 1) ≡ shown_way n way → start_at n k ≡ simple_plan n (shown_way n way)
 start-way n k way positive is = ap (start_at n) (let e : k ≡ suc (k - 1) = omega arith in e) ∙ ap (simple_plan n) is
 
-pub in_range-way : (n : Net) (way : Way) → IsInRange n way → IsWay n (way_of n way)
+pub in_range-way : (n : Net) (way : Way) → IsInRange n way → IsWay n (shown_way n way)
 in_range-way n (Through a) lt = path_at-way n a _ _ lt refl refl
 in_range-way n (Direct e) lt = lt
 
 -- a way by what is read of it
-module _ (n : Net) (way : Way) (source product flow : ℕ) (limited : IsLimited n) (there : IsInRange n way) (from : source ≡ way_source n (way_of n way))
-    (to : product ≡ way_product n (way_of n way)) (carries : flow ≡ way_flow n (way_of n way)) where
-  pub read-obeys : MeetsMinima n product flow → Obeys n (plan_of n (simple_plan n (way_of n way)))
-  read-obeys meets = way-obeys n (way_of n way) limited (in_range-way n way there) (subst (MeetsMinima n (way_product n (way_of n way))) carries (subst (λ j. MeetsMinima n j flow) to meets))
+module _ (n : Net) (way : Way) (source product flow : ℕ) (limited : IsLimited n) (there : IsInRange n way) (from : source ≡ way_source n (shown_way n way))
+    (to : product ≡ way_product n (shown_way n way)) (carries : flow ≡ way_flow n (shown_way n way)) where
+  pub read-obeys : MeetsMinima n product flow → Obeys n (plan_of n (simple_plan n (shown_way n way)))
+  read-obeys meets = way-obeys n (shown_way n way) limited (in_range-way n way there) (subst (MeetsMinima n (way_product n (shown_way n way))) carries (subst (λ j. MeetsMinima n j flow) to meets))
 
-  pub read-minima : Obeys n (plan_of n (simple_plan n (way_of n way))) → MeetsMinima n product flow
+  pub read-minima : Obeys n (plan_of n (simple_plan n (shown_way n way))) → MeetsMinima n product flow
   read-minima obeys =
-      subst (λ j. MeetsMinima n j flow) (sym to) (subst (MeetsMinima n (way_product n (way_of n way))) (sym carries) (way-minima n (way_of n way) limited (in_range-way n way there) obeys))
+      subst (λ j. MeetsMinima n j flow) (sym to) (subst (MeetsMinima n (way_product n (shown_way n way))) (sym carries) (way-minima n (shown_way n way) limited (in_range-way n way there) obeys))
 
-  pub read-cost : (n.source_cost source -ℤ n.price product) *ℤ pos flow ≡ cost_of n (plan_of n (simple_plan n (way_of n way)))
-  read-cost = ap (λ i. (n.source_cost i -ℤ n.price product) *ℤ pos flow) from ∙ ap (λ j. (n.source_cost (way_source n (way_of n way)) -ℤ n.price j) *ℤ pos flow) to
-      ∙ ap (λ f. (n.source_cost (way_source n (way_of n way)) -ℤ n.price (way_product n (way_of n way))) *ℤ pos f) carries ∙ sym (way-cost n (way_of n way) limited (in_range-way n way there))
+  pub read-cost : (n.source_cost source -ℤ n.price product) *ℤ pos flow ≡ cost_of n (plan_of n (simple_plan n (shown_way n way)))
+  read-cost = ap (λ i. (n.source_cost i -ℤ n.price product) *ℤ pos flow) from ∙ ap (λ j. (n.source_cost (way_source n (shown_way n way)) -ℤ n.price j) *ℤ pos flow) to
+      ∙ ap (λ f. (n.source_cost (way_source n (shown_way n way)) -ℤ n.price (way_product n (shown_way n way))) *ℤ pos f) carries ∙ sym (way-cost n (shown_way n way) limited (in_range-way n way there))
 
 pub start-base : (n : Net) (k : ℕ) → (start_at n k).flow_base * (start_at n k).base ≡ 1
 start-base n zero = refl

@@ -2,14 +2,14 @@
 use Rattle.std.specs.Prelude.{◌≡◌, ℕ, ◌-◌, ◌<◌, Bool, true, if◌then◌else◌, Option, Some, None, ℤ, ◌≤ℤ◌, ◌<ℤ◌, int_lt}
 use Rattle.pool_model.specs.Network.{Net}
 use Rattle.pool_model.specs.Starting.{way_at}
-use Rattle.plan_core.specs.Shown.{way_of, IsInRange}
+use Rattle.plan_core.specs.Views.{shown_way, IsInRange}
 use Rattle.plan_core.specs.declared.cheapest.Choice.{Choice}
 use Rattle.plan_core.specs.declared.plan.Way.{Way}
 
 -- the way of the starting plan of this number: none for the zero plan, which is the first
 abbrev pub IsStartWay : Net → ℕ → Option Way → Type 0
 IsStartWay n number None = number ≡ 0
-IsStartWay n number (Some way) = IsInRange n way × (0 < number) × (way_at n (number - 1) ≡ way_of n way)
+IsStartWay n number (Some way) = IsInRange n way × (0 < number) × (way_at n (number - 1) ≡ shown_way n way)
 
 -- of the numbers below a count that have a property, this is the first of those that cost least
 pub record IsFirstLeastAt (P : ℕ → Type 0) (cost : ℕ → ℤ) (count : ℕ) (best : Choice) : Type 0 where

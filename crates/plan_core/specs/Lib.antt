@@ -1,4 +1,4 @@
-pub mod Shown
+pub mod Views
 pub mod Weights
 pub mod Checks
 pub mod Weighed

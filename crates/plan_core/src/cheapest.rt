@@ -5,7 +5,7 @@ ghost use Rattle.pool_model.specs.Network.{net_of, IsLimited};
 ghost use Rattle.pool_model.specs.Plan.{Obeys, Written, cost_of, plan_of};
 ghost use Rattle.pool_model.specs.Starting.{IsCheapestStart, IsStarting, MeetsMinima, StartObeys, simple_plan as simple_written, start_at, start_cost as start_cost_of, starts, way_flow as way_flow_of, way_product, way_source};
 ghost use Rattle.plan_core.specs.Checks.{IsCostOf};
-ghost use Rattle.plan_core.specs.Shown.{written_of, way_of, IsInRange};
+ghost use Rattle.plan_core.specs.Views.{shown_plan, shown_way, IsInRange};
 ghost use Rattle.plan_core.specs.Cheapest.{IsFirstLeast, IsStartWay, better as better_of, is_cheaper as is_cheaper_than};
 
 use crate::plan::{Cost, Way, WrittenPlan};
@@ -31,12 +31,11 @@ struct Choice {
 /// The cheapest starting plan that obeys, if one does. At a tie the zero plan goes first, then the paths in order, and then the
 /// directs in order.
 pub fn cheapest_start(alloc: Global, net: &Network) -> Result<Option<Start>, Memory>
-    ensures cost { IfOk result (λ o. IfSome o (λ s. IsCostOf (net_of net.now) (written_of s.plan) s.cost)) }
-    ensures cheapest { IfOk result (λ o. IfSome o (λ s. IsCheapestStart (net_of net.now) (written_of s.plan))) }
+    ensures cost { IfOk result (λ o. IfSome o (λ s. IsCostOf (net_of net.now) (shown_plan s.plan) s.cost)) }
+    ensures cheapest { IfOk result (λ o. IfSome o (λ s. IsCheapestStart (net_of net.now) (shown_plan s.plan))) }
     ensures size { IfOk result (λ o. IfSome o (λ s. unsigned_abs s.cost.num ≤ 2 * 10 ^ 24)) }
     ensures none { IfOk result (λ o. IfNone o ((w : Written) → IsStarting (net_of net.now) w → ¬ Obeys (net_of net.now) (plan_of (net_of net.now) w))) }
 {
-    let _counts = net.counts();
     match cheapest(net) {
         None => Ok(None),
         Some(best) => {
@@ -53,7 +52,7 @@ pub fn cheapest_start(alloc: Global, net: &Network) -> Result<Option<Start>, Mem
 /// The starting plan of a number.
 fn start_plan(alloc: Global, net: &Network, number: u32) -> Result<WrittenPlan, Memory>
     requires { number < starts (net_of net.now) }
-    ensures { IfOk result (λ w. written_of w ≡ start_at (net_of net.now) number) }
+    ensures { IfOk result (λ w. shown_plan w ≡ start_at (net_of net.now) number) }
 {
     match start_way(net, number) {
         None => zero_plan(alloc, net),
@@ -80,6 +79,7 @@ fn start_way(net: &Network, number: u32) -> Option<Way>
 fn cheapest(net: &Network) -> Option<Choice>
     ensures least { IsFirstLeast (StartObeys (net_of net.now)) (start_cost_of (net_of net.now)) (starts (net_of net.now)) result }
     ensures size { IfSome result (λ best. unsigned_abs best.cost ≤ 2 * 10 ^ 24) }
+    ensures limited { IsLimited (net_of net.now) }
 {
     let [_, _, _, _, _, _, directs] = net.counts();
     let starts = 1 + net.paths() + directs;
@@ -128,10 +128,10 @@ fn start_cost(net: &Network, number: u32) -> Option<i128>
 /// What the simple plan of a way costs, where it obeys.
 fn way_cost(net: &Network, way: Way) -> Option<i128>
     requires { IsInRange (net_of net.now) way }
-    ensures obeys { IfSome result (λ _. Obeys (net_of net.now) (plan_of (net_of net.now) (simple_written (net_of net.now) (way_of (net_of net.now) way)))) }
-    ensures cost { IfSome result (λ c. c ≡ cost_of (net_of net.now) (plan_of (net_of net.now) (simple_written (net_of net.now) (way_of (net_of net.now) way)))) }
+    ensures obeys { IfSome result (λ _. Obeys (net_of net.now) (plan_of (net_of net.now) (simple_written (net_of net.now) (shown_way (net_of net.now) way)))) }
+    ensures cost { IfSome result (λ c. c ≡ cost_of (net_of net.now) (plan_of (net_of net.now) (simple_written (net_of net.now) (shown_way (net_of net.now) way)))) }
     ensures size { IfSome result (λ c. unsigned_abs c ≤ 2 * 10 ^ 24) }
-    ensures breaks { IfNone result (¬ Obeys (net_of net.now) (plan_of (net_of net.now) (simple_written (net_of net.now) (way_of (net_of net.now) way)))) }
+    ensures breaks { IfNone result (¬ Obeys (net_of net.now) (plan_of (net_of net.now) (simple_written (net_of net.now) (shown_way (net_of net.now) way)))) }
 {
     let (source, product) = ends(net, way);
     let flow = way_flow(net, way);
@@ -145,20 +145,13 @@ fn way_cost(net: &Network, way: Way) -> Option<i128>
 /// The source and the product at the ends of a way.
 fn ends(net: &Network, way: Way) -> (u32, u32)
     requires { IsInRange (net_of net.now) way }
-    ensures source { result.0 ≡ way_source (net_of net.now) (way_of (net_of net.now) way) }
-    ensures product { result.1 ≡ way_product (net_of net.now) (way_of (net_of net.now) way) }
+    ensures source { result.0 ≡ way_source (net_of net.now) (shown_way (net_of net.now) way) }
+    ensures product { result.1 ≡ way_product (net_of net.now) (shown_way (net_of net.now) way) }
     ensures sources { result.0 < (net_of net.now).sources }
     ensures products { result.1 < (net_of net.now).products }
-    ensures limited { IsLimited (net_of net.now) }
 {
-    let _counts = net.counts();
     match way {
-        Way::Through(path) => {
-            let (feed, out) = net.path(path);
-            let (source, _) = net.feed(feed);
-            let (_, product) = net.out(out);
-            (source, product)
-        }
+        Way::Through(path) => net.path_ends(path),
         Way::Direct(direct) => net.direct(direct),
     }
 }
@@ -166,7 +159,7 @@ fn ends(net: &Network, way: Way) -> (u32, u32)
 /// How much a way alone carries, in millionths.
 fn way_flow(net: &Network, way: Way) -> u64
     requires { IsInRange (net_of net.now) way }
-    ensures flow { result ≡ way_flow_of (net_of net.now) (way_of (net_of net.now) way) }
+    ensures flow { result ≡ way_flow_of (net_of net.now) (shown_way (net_of net.now) way) }
     ensures size { result ≤ 10 ^ 12 }
 {
     match way {
@@ -177,7 +170,8 @@ fn way_flow(net: &Network, way: Way) -> u64
 
 /// Whether each product takes what it must, where so much flows into this one and nothing into the others.
 fn meets_minima(net: &Network, product: u32, flow: u64) -> bool
-    ensures { IsTrue result ↔ MeetsMinima (net_of net.now) product flow }
+    ensures meets { IsTrue result ↔ MeetsMinima (net_of net.now) product flow }
+    ensures limited { IsLimited (net_of net.now) }
 {
     let [_, _, products, _, _, _, _] = net.counts();
     for other in 0..products {
@@ -202,7 +196,6 @@ fn margin(net: &Network, source: u32, product: u32) -> i128
     ensures value { result ≡ (net_of net.now).source_cost source -ℤ (net_of net.now).price product }
     ensures size { unsigned_abs result ≤ 2 * 10 ^ 12 }
 {
-    let _counts = net.counts();
     i128::from(net.source_cost(source)) - i128::from(net.product_price(product))
 }
 

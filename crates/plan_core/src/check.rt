@@ -2,7 +2,7 @@
 
 ghost use Rattle.std.specs.Prelude.{◌≡◌, ℕ, ◌*◌, ◌<◌, ◌≤◌, ◌^◌, ◌↔◌, [], get_or, pos, unsigned_abs, IfOk, IfErr, IfSome, IsTrue};
 ghost use Rattle.pool_model.specs.Network.{net_of, IsLimited, IsWithin};
-ghost use Rattle.plan_core.specs.Shown.{written_of};
+ghost use Rattle.plan_core.specs.Views.{shown_plan};
 ghost use Rattle.plan_core.specs.Checks.{IsShaped, Breaks, Keeps, KeepsEach, IsFirstBroken, IsFirstQuality, IsFirstFault, IsCostOf};
 ghost use Rattle.plan_core.specs.Weighed.{ArePoolOutflows, AreSourceOutflows, AreProductInflows, HasRoom, IsAbove, IsBelow, IsFirstBelow};
 
@@ -23,8 +23,8 @@ const MAX_FLOW_BASE: u32 = 65_536;
 
 /// What the plan costs, or the first rule that it breaks. It goes over the arcs once for each quality, and takes no memory.
 pub fn check_plan(net: &Network, plan: &WrittenPlan) -> Result<Cost, PlanFault>
-    ensures ok { IfOk result (IsCostOf (net_of net.now) (written_of plan.now)) }
-    ensures fault { IfErr result (IsFirstFault (net_of net.now) (written_of plan.now)) }
+    ensures ok { IfOk result (IsCostOf (net_of net.now) (shown_plan plan.now)) }
+    ensures fault { IfErr result (IsFirstFault (net_of net.now) (shown_plan plan.now)) }
 {
     check_shape(net, plan)?;
     check_weight_sums(net, plan)?;
@@ -41,9 +41,9 @@ pub fn check_plan(net: &Network, plan: &WrittenPlan) -> Result<Cost, PlanFault>
 
 /// Shape, exactly where the plan's bases or lengths are wrong.
 fn check_shape(net: &Network, plan: &WrittenPlan) -> Result<(), PlanFault>
-    ensures shaped { IfOk result (λ _. IsShaped (net_of net.now) (written_of plan.now)) }
+    ensures shaped { IfOk result (λ _. IsShaped (net_of net.now) (shown_plan plan.now)) }
     ensures shape { IfErr result (λ f. f ≡ PlanFault.Shape) }
-    ensures unshaped { IfErr result (λ _. ¬ IsShaped (net_of net.now) (written_of plan.now)) }
+    ensures unshaped { IfErr result (λ _. ¬ IsShaped (net_of net.now) (shown_plan plan.now)) }
     ensures limited { IsLimited (net_of net.now) }
 {
     let [_, _, _, _, feeds, outs, directs] = net.counts();
@@ -66,9 +66,9 @@ fn is_base(base: u32, most: u32) -> bool
 
 /// WeightSum, exactly where a pool's weights don't sum to the base.
 fn check_weight_sums(net: &Network, plan: &WrittenPlan) -> Result<(), PlanFault>
-    requires { IsShaped (net_of net.now) (written_of plan.now) }
-    ensures keeps { IfOk result (λ _. Keeps (net_of net.now) (written_of plan.now) (λ l. PlanFault.WeightSum l)) }
-    ensures first { IfErr result (IsFirstBroken (net_of net.now) (written_of plan.now) (λ l. PlanFault.WeightSum l)) }
+    requires { IsShaped (net_of net.now) (shown_plan plan.now) }
+    ensures keeps { IfOk result (λ _. Keeps (net_of net.now) (shown_plan plan.now) (λ l. PlanFault.WeightSum l)) }
+    ensures first { IfErr result (IsFirstBroken (net_of net.now) (shown_plan plan.now) (λ l. PlanFault.WeightSum l)) }
 {
     let [_, pools, _, _, _, _, _] = net.counts();
     let sums = weight_sums(net, plan);
@@ -86,9 +86,9 @@ fn check_sources(
     plan: &WrittenPlan,
     outflows: &[u128; MAX_SOURCES],
 ) -> Result<(), PlanFault>
-    requires { AreSourceOutflows (net_of net.now) (written_of plan.now) outflows.now }
-    ensures keeps { IfOk result (λ _. Keeps (net_of net.now) (written_of plan.now) (λ i. PlanFault.SourceOver i)) }
-    ensures first { IfErr result (IsFirstBroken (net_of net.now) (written_of plan.now) (λ i. PlanFault.SourceOver i)) }
+    requires { AreSourceOutflows (net_of net.now) (shown_plan plan.now) outflows.now }
+    ensures keeps { IfOk result (λ _. Keeps (net_of net.now) (shown_plan plan.now) (λ i. PlanFault.SourceOver i)) }
+    ensures first { IfErr result (IsFirstBroken (net_of net.now) (shown_plan plan.now) (λ i. PlanFault.SourceOver i)) }
 {
     let [sources, _, _, _, _, _, _] = net.counts();
     let denominator = plan.denominator();
@@ -106,10 +106,10 @@ fn check_pools(
     plan: &WrittenPlan,
     through: &[u128; MAX_POOLS],
 ) -> Result<(), PlanFault>
-    requires shaped { IsShaped (net_of net.now) (written_of plan.now) }
-    requires through { ArePoolOutflows (net_of net.now) (written_of plan.now) through.now }
-    ensures keeps { IfOk result (λ _. Keeps (net_of net.now) (written_of plan.now) (λ l. PlanFault.PoolOver l)) }
-    ensures first { IfErr result (IsFirstBroken (net_of net.now) (written_of plan.now) (λ l. PlanFault.PoolOver l)) }
+    requires shaped { IsShaped (net_of net.now) (shown_plan plan.now) }
+    requires through { ArePoolOutflows (net_of net.now) (shown_plan plan.now) through.now }
+    ensures keeps { IfOk result (λ _. Keeps (net_of net.now) (shown_plan plan.now) (λ l. PlanFault.PoolOver l)) }
+    ensures first { IfErr result (IsFirstBroken (net_of net.now) (shown_plan plan.now) (λ l. PlanFault.PoolOver l)) }
 {
     let [_, pools, _, _, _, _, _] = net.counts();
     for pool in 0..pools {
@@ -126,9 +126,9 @@ fn check_maxima(
     plan: &WrittenPlan,
     inflows: &[u128; MAX_PRODUCTS],
 ) -> Result<(), PlanFault>
-    requires { AreProductInflows (net_of net.now) (written_of plan.now) inflows.now }
-    ensures keeps { IfOk result (λ _. Keeps (net_of net.now) (written_of plan.now) (λ j. PlanFault.ProductOver j)) }
-    ensures first { IfErr result (IsFirstBroken (net_of net.now) (written_of plan.now) (λ j. PlanFault.ProductOver j)) }
+    requires { AreProductInflows (net_of net.now) (shown_plan plan.now) inflows.now }
+    ensures keeps { IfOk result (λ _. Keeps (net_of net.now) (shown_plan plan.now) (λ j. PlanFault.ProductOver j)) }
+    ensures first { IfErr result (IsFirstBroken (net_of net.now) (shown_plan plan.now) (λ j. PlanFault.ProductOver j)) }
 {
     let [_, _, products, _, _, _, _] = net.counts();
     let denominator = plan.denominator();
@@ -146,9 +146,9 @@ fn check_minima(
     plan: &WrittenPlan,
     inflows: &[u128; MAX_PRODUCTS],
 ) -> Result<(), PlanFault>
-    requires { AreProductInflows (net_of net.now) (written_of plan.now) inflows.now }
-    ensures keeps { IfOk result (λ _. Keeps (net_of net.now) (written_of plan.now) (λ j. PlanFault.ProductUnder j)) }
-    ensures first { IfErr result (IsFirstBroken (net_of net.now) (written_of plan.now) (λ j. PlanFault.ProductUnder j)) }
+    requires { AreProductInflows (net_of net.now) (shown_plan plan.now) inflows.now }
+    ensures keeps { IfOk result (λ _. Keeps (net_of net.now) (shown_plan plan.now) (λ j. PlanFault.ProductUnder j)) }
+    ensures first { IfErr result (IsFirstBroken (net_of net.now) (shown_plan plan.now) (λ j. PlanFault.ProductUnder j)) }
 {
     let [_, _, products, _, _, _, _] = net.counts();
     let denominator = plan.denominator();
@@ -174,12 +174,12 @@ fn check_qualities(
     plan: &WrittenPlan,
     inflows: &[u128; MAX_PRODUCTS],
 ) -> Result<(), PlanFault>
-    requires shaped { IsShaped (net_of net.now) (written_of plan.now) }
-    requires inflows { AreProductInflows (net_of net.now) (written_of plan.now) inflows.now }
-    requires room { HasRoom (net_of net.now) (written_of plan.now) }
-    ensures keeps_most { IfOk result (λ _. KeepsEach (net_of net.now) (written_of plan.now) (λ j k. PlanFault.QualityOver j k)) }
-    ensures keeps_least { IfOk result (λ _. KeepsEach (net_of net.now) (written_of plan.now) (λ j k. PlanFault.QualityUnder j k)) }
-    ensures first { IfErr result (IsFirstQuality (net_of net.now) (written_of plan.now)) }
+    requires shaped { IsShaped (net_of net.now) (shown_plan plan.now) }
+    requires inflows { AreProductInflows (net_of net.now) (shown_plan plan.now) inflows.now }
+    requires room { HasRoom (net_of net.now) (shown_plan plan.now) }
+    ensures keeps_most { IfOk result (λ _. KeepsEach (net_of net.now) (shown_plan plan.now) (λ j k. PlanFault.QualityOver j k)) }
+    ensures keeps_least { IfOk result (λ _. KeepsEach (net_of net.now) (shown_plan plan.now) (λ j k. PlanFault.QualityUnder j k)) }
+    ensures first { IfErr result (IsFirstQuality (net_of net.now) (shown_plan plan.now)) }
 {
     let [_, _, products, _, _, _, _] = net.counts();
     let sums = qualities(net, plan);

@@ -5,7 +5,7 @@ ghost use Rattle.std.specs.Ordering.{int_cmp};
 ghost use Rattle.integers.specs.Sums.{int_sum_below, sum_below};
 ghost use Rattle.pool_model.specs.Network.{net_of};
 ghost use Rattle.pool_model.specs.Plan.{plan_of, cost_of};
-ghost use Rattle.plan_core.specs.Shown.{written_of};
+ghost use Rattle.plan_core.specs.Views.{shown_plan};
 ghost use Rattle.plan_core.specs.Weighed.{AreSourceOutflows, AreProductInflows, HasRoom};
 
 use crate::plan::{Cost, WrittenPlan};
@@ -31,10 +31,10 @@ pub(crate) fn cost(
     outflows: &[u128; MAX_SOURCES],
     inflows: &[u128; MAX_PRODUCTS],
 ) -> Cost
-    requires outflows { AreSourceOutflows (net_of net.now) (written_of plan.now) outflows.now }
-    requires inflows { AreProductInflows (net_of net.now) (written_of plan.now) inflows.now }
-    requires room { HasRoom (net_of net.now) (written_of plan.now) }
-    ensures num { result.num ≡ cost_of (net_of net.now) (plan_of (net_of net.now) (written_of plan.now)) }
+    requires outflows { AreSourceOutflows (net_of net.now) (shown_plan plan.now) outflows.now }
+    requires inflows { AreProductInflows (net_of net.now) (shown_plan plan.now) inflows.now }
+    requires room { HasRoom (net_of net.now) (shown_plan plan.now) }
+    ensures num { result.num ≡ cost_of (net_of net.now) (plan_of (net_of net.now) (shown_plan plan.now)) }
     ensures base { result.base ≡ plan.now.flow_base * plan.now.base }
 {
     Cost {

@@ -1,8 +1,8 @@
 //! The numbers of a written plan, and its flows over both bases.
 
 ghost use Rattle.std.specs.Prelude.{◌≡◌, ◌*◌, ◌<◌, ◌≤◌, ◌^◌, length};
-ghost use Rattle.pool_model.specs.Plan.{weight as weight_lem, written_out, written_direct};
-ghost use Rattle.plan_core.specs.Shown.{written_of};
+ghost use Rattle.pool_model.specs.Plan.{weight as weight_of, written_out, written_direct};
+ghost use Rattle.plan_core.specs.Views.{shown_plan};
 
 use crate::plan::WrittenPlan;
 
@@ -10,7 +10,7 @@ impl WrittenPlan {
     /// The weight of a feed in its pool.
     pub(crate) fn weight(&self, feed: u32) -> u32
         requires { feed < length self.now.weights.items }
-        ensures { result ≡ weight_lem (written_of self.now) feed }
+        ensures { result ≡ weight_of (shown_plan self.now) feed }
     {
         self.weights.as_slice()[feed as usize]
     }
@@ -18,7 +18,7 @@ impl WrittenPlan {
     /// What flows along an out, over the flow base.
     pub(crate) fn outflow(&self, out: u32) -> u64
         requires { out < length self.now.outflows.items }
-        ensures { result ≡ written_out (written_of self.now) out }
+        ensures { result ≡ written_out (shown_plan self.now) out }
     {
         self.outflows.as_slice()[out as usize]
     }
@@ -26,7 +26,7 @@ impl WrittenPlan {
     /// What flows along an out, over both bases.
     pub(crate) fn whole_outflow(&self, out: u32) -> u128
         requires { out < length self.now.outflows.items }
-        ensures flow { result ≡ self.now.base * written_out (written_of self.now) out }
+        ensures flow { result ≡ self.now.base * written_out (shown_plan self.now) out }
         ensures size { result ≤ 2 ^ 96 }
     {
         let flow = self.outflow(out);
@@ -36,7 +36,7 @@ impl WrittenPlan {
     /// What flows along a direct, over both bases.
     pub(crate) fn whole_direct(&self, direct: u32) -> u128
         requires { direct < length self.now.direct.items }
-        ensures flow { result ≡ self.now.base * written_direct (written_of self.now) direct }
+        ensures flow { result ≡ self.now.base * written_direct (shown_plan self.now) direct }
         ensures size { result ≤ 2 ^ 96 }
     {
         let flow = self.direct.as_slice()[direct as usize];
@@ -47,7 +47,7 @@ impl WrittenPlan {
     pub(crate) fn whole_feed(&self, feed: u32, outflow: u128) -> u128
         requires feed { feed < length self.now.weights.items }
         requires outflow { outflow ≤ 2 ^ 72 }
-        ensures flow { result ≡ weight_lem (written_of self.now) feed * outflow }
+        ensures flow { result ≡ weight_of (shown_plan self.now) feed * outflow }
         ensures size { result ≤ 2 ^ 104 }
     {
         parted(self.weight(feed), outflow)

@@ -2,7 +2,7 @@
 
 ghost use Rattle.std.specs.Prelude.{◌≡◌, ℕ, ◌*◌, ◌<◌, ◌≤◌, ◌^◌, get_or, pos, ◌*ℤ◌, unsigned_abs};
 ghost use Rattle.pool_model.specs.Network.{net_of};
-ghost use Rattle.plan_core.specs.Shown.{written_of};
+ghost use Rattle.plan_core.specs.Views.{shown_plan};
 ghost use Rattle.plan_core.specs.Checks.{IsShaped};
 ghost use Rattle.plan_core.specs.Weighed.{ArePoolQualities, AreProductQualities, AreQualities, HasRoom};
 
@@ -15,9 +15,9 @@ pub(crate) const MAX_QUALITIES: usize = 8;
 
 /// For each quality, and for it each product, how much of it reaches the product, over both bases.
 pub(crate) fn qualities(net: &Network, plan: &WrittenPlan) -> [[i128; MAX_PRODUCTS]; MAX_QUALITIES]
-    requires shaped { IsShaped (net_of net.now) (written_of plan.now) }
-    requires room { HasRoom (net_of net.now) (written_of plan.now) }
-    ensures { AreQualities (net_of net.now) (written_of plan.now) result }
+    requires shaped { IsShaped (net_of net.now) (shown_plan plan.now) }
+    requires room { HasRoom (net_of net.now) (shown_plan plan.now) }
+    ensures { AreQualities (net_of net.now) (shown_plan plan.now) result }
 {
     let [_, _, _, qualities, _, _, _] = net.counts();
     let mut columns = [[0; MAX_PRODUCTS]; MAX_QUALITIES];
@@ -30,9 +30,9 @@ pub(crate) fn qualities(net: &Network, plan: &WrittenPlan) -> [[i128; MAX_PRODUC
 /// How much of a quality reaches each product, over both bases.
 fn product_qualities(net: &Network, plan: &WrittenPlan, quality: u32) -> [i128; MAX_PRODUCTS]
     requires quality { quality < (net_of net.now).qualities }
-    requires shaped { IsShaped (net_of net.now) (written_of plan.now) }
-    requires room { HasRoom (net_of net.now) (written_of plan.now) }
-    ensures { AreProductQualities (net_of net.now) (written_of plan.now) quality result }
+    requires shaped { IsShaped (net_of net.now) (shown_plan plan.now) }
+    requires room { HasRoom (net_of net.now) (shown_plan plan.now) }
+    ensures { AreProductQualities (net_of net.now) (shown_plan plan.now) quality result }
 {
     let [_, _, _, _, _, outs, directs] = net.counts();
     let pools = pool_qualities(net, plan, quality);
@@ -54,8 +54,8 @@ fn product_qualities(net: &Network, plan: &WrittenPlan, quality: u32) -> [i128; 
 /// A quality of each pool by its feeds' weights, over the base.
 fn pool_qualities(net: &Network, plan: &WrittenPlan, quality: u32) -> [i128; MAX_POOLS]
     requires quality { quality < (net_of net.now).qualities }
-    requires shaped { IsShaped (net_of net.now) (written_of plan.now) }
-    ensures { ArePoolQualities (net_of net.now) (written_of plan.now) quality result }
+    requires shaped { IsShaped (net_of net.now) (shown_plan plan.now) }
+    ensures { ArePoolQualities (net_of net.now) (shown_plan plan.now) quality result }
 {
     let [_, _, _, _, feeds, _, _] = net.counts();
     let mut sums = [0; MAX_POOLS];

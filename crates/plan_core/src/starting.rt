@@ -4,8 +4,8 @@ ghost use Rattle.std.specs.Prelude.{◌≡◌, ℕ, ◌<◌, ◌≤◌, ◌==◌
 ghost use Rattle.pool_model.specs.Network.{net_of};
 ghost use Rattle.pool_model.specs.Paths.{paths_of, path_at};
 ghost use Rattle.integers.specs.Numbers.{tabulate};
-ghost use Rattle.pool_model.specs.Starting.{feeds_before, first_weight, zero_plan as zero_written, simple_plan as simple_written, through, straight, suits as suits_lem, is_above, is_below, all_below, direct_flow as direct_flow_lem, path_flow as path_flow_lem, alone as alone_lem};
-ghost use Rattle.plan_core.specs.Shown.{written_of, way_of, IsInRange};
+ghost use Rattle.pool_model.specs.Starting.{feeds_before, first_weight, zero_plan as zero_written, simple_plan as simple_written, through, straight, suits as suits_of, is_above, is_below, all_below, direct_flow as direct_flow_of, path_flow as path_flow_of, alone};
+ghost use Rattle.plan_core.specs.Views.{shown_plan, shown_way, IsInRange};
 ghost use Rattle.plan_core.specs.Weights.{weight_on};
 
 use crate::plan::{Way, WrittenPlan};
@@ -15,7 +15,7 @@ use std::alloc::Global;
 
 /// The zero plan: both bases are 1, each pool's weight stands on its first feed, and nothing flows.
 pub fn zero_plan(alloc: Global, net: &Network) -> Result<WrittenPlan, Memory>
-    ensures { IfOk result (λ w. written_of w ≡ zero_written (net_of net.now)) }
+    ensures { IfOk result (λ w. shown_plan w ≡ zero_written (net_of net.now)) }
 {
     let [_, _, _, _, feeds, outs, directs] = net.counts();
     Ok(WrittenPlan {
@@ -31,7 +31,7 @@ pub fn zero_plan(alloc: Global, net: &Network) -> Result<WrittenPlan, Memory>
 /// weight on the path's feed.
 pub fn simple_plan(alloc: Global, net: &Network, way: Way) -> Result<WrittenPlan, Memory>
     requires { IsInRange (net_of net.now) way }
-    ensures { IfOk result (λ w. written_of w ≡ simple_written (net_of net.now) (way_of (net_of net.now) way)) }
+    ensures { IfOk result (λ w. shown_plan w ≡ simple_written (net_of net.now) (shown_way (net_of net.now) way)) }
 {
     match way {
         Way::Through(path) => through_plan(alloc, net, path),
@@ -42,7 +42,7 @@ pub fn simple_plan(alloc: Global, net: &Network, way: Way) -> Result<WrittenPlan
 /// The simple plan of a path.
 fn through_plan(alloc: Global, net: &Network, path: u32) -> Result<WrittenPlan, Memory>
     requires { path < length (paths_of (net_of net.now)) }
-    ensures { IfOk result (λ w. written_of w ≡ simple_written (net_of net.now) (through (path_at (net_of net.now) path).feed (path_at (net_of net.now) path).out)) }
+    ensures { IfOk result (λ w. shown_plan w ≡ simple_written (net_of net.now) (through (path_at (net_of net.now) path).feed (path_at (net_of net.now) path).out)) }
 {
     let [_, _, _, _, feeds, outs, directs] = net.counts();
     let (feed, out) = net.path(path);
@@ -58,7 +58,7 @@ fn through_plan(alloc: Global, net: &Network, path: u32) -> Result<WrittenPlan, 
 /// The simple plan of a direct.
 fn direct_plan(alloc: Global, net: &Network, direct: u32) -> Result<WrittenPlan, Memory>
     requires { direct < (net_of net.now).directs }
-    ensures { IfOk result (λ w. written_of w ≡ simple_written (net_of net.now) (straight direct)) }
+    ensures { IfOk result (λ w. shown_plan w ≡ simple_written (net_of net.now) (straight direct)) }
 {
     let [_, _, _, _, feeds, outs, directs] = net.counts();
     Ok(WrittenPlan {
@@ -74,10 +74,9 @@ fn direct_plan(alloc: Global, net: &Network, direct: u32) -> Result<WrittenPlan,
 /// breaks a limit of the product.
 pub fn path_flow(net: &Network, path: u32) -> u64
     requires { path < length (paths_of (net_of net.now)) }
-    ensures flow { result ≡ path_flow_lem (net_of net.now) (path_at (net_of net.now) path).feed (path_at (net_of net.now) path).out }
+    ensures flow { result ≡ path_flow_of (net_of net.now) (path_at (net_of net.now) path).feed (path_at (net_of net.now) path).out }
     ensures size { result ≤ 10 ^ 12 }
 {
-    let _counts = net.counts();
     let (feed, out) = net.path(path);
     let (source, _) = net.feed(feed);
     let (pool, product) = net.out(out);
@@ -93,10 +92,9 @@ pub fn path_flow(net: &Network, path: u32) -> u64
 /// source breaks a limit of the product.
 pub fn direct_flow(net: &Network, direct: u32) -> u64
     requires { direct < (net_of net.now).directs }
-    ensures flow { result ≡ direct_flow_lem (net_of net.now) direct }
+    ensures flow { result ≡ direct_flow_of (net_of net.now) direct }
     ensures size { result ≤ 10 ^ 12 }
 {
-    let _counts = net.counts();
     let (source, product) = net.direct(direct);
     if suits(net, source, product) {
         net.source_max(source).min(net.product_max(product)) as u64
@@ -109,7 +107,7 @@ pub fn direct_flow(net: &Network, direct: u32) -> u64
 fn suits(net: &Network, source: u32, product: u32) -> bool
     requires source { source < (net_of net.now).sources }
     requires product { product < (net_of net.now).products }
-    ensures { result ≡ suits_lem (net_of net.now) source product }
+    ensures { result ≡ suits_of (net_of net.now) source product }
 {
     let [_, _, _, qualities, _, _, _] = net.counts();
     for quality in 0..qualities {
@@ -221,7 +219,7 @@ fn no_flows(alloc: Global, arcs: u32) -> Result<Vec<u64>, Memory>
 
 /// An amount on one of so many arcs, and nothing on the others.
 fn one_flow(alloc: Global, arcs: u32, at: u32, amount: u64) -> Result<Vec<u64>, Memory>
-    ensures { IfOk result (λ v. v.items ≡ tabulate (alone_lem at amount) arcs) }
+    ensures { IfOk result (λ v. v.items ≡ tabulate (alone at amount) arcs) }
 {
     let mut flows = Vec::new(alloc);
     for arc in 0..arcs {

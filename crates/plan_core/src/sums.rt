@@ -2,7 +2,7 @@
 
 ghost use Rattle.std.specs.Prelude.{◌≡◌, ℕ, ◌<◌, ◌≤◌, ◌^◌, get_or, pos, unsigned_abs};
 ghost use Rattle.pool_model.specs.Network.{net_of};
-ghost use Rattle.plan_core.specs.Shown.{written_of};
+ghost use Rattle.plan_core.specs.Views.{shown_plan};
 ghost use Rattle.plan_core.specs.Checks.{IsShaped};
 ghost use Rattle.plan_core.specs.Weighed.{AreWeightSums, ArePoolOutflows, AreSourceOutflows, AreProductInflows};
 
@@ -20,8 +20,8 @@ pub(crate) const MAX_PRODUCTS: usize = 64;
 
 /// For each pool the sum of its feeds' weights.
 pub(crate) fn weight_sums(net: &Network, plan: &WrittenPlan) -> [u64; MAX_POOLS]
-    requires { IsShaped (net_of net.now) (written_of plan.now) }
-    ensures { AreWeightSums (net_of net.now) (written_of plan.now) result }
+    requires { IsShaped (net_of net.now) (shown_plan plan.now) }
+    ensures { AreWeightSums (net_of net.now) (shown_plan plan.now) result }
 {
     let [_, _, _, _, feeds, _, _] = net.counts();
     let mut sums = [0; MAX_POOLS];
@@ -34,8 +34,8 @@ pub(crate) fn weight_sums(net: &Network, plan: &WrittenPlan) -> [u64; MAX_POOLS]
 
 /// What each pool sends out, over the flow base.
 pub(crate) fn pool_outflows(net: &Network, plan: &WrittenPlan) -> [u128; MAX_POOLS]
-    requires { IsShaped (net_of net.now) (written_of plan.now) }
-    ensures flows { ArePoolOutflows (net_of net.now) (written_of plan.now) result }
+    requires { IsShaped (net_of net.now) (shown_plan plan.now) }
+    ensures flows { ArePoolOutflows (net_of net.now) (shown_plan plan.now) result }
     ensures size { (l : ℕ) → get_or result l 0 ≤ 2 ^ 72 }
 {
     let [_, _, _, _, _, outs, _] = net.counts();
@@ -53,10 +53,10 @@ pub(crate) fn source_outflows(
     plan: &WrittenPlan,
     pools: &[u128; MAX_POOLS],
 ) -> [u128; MAX_SOURCES]
-    requires shaped { IsShaped (net_of net.now) (written_of plan.now) }
-    requires pools { ArePoolOutflows (net_of net.now) (written_of plan.now) pools.now }
+    requires shaped { IsShaped (net_of net.now) (shown_plan plan.now) }
+    requires pools { ArePoolOutflows (net_of net.now) (shown_plan plan.now) pools.now }
     requires size { (l : ℕ) → get_or pools.now l 0 ≤ 2 ^ 72 }
-    ensures { AreSourceOutflows (net_of net.now) (written_of plan.now) result }
+    ensures { AreSourceOutflows (net_of net.now) (shown_plan plan.now) result }
 {
     let [_, _, _, _, feeds, _, directs] = net.counts();
     let mut flows = [0; MAX_SOURCES];
@@ -73,8 +73,8 @@ pub(crate) fn source_outflows(
 
 /// What flows into each product, over both bases.
 pub(crate) fn product_inflows(net: &Network, plan: &WrittenPlan) -> [u128; MAX_PRODUCTS]
-    requires { IsShaped (net_of net.now) (written_of plan.now) }
-    ensures { AreProductInflows (net_of net.now) (written_of plan.now) result }
+    requires { IsShaped (net_of net.now) (shown_plan plan.now) }
+    ensures { AreProductInflows (net_of net.now) (shown_plan plan.now) result }
 {
     let [_, _, _, _, _, outs, directs] = net.counts();
     let mut flows = [0; MAX_PRODUCTS];

@@ -9,7 +9,7 @@ use Rattle.plan_core.proofs.cheapest.start_cost.Goals as goal
 pub returns-in-None-clause-obeys : goal.returns-in-None-clause-obeys
 returns-in-None-clause-obeys c =
     let n = net_of c.args.net.now in
-    subst (λ w. Obeys n (plan_of n w)) (sym (start-zero n c.args.number c.in-None.ensures)) (zero-obeys n (meets-none n 0 (c.if-meets_minima.ensures.0 refl)))
+    subst (λ w. Obeys n (plan_of n w)) (sym (start-zero n c.args.number c.in-None.ensures)) (zero-obeys n (meets-none n 0 (c.if-meets_minima.ensures.meets.0 refl)))
 
 pub returns-in-None-clause-cost : goal.returns-in-None-clause-cost
 returns-in-None-clause-cost c =
@@ -19,4 +19,4 @@ returns-in-None-clause-cost c =
 pub returns-in-None-2-clause-breaks : goal.returns-in-None-2-clause-breaks
 returns-in-None-2-clause-breaks c obeys =
     let n = net_of c.args.net.now in
-    cc (c.if-meets_minima.ensures.1 (meets-nothing n 0 (zero-minima n (subst (λ w. Obeys n (plan_of n w)) (start-zero n c.args.number c.in-None.ensures) obeys))))
+    cc (c.if-meets_minima.ensures.meets.1 (meets-nothing n 0 (zero-minima n (subst (λ w. Obeys n (plan_of n w)) (start-zero n c.args.number c.in-None.ensures) obeys))))

@@ -1,7 +1,7 @@
 use Rattle.std.proofs.Common.{ℕ, ◌<◌, List, get_or, refl, subst, rules, FitsSigned, below_more}
 use mir.Syntax.{w64}
 use Rattle.pool_model.specs.Network.{net_of}
-use Rattle.plan_core.specs.Shown.{written_of}
+use Rattle.plan_core.specs.Views.{shown_plan}
 use Rattle.plan_core.proofs.Rooms.{room_is, pool_over, pool_within}
 use Rattle.plan_core.proofs.check.check_pools.Goals as goal
 
@@ -15,7 +15,7 @@ returns-then-room-through-clause-first c =
     record {
       at = l;
       is = refl;
-      has = (among, pool_over n (written_of c.args.plan.now) l c.room.result (get_or c.args.through.now l 0) room (c.requires.through l among) c.requires.shaped.base.0 c.if-room-through.true);
+      has = (among, pool_over n (shown_plan c.args.plan.now) l c.room.result (get_or c.args.through.now l 0) room (c.requires.through l among) c.requires.shaped.base.0 c.if-room-through.true);
       first = c.loop-pool.invariant;
     }
 
@@ -27,4 +27,4 @@ loop-pool-preserved c =
     let fits : FitsSigned w64 c.pool_max.result = search rules in
     let room = room_is c.room.result c.from.result c.args.plan.now.flow_base (n.pool_max l) c.pool_max.result c.room.ensures c.from.ensures c.pool_max.ensures fits in
     below_more _ _ c.loop-pool.invariant
-    (λ broken. pool_within n (written_of c.args.plan.now) l c.room.result (get_or c.args.through.now l 0) room (c.requires.through l among) c.if-room-through.false broken.1)
+    (λ broken. pool_within n (shown_plan c.args.plan.now) l c.room.result (get_or c.args.through.now l 0) room (c.requires.through l among) c.if-room-through.false broken.1)

@@ -20,7 +20,7 @@ weighted-total-requires-clause-size c =
     let i = c.loop-source.source in
     let among : i < n.sources = subst (λ (xs : List ℕ). i < get_or xs 0 0) c.counts.ensures.counts c.loop-source-test.true in
     let narrow : FitsSigned w64 c.source_cost.result = search rules in
-    priced_size c.from.result (n.source_cost i) (get_or c.args.outflows.now i 0) (widened c.source_cost.result c.from.result (n.source_cost i) narrow c.from.ensures c.source_cost.ensures)
+    priced_size c.from.result (n.source_cost i) (get_or c.args.outflows.now i 0) (widened c.source_cost.result c.from.result (n.source_cost i) narrow c.from.ensures c.source_cost.ensures.value)
     (c.counts.ensures.limited.source_costs i among) (omega (arith, term-le-sum_below (λ i. get_or c.args.outflows.now i 0) n.sources i among, c.requires))
 
 pub overflow_add-total : goal.overflow_add-total
@@ -31,7 +31,7 @@ overflow_add-total c =
     let among : i < n.sources = subst (λ (xs : List ℕ). i < get_or xs 0 0) c.counts.ensures.counts c.loop-source-test.true in
     let within = c.counts.ensures.limited.source_costs i among in
     let narrow : FitsSigned w64 c.source_cost.result = search rules in
-    let part = priced_is c.from.result (n.source_cost i) c.weighted-total.result (flow i) (widened c.source_cost.result c.from.result (n.source_cost i) narrow c.from.ensures c.source_cost.ensures) within c.weighted-total.ensures.value in
+    let part = priced_is c.from.result (n.source_cost i) c.weighted-total.result (flow i) (widened c.source_cost.result c.from.result (n.source_cost i) narrow c.from.ensures c.source_cost.ensures.value) within c.weighted-total.ensures.value in
     total_fits flow i n.sources (to_z w128 c.loop-source.total-bits) (to_z w128 c.loop-source.total-bits) c.weighted-total.result (n.source_cost i) among c.requires c.loop-source.invariant.size refl part within
 
 pub loop-source-preserved : goal.loop-source-preserved
@@ -42,7 +42,7 @@ loop-source-preserved c =
     let among : i < n.sources = subst (λ (xs : List ℕ). i < get_or xs 0 0) c.counts.ensures.counts c.loop-source-test.true in
     let within = c.counts.ensures.limited.source_costs i among in
     let narrow : FitsSigned w64 c.source_cost.result = search rules in
-    let part = priced_is c.from.result (n.source_cost i) c.weighted-total.result (flow i) (widened c.source_cost.result c.from.result (n.source_cost i) narrow c.from.ensures c.source_cost.ensures) within c.weighted-total.ensures.value in
+    let part = priced_is c.from.result (n.source_cost i) c.weighted-total.result (flow i) (widened c.source_cost.result c.from.result (n.source_cost i) narrow c.from.ensures c.source_cost.ensures.value) within c.weighted-total.ensures.value in
     let more = total_more n.source_cost flow i n.sources (to_z w128 c.loop-source.total-bits) (to_z w128 c.loop-source.total-bits) c.weighted-total.result among c.requires c.loop-source.invariant.sum c.loop-source.invariant.size refl part within in
     record { sum = more.sum; size = more.size }
 

@@ -20,7 +20,7 @@ weighted-total-requires-clause-size c =
     let i = c.loop-product.product in
     let among : i < n.products = subst (λ (xs : List ℕ). i < get_or xs 2 0) c.counts.ensures.counts c.loop-product-test.true in
     let narrow : FitsSigned w64 c.product_price.result = search rules in
-    priced_size c.from.result (n.price i) (get_or c.args.inflows.now i 0) (widened c.product_price.result c.from.result (n.price i) narrow c.from.ensures c.product_price.ensures)
+    priced_size c.from.result (n.price i) (get_or c.args.inflows.now i 0) (widened c.product_price.result c.from.result (n.price i) narrow c.from.ensures c.product_price.ensures.value)
     (c.counts.ensures.limited.prices i among) (omega (arith, term-le-sum_below (λ i. get_or c.args.inflows.now i 0) n.products i among, c.requires))
 
 pub overflow_add-total : goal.overflow_add-total
@@ -31,7 +31,7 @@ overflow_add-total c =
     let among : i < n.products = subst (λ (xs : List ℕ). i < get_or xs 2 0) c.counts.ensures.counts c.loop-product-test.true in
     let within = c.counts.ensures.limited.prices i among in
     let narrow : FitsSigned w64 c.product_price.result = search rules in
-    let part = priced_is c.from.result (n.price i) c.weighted-total.result (flow i) (widened c.product_price.result c.from.result (n.price i) narrow c.from.ensures c.product_price.ensures) within c.weighted-total.ensures.value in
+    let part = priced_is c.from.result (n.price i) c.weighted-total.result (flow i) (widened c.product_price.result c.from.result (n.price i) narrow c.from.ensures c.product_price.ensures.value) within c.weighted-total.ensures.value in
     total_fits flow i n.products (to_z w128 c.loop-product.total-bits) (to_z w128 c.loop-product.total-bits) c.weighted-total.result (n.price i) among c.requires c.loop-product.invariant.size refl part within
 
 pub loop-product-preserved : goal.loop-product-preserved
@@ -42,7 +42,7 @@ loop-product-preserved c =
     let among : i < n.products = subst (λ (xs : List ℕ). i < get_or xs 2 0) c.counts.ensures.counts c.loop-product-test.true in
     let within = c.counts.ensures.limited.prices i among in
     let narrow : FitsSigned w64 c.product_price.result = search rules in
-    let part = priced_is c.from.result (n.price i) c.weighted-total.result (flow i) (widened c.product_price.result c.from.result (n.price i) narrow c.from.ensures c.product_price.ensures) within c.weighted-total.ensures.value in
+    let part = priced_is c.from.result (n.price i) c.weighted-total.result (flow i) (widened c.product_price.result c.from.result (n.price i) narrow c.from.ensures c.product_price.ensures.value) within c.weighted-total.ensures.value in
     let more = total_more n.price flow i n.products (to_z w128 c.loop-product.total-bits) (to_z w128 c.loop-product.total-bits) c.weighted-total.result among c.requires c.loop-product.invariant.sum c.loop-product.invariant.size refl part within in
     record { sum = more.sum; size = more.size }
 

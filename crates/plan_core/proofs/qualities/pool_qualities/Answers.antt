@@ -3,13 +3,13 @@ use Rattle.std.proofs.lemmas.Int.{to_z-of_z}
 use mir.Syntax.{w64, w128}
 use Rattle.pool_model.specs.Network.{net_of}
 use Rattle.pool_model.specs.Plan.{weight}
-use Rattle.plan_core.specs.Shown.{written_of}
+use Rattle.plan_core.specs.Views.{shown_plan}
 use Rattle.plan_core.proofs.Tables.{int_added_first, int_added_size, wide_sum, wide_fits}
 use Rattle.plan_core.proofs.Terms.{IsFeedPart, feed_part}
 use Rattle.plan_core.proofs.qualities.pool_qualities.Goals as goal
 
 -- what the feed of this iteration brings
-this_feed : (c : goal.After-sums-1) → IsFeedPart (net_of c.args.net.now) (written_of c.args.plan.now) c.args.quality c.loop-feed.feed c.weighted.result
+this_feed : (c : goal.After-sums-1) → IsFeedPart (net_of c.args.net.now) (shown_plan c.args.plan.now) c.args.quality c.loop-feed.feed c.weighted.result
 this_feed c =
     let n = net_of c.args.net.now in
     let arc = c.loop-feed.feed in
@@ -17,7 +17,7 @@ this_feed c =
     let wide : FitsSigned w128 c.from.result = search rules in
     let narrow : FitsSigned w64 c.source_quality.result = search rules in
     let quality = c.from.ensures ∙ to_z-of_z w64 c.source_quality.result narrow ∙ c.source_quality.ensures ∙ ap (λ i. n.source_quality i c.args.quality) c.feed-source.ensures.source in
-    feed_part n (written_of c.args.plan.now) c.args.quality arc c.from-in-loop-feed.result c.from.result c.weighted.result c.counts.ensures.limited among c.requires.quality quality
+    feed_part n (shown_plan c.args.plan.now) c.args.quality arc c.from-in-loop-feed.result c.from.result c.weighted.result c.counts.ensures.limited among c.requires.quality quality
     (c.from-in-loop-feed.ensures ∙ c.weight.ensures) (omega (arith, c.weight.ensures, c.weight.type_inv)) c.weighted.ensures.value
 
 pub overflow_add-sums : goal.overflow_add-sums
@@ -31,7 +31,7 @@ overflow_add-sums c =
 pub loop-feed-preserved : goal.loop-feed-preserved
 loop-feed-preserved c =
     let n = net_of c.args.net.now in
-    let w = written_of c.args.plan.now in
+    let w = shown_plan c.args.plan.now in
     let arc = c.loop-feed.feed in
     let at = c.feed-source.result.1 in
     let table = c.loop-feed.sums in

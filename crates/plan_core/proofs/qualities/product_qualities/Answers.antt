@@ -3,7 +3,7 @@ use mir.Syntax.{w64}
 use Rattle.integers.specs.Sums.{int_sum_at}
 use Rattle.pool_model.specs.Network.{net_of}
 use Rattle.pool_model.specs.Plan.{written_out, plan_of}
-use Rattle.plan_core.specs.Shown.{written_of}
+use Rattle.plan_core.specs.Views.{shown_plan}
 use Rattle.plan_core.specs.Weighed.{weighed}
 use Rattle.plan_core.proofs.Tables.{int_nothing, int_added, int_added_first, int_added_size, wide_sum, wide_fits}
 use Rattle.plan_core.proofs.Terms.{IsOutPart, out_part, IsDirectPart, direct_part, direct_size, quality_is}
@@ -13,23 +13,23 @@ pub loop-out-init : goal.loop-out-init
 loop-out-init c = record { long = refl; exact = λ i lt. int_nothing 64 i; size = λ i. omega (arith, ap unsigned_abs (int_nothing 64 i)) }
 
 -- what the out of this iteration brings
-this_out : (c : goal.After-sums-1) → IsOutPart (net_of c.args.net.now) (written_of c.args.plan.now) c.args.quality c.loop-out.out c.weighted.result
+this_out : (c : goal.After-sums-1) → IsOutPart (net_of c.args.net.now) (shown_plan c.args.plan.now) c.args.quality c.loop-out.out c.weighted.result
 this_out c =
     let n = net_of c.args.net.now in
     let limited = c.counts.ensures.limited in
     let among : c.loop-out.out < n.outs = subst (λ (xs : List ℕ). c.loop-out.out < get_or xs 5 0) c.counts.ensures.counts c.loop-out-test.true in
     let in_pools = limited.out_pools c.loop-out.out among in
-    out_part n (written_of c.args.plan.now) c.args.quality c.loop-out.out c.out-pool.result.0 c.outflow.result c.from.result _ c.weighted.result c.requires.room among in_pools c.requires.quality
+    out_part n (shown_plan c.args.plan.now) c.args.quality c.loop-out.out c.out-pool.result.0 c.outflow.result c.from.result _ c.weighted.result c.requires.room among in_pools c.requires.quality
     c.out-pool.ensures.pool (c.pool_qualities-pools.ensures c.out-pool.result.0 (omega (arith, c.out-pool.ensures.pool, in_pools))) c.weighted.ensures.value c.from.ensures c.outflow.ensures
 
 -- and the direct of this one
-this_direct : (c : goal.After-sums-in-loop-direct-1) → IsDirectPart (net_of c.args.net.now) (written_of c.args.plan.now) c.args.quality c.loop-direct.direct c.weighted-in-loop-direct.result
+this_direct : (c : goal.After-sums-in-loop-direct-1) → IsDirectPart (net_of c.args.net.now) (shown_plan c.args.plan.now) c.args.quality c.loop-direct.direct c.weighted-in-loop-direct.result
 this_direct c =
     let n = net_of c.args.net.now in
     let limited = c.counts.ensures.limited in
     let among : c.loop-direct.direct < n.directs = subst (λ (xs : List ℕ). c.loop-direct.direct < get_or xs 6 0) c.counts.ensures.counts c.loop-direct-test.true in
     let narrow : FitsSigned w64 c.source_quality.result = search rules in
-    direct_part n (written_of c.args.plan.now) c.args.quality c.loop-direct.direct c.whole_direct.result c.from-in-loop-direct.result c.weighted-in-loop-direct.result limited c.requires.room among
+    direct_part n (shown_plan c.args.plan.now) c.args.quality c.loop-direct.direct c.whole_direct.result c.from-in-loop-direct.result c.weighted-in-loop-direct.result limited c.requires.room among
     c.requires.quality
     (quality_is n c.args.quality c.loop-direct.direct c.direct-source.result.0 c.source_quality.result c.from-in-loop-direct.result narrow c.direct-source.ensures.source c.source_quality.ensures c.from-in-loop-direct.ensures)
     c.whole_direct.ensures.flow c.weighted-in-loop-direct.ensures.value
@@ -45,7 +45,7 @@ overflow_add-sums c =
 pub loop-out-preserved : goal.loop-out-preserved
 loop-out-preserved c =
     let n = net_of c.args.net.now in
-    let w = written_of c.args.plan.now in
+    let w = shown_plan c.args.plan.now in
     let arc = c.loop-out.out in
     let at = c.out-pool.result.1 in
     let table = c.loop-out.sums in
@@ -68,7 +68,7 @@ weighted-requires-in-loop-direct-clause-size c =
     let narrow : FitsSigned w64 c.source_quality.result = search rules in
     omega (
       arith,
-      direct_size n (written_of c.args.plan.now) c.args.quality c.loop-direct.direct c.whole_direct.result c.from-in-loop-direct.result c.counts.ensures.limited c.requires.room among c.requires.quality
+      direct_size n (shown_plan c.args.plan.now) c.args.quality c.loop-direct.direct c.whole_direct.result c.from-in-loop-direct.result c.counts.ensures.limited c.requires.room among c.requires.quality
           (quality_is n c.args.quality c.loop-direct.direct c.direct-source.result.0 c.source_quality.result c.from-in-loop-direct.result narrow c.direct-source.ensures.source c.source_quality.ensures c.from-in-loop-direct.ensures)
           c.whole_direct.ensures.flow,
     )
@@ -84,7 +84,7 @@ overflow_add-sums-in-loop-direct c =
 pub loop-direct-preserved : goal.loop-direct-preserved
 loop-direct-preserved c =
     let n = net_of c.args.net.now in
-    let w = written_of c.args.plan.now in
+    let w = shown_plan c.args.plan.now in
     let arc = c.loop-direct.direct in
     let at = c.direct-source.result.1 in
     let table = c.loop-direct.sums in
@@ -104,7 +104,7 @@ loop-direct-preserved c =
 pub returns : goal.returns
 returns c =
     let n = net_of c.args.net.now in
-    let w = written_of c.args.plan.now in
+    let w = shown_plan c.args.plan.now in
     let all : c.loop-direct.direct ≡ n.directs =
     omega (arith, c.loop-direct.auto.direct-end, subst (λ (xs : List ℕ). get_or xs 6 0 ≤ c.loop-direct.direct) c.counts.ensures.counts c.loop-direct-test.false, subst (λ (xs : List ℕ). c.loop-direct.direct ≤ get_or xs 6 0) c.counts.ensures.counts c.loop-direct.auto.direct-end) in
     rw all at c.loop-direct.invariant.exact

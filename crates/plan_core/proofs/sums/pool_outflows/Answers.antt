@@ -1,14 +1,14 @@
 use Rattle.std.proofs.Common.{◌≡◌, ℕ, List, ◌<◌, ◌^◌, ◌+◌, get_or, length, arith, ap, ◌∙◌, length-set, subst}
 use Rattle.pool_model.specs.Network.{net_of}
 use Rattle.pool_model.specs.Plan.{written_out}
-use Rattle.plan_core.specs.Shown.{written_of}
+use Rattle.plan_core.specs.Views.{shown_plan}
 use Rattle.plan_core.proofs.Tables.{added_first, added_size}
 use Rattle.plan_core.proofs.sums.pool_outflows.Goals as goal
 
 pub loop-out-preserved : goal.loop-out-preserved
 loop-out-preserved c =
     let n = net_of c.args.net.now in
-    let w = written_of c.args.plan.now in
+    let w = shown_plan c.args.plan.now in
     let out = c.loop-out.out in
     let at = c.out-pool.result.0 in
     let flows = c.loop-out.flows in

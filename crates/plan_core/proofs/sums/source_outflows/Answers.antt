@@ -2,7 +2,7 @@ use Rattle.std.proofs.Common.{◌≡◌, ℕ, List, ◌<◌, ◌^◌, ◌+◌, �
 use Rattle.integers.specs.Sums.{sum_at}
 use Rattle.pool_model.specs.Network.{net_of}
 use Rattle.pool_model.specs.Plan.{weight, written_outflow, plan_of}
-use Rattle.plan_core.specs.Shown.{written_of}
+use Rattle.plan_core.specs.Views.{shown_plan}
 use Rattle.plan_core.proofs.Tables.{nothing, added, added_first, added_size}
 use Rattle.plan_core.proofs.sums.source_outflows.Goals as goal
 
@@ -12,7 +12,7 @@ loop-feed-init c = record { long = refl; exact = λ i lt. nothing 64 i; size = �
 pub loop-feed-preserved : goal.loop-feed-preserved
 loop-feed-preserved c =
     let n = net_of c.args.net.now in
-    let w = written_of c.args.plan.now in
+    let w = shown_plan c.args.plan.now in
     let arc = c.loop-feed.feed in
     let at = c.feed-source.result.0 in
     let table = c.loop-feed.flows in
@@ -30,7 +30,7 @@ loop-feed-preserved c =
 pub loop-direct-preserved : goal.loop-direct-preserved
 loop-direct-preserved c =
     let n = net_of c.args.net.now in
-    let w = written_of c.args.plan.now in
+    let w = shown_plan c.args.plan.now in
     let arc = c.loop-direct.direct in
     let at = c.direct-source.result.0 in
     let table = c.loop-direct.flows in

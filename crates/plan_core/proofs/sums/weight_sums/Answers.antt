@@ -1,14 +1,14 @@
 use Rattle.std.proofs.Common.{◌≡◌, ℕ, List, ◌<◌, ◌^◌, ◌+◌, ◌*◌, get_or, length, arith, ap, ◌∙◌, length-set, subst}
 use Rattle.pool_model.specs.Network.{net_of}
 use Rattle.pool_model.specs.Plan.{weight}
-use Rattle.plan_core.specs.Shown.{written_of}
+use Rattle.plan_core.specs.Views.{shown_plan}
 use Rattle.plan_core.proofs.Tables.{added_first, added_size}
 use Rattle.plan_core.proofs.sums.weight_sums.Goals as goal
 
 pub loop-feed-preserved : goal.loop-feed-preserved
 loop-feed-preserved c =
     let n = net_of c.args.net.now in
-    let w = written_of c.args.plan.now in
+    let w = shown_plan c.args.plan.now in
     let arc = c.loop-feed.feed in
     let at = c.feed-pool.result.1 in
     let table = c.loop-feed.sums in

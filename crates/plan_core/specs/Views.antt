@@ -8,8 +8,8 @@ use Rattle.plan_core.specs.declared.plan.WrittenPlan.{WrittenPlan}
 use Rattle.plan_core.specs.declared.plan.Way.{Way}
 use Rattle.plan_core.specs.declared.plan.Way.TheVariants.{Through, Direct}
 
-abbrev pub written_of : WrittenPlan → Written
-written_of w = record { base = w.base; flow_base = w.flow_base; weights = w.weights.items; outflows = w.outflows.items; direct = w.direct.items }
+abbrev pub shown_plan : WrittenPlan → Written
+shown_plan w = record { base = w.base; flow_base = w.flow_base; weights = w.weights.items; outflows = w.outflows.items; direct = w.direct.items }
 
 -- the network has a path or a direct of this number
 abbrev pub IsInRange : Net → Way → Type 0
@@ -17,6 +17,6 @@ IsInRange n (Through a) = a < length (paths_of n)
 IsInRange n (Direct e) = e < n.directs
 
 -- a path is its feed and its out
-abbrev pub way_of : Net → Way → model.Way
-way_of n (Through a) = model.through (path_at n a).feed (path_at n a).out
-way_of n (Direct e) = model.straight e
+abbrev pub shown_way : Net → Way → model.Way
+shown_way n (Through a) = model.through (path_at n a).feed (path_at n a).out
+shown_way n (Direct e) = model.straight e
