@@ -46,17 +46,17 @@ impl Kernel {
         })
     }
 
-    /// Takes new factors and the places that belong to them, with no border.
+    /// Takes new factors, with the rows and variables of their pivots, and no border.
     pub fn restart(
         &mut self,
         alloc: Global,
         factored: Factored,
-        places: Places,
+        rows: &[usize],
+        variables: &[usize],
     ) -> Result<(), AllocError> {
         self.border = Border::new(alloc, factored.rows.len())?;
         self.factors = factored.factors;
-        self.places = places;
-        Ok(())
+        self.places.restart(alloc, rows, variables)
     }
 
     pub(crate) fn base_size(&self) -> usize {

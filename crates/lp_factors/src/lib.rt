@@ -27,5 +27,5 @@ pub use changes::{Change, Column, Outcome};
 pub use elimination::{Factored, factor};
 pub use kernel::Kernel;
 pub use marks::Marks;
-pub use places::{Places, numbers_of};
+pub use places::numbers_of;
 pub use sparse::{Entry, NO_ENTRY, Sparse, dot, number_of};

@@ -8,13 +8,13 @@ use std::alloc::{AllocError, Global};
 /// Base places are numbered by pivots, and those of the border come after them.
 #[derive(Drop)]
 pub struct Places {
-    pub(crate) rows: Vec<usize>,
-    pub(crate) variables: Vec<usize>,
+    pub rows: Vec<usize>,
+    pub variables: Vec<usize>,
     /// The place of each row that is active, and of each variable that is basic, or `NOWHERE`.
-    pub(crate) of_rows: Vec<usize>,
-    pub(crate) of_variables: Vec<usize>,
+    pub of_rows: Vec<usize>,
+    pub of_variables: Vec<usize>,
     /// The place in the base of each variable that is there, basic or not any more.
-    pub(crate) in_base: Vec<usize>,
+    pub in_base: Vec<usize>,
 }
 
 impl Places {
@@ -29,20 +29,29 @@ impl Places {
         })
     }
 
-    /// Gives a variable the next place of the base.
-    pub fn add_variable(&mut self, variable: usize) -> Result<(), AllocError> {
-        let place = self.variables.len();
-        put(&mut self.of_variables, variable, place);
-        put(&mut self.in_base, variable, place);
-        self.variables.push(variable)?;
+    /// Gives the places of the base anew, in the order of the lists.
+    pub fn restart(
+        &mut self,
+        alloc: Global,
+        rows: &[usize],
+        variables: &[usize],
+    ) -> Result<(), AllocError> {
+        self.rows = Vec::from_slice(alloc, rows)?;
+        self.variables = Vec::from_slice(alloc, variables)?;
+        number(&mut self.of_rows, rows);
+        number(&mut self.of_variables, variables);
+        number(&mut self.in_base, variables);
         Ok(())
     }
+}
 
-    /// Gives a row the next place of the base.
-    pub fn add_row(&mut self, row: usize) -> Result<(), AllocError> {
-        put(&mut self.of_rows, row, self.rows.len());
-        self.rows.push(row)?;
-        Ok(())
+/// Gives the members of a list their places there, and all others none.
+fn number(places: &mut [usize], members: &[usize]) {
+    for place in places.iter_mut() {
+        *place = NOWHERE;
+    }
+    for (place, member) in members.iter().enumerate() {
+        put(places, *member, place);
     }
 }
 

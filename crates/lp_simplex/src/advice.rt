@@ -66,6 +66,7 @@ pub fn start_of_proof(alloc: Global, lp: &Lp, proof: &Proof) -> Result<Vec<u32>,
     Ok(lp.named(start_at_rest(alloc, lp, proof)?))
 }
 
+/// Solves from a start, unless one row alone shows that no point is there.
 fn solve(alloc: Global, lp: &Lp, start: &[u32], pivots: u32) -> Result<Solution, AllocError>
     ensures duals { IfOk result (λ s. vec_len s.advice.duals ≡ vec_len lp.now.rows) }
     ensures point { IfOk result (λ s. vec_len s.advice.point ≡ vec_len lp.now.low) }
@@ -79,15 +80,29 @@ fn solve(alloc: Global, lp: &Lp, start: &[u32], pivots: u32) -> Result<Solution,
         }),
         Scaled::Program(program) => {
             let mut simplex = Simplex::new(alloc, program)?;
-            simplex.begin_at(alloc, start)?;
-            let end = simplex.run(alloc, pivots)?;
-            let is_final = matches!(&end, End::Optimal | End::Ray(_));
-            let advice = simplex.advice(alloc, lp, end)?;
-            Ok(Solution {
-                advice,
-                is_final,
-                pivots: simplex.progress.pivots,
-            })
+            solve_scaled(alloc, lp, &mut simplex, start, pivots)
         }
     }
+}
+
+fn solve_scaled(
+    alloc: Global,
+    lp: &Lp,
+    simplex: &mut Simplex,
+    start: &[u32],
+    pivots: u32,
+) -> Result<Solution, AllocError>
+    ensures duals { IfOk result (λ s. vec_len s.advice.duals ≡ vec_len lp.now.rows) }
+    ensures point { IfOk result (λ s. vec_len s.advice.point ≡ vec_len lp.now.low) }
+    ensures basis { IfOk result (λ s. NamesColumns lp.now s.advice.basis.items) }
+{
+    simplex.begin_at(alloc, start)?;
+    let end = simplex.run(alloc, pivots)?;
+    let is_final = matches!(&end, End::Optimal | End::Ray(_));
+    let advice = simplex.advice(alloc, lp, end)?;
+    Ok(Solution {
+        advice,
+        is_final,
+        pivots: simplex.progress.pivots,
+    })
 }

@@ -68,7 +68,7 @@ impl Basis {
         Ok(())
     }
 
-    /// A variable is basic no more. It stays in the list until that is made anew.
+    /// A variable is basic no more. It stays in the list until `keep`.
     pub fn forget_variable(&mut self, variable: usize) {
         put(&mut self.variable_places, variable, NOWHERE);
     }
@@ -76,6 +76,20 @@ impl Basis {
     /// The same for a row.
     pub fn forget_row(&mut self, row: usize) {
         put(&mut self.row_places, row, NOWHERE);
+    }
+
+    /// Keeps the members at these places of their lists, in this order. All others are forgotten before.
+    pub fn keep(
+        &mut self,
+        alloc: Global,
+        rows: &[usize],
+        variables: &[usize],
+    ) -> Result<(), AllocError> {
+        self.rows = chosen(alloc, &self.rows, rows)?;
+        self.variables = chosen(alloc, &self.variables, variables)?;
+        number(&self.rows, &mut self.row_places);
+        number(&self.variables, &mut self.variable_places);
+        Ok(())
     }
 
     /// One column leaves its side, and another enters.
@@ -102,6 +116,23 @@ impl Basis {
     }
 }
 
+/// The members at these places.
+fn chosen(alloc: Global, members: &[usize], places: &[usize]) -> Result<Vec<usize>, AllocError> {
+    let mut list = Vec::with_capacity(alloc, places.len())?;
+    for place in places {
+        list.push(at(members, *place, NOWHERE))?;
+    }
+    Ok(list)
+}
+
+/// Tells the members their places.
+fn number(members: &[usize], places: &mut [usize]) {
+    for (place, member) in members.iter().enumerate() {
+        put(places, *member, place);
+    }
+}
+
+/// Another member takes the place of one.
 fn replace(members: &mut [usize], places: &mut [usize], old: usize, new: usize) {
     let place = at(places, old, NOWHERE);
     put(members, place, new);

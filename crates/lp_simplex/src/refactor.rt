@@ -3,11 +3,10 @@
 //! The least pivot that is allowed is a part of the state. It gets stricter where factors that are new turn out to be rough,
 //! since that shows a basis that is nearly singular.
 
-use crate::basis::Basis;
 use crate::simplex::Simplex;
 use lp_factors::fixed::{KERNEL_BITS, LOST_BITS, ONE, rounded};
 use lp_factors::lookup::{NOWHERE, at};
-use lp_factors::{Change, Column, Entry, Factored, Outcome, Places, factor, numbers_of};
+use lp_factors::{Change, Column, Entry, Factored, Outcome, factor, numbers_of};
 use std::alloc::{AllocError, Global};
 
 /// How many pivots a column waits that led to rough numbers.
@@ -46,22 +45,9 @@ impl Simplex {
     fn take_factors(&mut self, alloc: Global, factored: Factored) -> Result<(), AllocError> {
         self.drop_rows(alloc, &factored.rows)?;
         self.drop_variables(alloc, &factored.columns)?;
-        let variables = self.program.variables.len();
-        let rows = self.program.rows.len();
-        let mut basis = Basis::new(alloc, variables, rows)?;
-        let mut places = Places::new(alloc, rows, variables)?;
-        for column in factored.columns.iter() {
-            let variable = self.basis.variable(*column);
-            basis.add_variable(variable)?;
-            places.add_variable(variable)?;
-        }
-        for row in factored.rows.iter() {
-            let row = self.basis.row(*row);
-            basis.add_row(row)?;
-            places.add_row(row)?;
-        }
-        self.basis = basis;
-        self.kernel.restart(alloc, factored, places)
+        self.basis.keep(alloc, &factored.rows, &factored.columns)?;
+        let (rows, variables) = (&self.basis.rows, &self.basis.variables);
+        self.kernel.restart(alloc, factored, rows, variables)
     }
 
     /// Active rows with no pivot leave.
