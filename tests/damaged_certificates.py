@@ -14,6 +14,7 @@ import tempfile
 from collections import Counter
 from importlib.machinery import SourceFileLoader
 from pathlib import Path
+from types import SimpleNamespace
 
 sys.dont_write_bytecode = True
 TOP = Path(__file__).resolve().parent.parent
@@ -115,7 +116,7 @@ def some_splits(rng, net):
     for _ in range(rng.randrange(7)):
         leaf = rng.choice(leaves)
         low, high = boxes[leaf]
-        open_coords = [c for c in range(len(low)) if high[c] - low[c] >= 2]
+        open_coords = [c for c in range(net.coordinates) if high[c] - low[c] >= 2]
         if not open_coords:
             continue
         coord = rng.choice(open_coords)
@@ -126,7 +127,7 @@ def some_splits(rng, net):
         splits.append((leaf, coord, cut))
     if splits and rng.random() < 0.1:
         at = rng.randrange(len(splits))
-        splits[at] = rng.choice([(splits[at][0], len(net.low), 1), (2 * at + 1, *splits[at][1:]), (*splits[at][:2], boxes[splits[at][0]][1][splits[at][1]])])
+        splits[at] = rng.choice([(splits[at][0], net.coordinates, 1), (2 * at + 1, *splits[at][1:]), (*splits[at][:2], boxes[splits[at][0]][1][splits[at][1]])])
     return splits, boxes
 
 
@@ -136,14 +137,15 @@ def some_proof(rng, net, node, box):
         ids = sorted(rng.sample(range(len(net.rows)), min(len(net.rows), rng.randint(0, 6))))
         size = rng.choice([1, 10, 10**3, 10**6, 2**40, 2**62])
         mults = [rng.randint(1, size) * (1 if net.rows[row][0] else rng.choice([-1, 1])) for row in ids]
-        proof = (node, rng.choice([0, 1, 1, 7, 10**3, 2**20, 2**40]), ids, mults)
+        parts = [number for pair in zip(ids, mults) for number in pair]
+        proof = [node, rng.choice([0, 1, 1, 7, 10**3, 2**20, 2**40]), len(ids), *parts]
         try:
-            checker.judge_proof(net, proof, *box)
+            checker.proof_number(net, proof, *box)
             return proof
-        except checker.End:
+        except checker.Refused:
             if rng.random() < 0.03:
                 return proof
-    return (node, 1, [], [])
+    return [node, 1, 0]
 
 
 def text_of(net, splits, proofs, kind, bound):
@@ -155,25 +157,22 @@ def text_of(net, splits, proofs, kind, bound):
         lines.append("plan 1 1")
         lines += [" ".join([word, *map(str, numbers)]) for word, numbers in
                   (("weights", firsts), ("outflows", [0] * shape[5]), ("direct", [0] * shape[6]))]
-    lines += [f"splits {len(splits)}"] + ["split %d %d %d" % split for split in splits] + [f"proofs {len(proofs)}"]
-    for node, scale, ids, mults in proofs:
-        lines.append(" ".join(map(str, ["proof", node, scale, len(ids), *(n for pair in zip(ids, mults) for n in pair)])))
+    for word, tuples in (("split", splits), ("proof", proofs)):
+        lines += [f"{word}s {len(tuples)}"] + [" ".join(map(str, [word, *numbers])) for numbers in tuples]
     lines += ["cost 0 1"] * (kind == "gap") + [f"bound {bound}"] * (kind != "none") + [f"gap {-bound} 1"] * (kind == "gap") + ["end", ""]
     return "\n".join(lines).encode()
 
 
 def some_tree(rng, data):
     """A certificate for a network that claims what its tree shows, or nearly that."""
-    net = checker.read_network(data)
-    checker.make_variables(net)
+    net = checker.judge_rows(checker.walk(checker.parse_json(data)))
     net.rows = checker.make_rows(net)
     splits, boxes = some_splits(rng, net)
     nodes = sorted(rng.sample(range(len(boxes)), rng.randint(0, len(boxes))))
     proofs = [some_proof(rng, net, node, boxes[node]) for node in nodes]
-    claim = checker.SimpleNamespace(splits=splits, proofs=proofs)
     try:
-        bound = checker.tree_bound(net, claim)
-    except checker.End:
+        bound = checker.tree_bound(net, SimpleNamespace(splits=splits, proofs=proofs))
+    except checker.Refused:
         bound = 0
     kind = "none" if bound is None else rng.choice(["gap", "bound"])
     if rng.random() < 0.05:

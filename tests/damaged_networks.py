@@ -1,9 +1,10 @@
 #!/usr/bin/env python3
-"""Whether `tools/explain` and the program tell the same first fault of damaged network files.
+"""Whether the program, `tools/explain` and `tools/second_checker.py` tell the same first fault of network files.
 
 `damaged_networks.py POOL` damages the networks of examples/ from a fixed seed, has `POOL check` judge each file, and
-compares its line on standard error with the last line of `tools/explain`. It also compares docs/network.schema.json
-with the tables of `tools/explain`. It prints what differs, and how often each cause was met.
+compares its line on standard error with that of the second checker and with the last line of `tools/explain`. It also
+compares docs/network.schema.json with the tables of `tools/explain`. It prints what differs, and how often each cause
+was met.
 """
 
 import contextlib
@@ -20,6 +21,7 @@ from pathlib import Path
 sys.dont_write_bytecode = True
 TOP = Path(__file__).resolve().parent.parent
 explain = SourceFileLoader("explain", str(TOP / "tools" / "explain")).load_module()
+checker = SourceFileLoader("second_checker", str(TOP / "tools" / "second_checker.py")).load_module()
 FILES = 300
 SEED = 1976
 
@@ -169,6 +171,11 @@ def told_by_explain(data):
     return last.removeprefix("The program refuses this file: ") if last.startswith("The program refuses") else ""
 
 
+def told_by_checker(file):
+    status, line = checker.run([file, file + ".none"])
+    return line.removeprefix("pool: ") if status == 3 else ""
+
+
 def schema_faults():
     """Where the schema says something else than the tables of `tools/explain`."""
     schema = json.loads((TOP / "docs" / "network.schema.json").read_text())
@@ -201,10 +208,10 @@ def main(pool):
             data = damaged(rng, json.loads(rng.choice(nets)))
             file = str(Path(folder) / f"{number}.json")
             Path(file).write_bytes(data)
-            program, here = told_by_program(pool, file), told_by_explain(data)
+            program, here, there = told_by_program(pool, file), told_by_explain(data), told_by_checker(file)
             met[program.removeprefix("network refused: ") or "taken"] += 1
-            if program != here:
-                differ.append(f"file {number}: the program says {program!r}, tools/explain {here!r}: {data[:300]!r}")
+            if not program == here == there:
+                differ.append(f"file {number}: the program says {program!r}, tools/explain {here!r}, the second checker {there!r}: {data[:300]!r}")
     differ += [f"no file was refused for {cause}" for cause in explain.CAUSES if cause != "1" and not met[cause]]
     print(*differ, sep="\n", end="\n" if differ else "")
     print(f"{FILES - len(differ)} of {FILES} damaged files alike; " + ", ".join(f"{cause}: {n}" for cause, n in sorted(met.items())))
