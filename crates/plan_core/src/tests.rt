@@ -1,154 +1,71 @@
-//! The worked plans of a network with a pool and two products.
+//! What worked plans cost, the first rule that others break, and the starting plans of worked networks.
 
-ghost use Rattle.std.specs.Prelude.{◌≡◌, IfOk, length, map, All};
-ghost use Rattle.pool_model.specs.Rows.{IsRectangular};
-ghost use Rattle.blend_network.specs.Parts.{rows_of, source_row, product_row};
-
-use super::{Cost, PlanFault, WrittenPlan, check_plan, compare_cost};
-use blend_network::{Network, Parts, PoolRow, ProductRow, SourceRow};
-use std::alloc::{AllocError, Global};
+use crate::{Cost, WrittenPlan, cheapest_start, check_plan, compare_cost};
+use blend_network::Network;
+use std::alloc::Global;
 use std::cmp::Ordering;
 use std::test::Fail;
+use worked_networks::{
+    EMPTY, HAVERLY_1, HAVERLY_3, ONE_DIRECT, SOUR_DIRECT, TWO_FEEDS, TWO_POOLS, network,
+};
 
-fn source(alloc: Global, name: &str, cost: i128, sulfur: i128) -> Result<SourceRow, AllocError>
-    ensures { IfOk result (λ s. length s.quality.items ≡ 1) }
-{
-    Ok(SourceRow {
-        name: String::from_str(alloc, name)?,
-        cost,
-        max: None,
-        quality: vec![in alloc; sulfur]?,
-    })
-}
+/// As `ONE_DIRECT`, but X must take 10, and A reaches it through pool P too.
+const DEMANDED: &str =
+    r#"{"version":1,"qualities":["sulfur"],"sources":[{"name":"A","cost":6,"max":100,"quality":{"sulfur":3}}],
+"pools":[{"name":"P"}],"products":[{"name":"X","price":9,"min":10,"max":100,"most":{"sulfur":3}}],"arcs":[["A","X"],["A","P"],["P","X"]]}"#;
 
-fn product(
+/// What a plan of Haverly's network costs, by its base, the weights of A and B, and its flows from the pool and from C to X
+/// and Y.
+fn judged(
     alloc: Global,
-    name: &str,
-    price: i128,
-    max: i128,
-    sulfur: i128,
-) -> Result<ProductRow, AllocError>
-    ensures least { IfOk result (λ p. length p.least.items ≡ 1) }
-    ensures most { IfOk result (λ p. length p.most.items ≡ 1) }
-{
-    Ok(ProductRow {
-        name: String::from_str(alloc, name)?,
-        price,
-        min: 0,
-        max,
-        least: vec![in alloc; None]?,
-        most: vec![in alloc; Some(sulfur)]?,
-    })
-}
-
-fn arc(alloc: Global, from: &str, to: &str) -> Result<(String, String), AllocError> {
-    Ok((String::from_str(alloc, from)?, String::from_str(alloc, to)?))
-}
-
-/// Sources A and B feed the pool P, which sends to X and Y, and so does C. The cost of B is in millionths.
-fn haverly(alloc: Global, cost_of_b: i128) -> Result<Parts, AllocError>
-    ensures { IfOk result (λ p. IsRectangular (rows_of p)) }
-{
-    Ok(Parts {
-        qualities: vec![in alloc; String::from_str(alloc, "sulfur")?]?,
-        sources: sources(alloc, cost_of_b)?,
-        pools: pools(alloc)?,
-        products: products(alloc)?,
-        arcs: arcs(alloc)?,
-    })
-}
-
-fn sources(alloc: Global, cost_of_b: i128) -> Result<Vec<SourceRow>, AllocError>
-    ensures { IfOk result (λ v. All (λ s. length s.quality ≡ 1) (map source_row v.items)) }
-{
-    let a = source(alloc, "A", 6_000_000, 3_000_000)?;
-    let b = source(alloc, "B", cost_of_b, 1_000_000)?;
-    let c = source(alloc, "C", 10_000_000, 2_000_000)?;
-    Ok(vec![in alloc; a, b, c]?)
-}
-
-fn pools(alloc: Global) -> Result<Vec<PoolRow>, AllocError> {
-    let pool = PoolRow {
-        name: String::from_str(alloc, "P")?,
-        max: None,
-    };
-    Ok(vec![in alloc; pool]?)
-}
-
-fn products(alloc: Global) -> Result<Vec<ProductRow>, AllocError>
-    ensures least { IfOk result (λ v. All (λ p. length p.least ≡ 1) (map product_row v.items)) }
-    ensures most { IfOk result (λ v. All (λ p. length p.most ≡ 1) (map product_row v.items)) }
-{
-    let x = product(alloc, "X", 9_000_000, 100_000_000, 2_500_000)?;
-    let y = product(alloc, "Y", 15_000_000, 200_000_000, 1_500_000)?;
-    Ok(vec![in alloc; x, y]?)
-}
-
-fn arcs(alloc: Global) -> Result<Vec<(String, String)>, AllocError> {
-    let mut arcs = Vec::new(alloc);
-    for (from, to) in [
-        ("A", "P"),
-        ("B", "P"),
-        ("P", "X"),
-        ("P", "Y"),
-        ("C", "X"),
-        ("C", "Y"),
-    ] {
-        arcs.push(arc(alloc, from, to)?)?;
-    }
-    Ok(arcs)
-}
-
-fn plan(
-    alloc: Global,
+    net: &Network,
     base: u32,
     weights: [u32; 2],
     outflows: [u64; 2],
     direct: [u64; 2],
-) -> Result<WrittenPlan, AllocError> {
-    Ok(WrittenPlan {
+) -> Result<String, Fail> {
+    let plan = WrittenPlan {
         base,
         flow_base: 1,
         weights: Vec::from_slice(alloc, &weights)?,
         outflows: Vec::from_slice(alloc, &outflows)?,
         direct: Vec::from_slice(alloc, &direct)?,
-    })
-}
-
-#[test]
-fn a_plan_at_its_quality_limit_has_its_cost(rt: HostRuntime) -> Result<(), Fail> {
-    let alloc = rt.alloc();
-    let net = Network::build(alloc, haverly(alloc, 16_000_000)?)?;
-    let plan = plan(alloc, 1, [0, 1], [0, 100_000_000], [0, 100_000_000])?;
-    let cost = Cost {
-        num: -400_000_000_000_000,
-        base: 1,
     };
-    assert_eq!(rt; check_plan(&net, &plan), Ok(cost));
-    Ok(())
+    Ok(format!(in alloc; "{:?}\n", check_plan(net, &plan))?)
+}
+
+/// Plans of 100 of B and of C for Y, by their base and weights, and what they cost, or the first rule that they break.
+fn all_judged(alloc: Global, net: &Network) -> Result<String, Fail> {
+    let flows = [0, 100_000_000];
+    let mut lines = String::new(alloc);
+    for (base, weights) in [(1, [0, 1]), (2, [1, 1]), (1, [0, 0]), (0, [0, 1])] {
+        lines.push_str(&judged(alloc, net, base, weights, flows, flows)?)?;
+    }
+    Ok(lines)
 }
 
 #[test]
-fn the_first_fault_is_named(rt: HostRuntime) -> Result<(), Fail> {
+fn a_plan_has_its_cost_or_its_first_fault(rt: HostRuntime) -> Result<(), Fail> {
     let alloc = rt.alloc();
-    let net = Network::build(alloc, haverly(alloc, 16_000_000)?)?;
-    let cases = [
-        (2, [1, 1], PlanFault::QualityOver(1, 0)),
-        (1, [0, 0], PlanFault::WeightSum(0)),
-        (0, [0, 1], PlanFault::Shape),
-    ];
-    for (base, weights, fault) in cases {
-        let plan = plan(alloc, base, weights, [0, 100_000_000], [0, 100_000_000])?;
-        assert_eq!(rt; check_plan(&net, &plan), Err(fault));
-    }
+    let expected = "Ok(Cost { num: -400000000000000, base: 1 })
+Err(QualityOver(1, 0))
+Err(WeightSum(0))
+Err(Shape)
+";
+    let net = network(alloc, HAVERLY_1)?;
+    assert_eq!(rt; all_judged(alloc, &net)?.as_str(), expected);
     Ok(())
 }
 
 #[test]
 fn costs_over_two_bases_are_compared(rt: HostRuntime) -> Result<(), Fail> {
     let alloc = rt.alloc();
-    let net = Network::build(alloc, haverly(alloc, 13_000_000)?)?;
-    let plan = plan(alloc, 4, [1, 3], [0, 200_000_000], [0, 0])?;
+    let net = network(alloc, HAVERLY_3)?;
+    let line = judged(alloc, &net, 4, [1, 3], [0, 200_000_000], [0, 0])?;
+    assert_eq!(rt;
+        line.as_str(),
+        "Ok(Cost { num: -3000000000000000, base: 4 })\n"
+    );
     let cost = Cost {
         num: -3_000_000_000_000_000,
         base: 4,
@@ -157,7 +74,48 @@ fn costs_over_two_bases_are_compared(rt: HostRuntime) -> Result<(), Fail> {
         num: -749_999_999_999_999,
         base: 1,
     };
-    assert_eq!(rt; check_plan(&net, &plan), Ok(cost));
     assert_eq!(rt; compare_cost(&cost, &dearer), Ordering::Less);
     Ok(())
+}
+
+#[test]
+fn starting_plans_are_the_cheapest_that_obey(rt: HostRuntime) -> Result<(), Fail> {
+    let alloc = rt.alloc();
+    let mut lines = String::new(alloc);
+    for text in [
+        EMPTY,
+        ONE_DIRECT,
+        SOUR_DIRECT,
+        DEMANDED,
+        TWO_FEEDS,
+        HAVERLY_1,
+        TWO_POOLS,
+    ] {
+        lines.push_str(&start(alloc, &network(alloc, text)?)?)?;
+    }
+    let expected = "weights [] outflows [] direct [] cost 0
+weights [] outflows [] direct [100000000] cost -300000000000000
+none
+weights [1] outflows [100000000] direct [0] cost -300000000000000
+weights [1, 0] outflows [100000000] direct [] cost -300000000000000
+weights [1, 0] outflows [0, 0] direct [0, 0] cost 0
+none
+";
+    assert_eq!(rt; lines.as_str(), expected);
+    Ok(())
+}
+
+/// The cheapest starting plan of a network.
+fn start(alloc: Global, net: &Network) -> Result<String, Fail> {
+    Ok(match cheapest_start(alloc, net)? {
+        None => format!(in alloc; "none\n")?,
+        Some(start) => {
+            let plan = &start.plan;
+            let (weights, outflows) = (plan.weights.as_slice(), plan.outflows.as_slice());
+            let (direct, cost) = (plan.direct.as_slice(), start.cost.num);
+            format!(in alloc;
+                "weights {weights:?} outflows {outflows:?} direct {direct:?} cost {cost}\n"
+            )?
+        }
+    })
 }
