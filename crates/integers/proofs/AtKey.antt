@@ -54,12 +54,19 @@ positive-product_below f (suc n) h = omega (arith, mul-le-mul (positive-product_
 -- the other factors are the same where k is not among them
 but_none : (k : ℕ) (f : ℕ → ℕ) (n : ℕ) → n ≤ k → product_but k f n ≡ product_below f n
 but_none k f zero h = refl
-but_none k f (suc n) h = omega (arith, but_none k f n (omega arith), ap (λ z. product_below f n * z) (passed n k 1 (f n) (omega arith)), ap (λ z. z * (if n == k then 1 else f n)) (but_none k f n (omega arith)))
+but_none k f (suc n) h =
+    omega (arith, but_none k f n (omega arith), ap (λ z. product_below f n * z) (passed n k 1 (f n) (omega arith)), ap (λ z. z * (if n == k then 1 else f n)) (but_none k f n (omega arith)))
 
 pub product_but_is : (k : ℕ) (f : ℕ → ℕ) (n : ℕ) → k < n → product_but k f n * f k ≡ product_below f n
 product_but_is k f zero h = absurd (omega arith)
 product_but_is k f (suc n) h = elim (same_or_other n k) [
-  | inl e ↦ omega (arith, but_none k f n (omega arith), ap (λ z. product_but k f n * z * f k) (chosen n k 1 (f n) e), ap (λ z. z * f k) (but_none k f n (omega arith)), ap (λ j. product_below f n * f j) e)
+  | inl e ↦ omega (
+    arith,
+    but_none k f n (omega arith),
+    ap (λ z. product_but k f n * z * f k) (chosen n k 1 (f n) e),
+    ap (λ z. z * f k) (but_none k f n (omega arith)),
+    ap (λ j. product_below f n * f j) e,
+  )
   | inr n' ↦ omega (arith, ap (λ z. product_but k f n * z * f k) (passed n k 1 (f n) n'), ap (λ z. z * f n) (product_but_is k f n (omega arith)))
 ]
 
@@ -103,7 +110,8 @@ abs-int_sum_below_to g f zero h = omega arith
 abs-int_sum_below_to g f (suc n) h = omega (arith, ints, h n (omega arith), abs-int_sum_below_to g f n (λ i lt. h i (omega arith)))
 
 pub int_sum_at-add : (key : ℕ → ℕ) (k : ℕ) (f g : ℕ → ℤ) (n : ℕ) → int_sum_at key k (λ i. f i +ℤ g i) n ≡ int_sum_at key k f n +ℤ int_sum_at key k g n
-int_sum_at-add key k f g n = int_sum_below-same (λ i. if key i == k then f i +ℤ g i else pos 0) (λ i. (if key i == k then f i else pos 0) +ℤ (if key i == k then g i else pos 0)) n (λ i lt. out (key i == k) (f i) (g i))
+int_sum_at-add key k f g n =
+    int_sum_below-same (λ i. if key i == k then f i +ℤ g i else pos 0) (λ i. (if key i == k then f i else pos 0) +ℤ (if key i == k then g i else pos 0)) n (λ i lt. out (key i == k) (f i) (g i))
     ∙ int_sum_below-add (λ i. if key i == k then f i else pos 0) (λ i. if key i == k then g i else pos 0) n
   where
     out : (b : Bool) (x y : ℤ) → (if b then x +ℤ y else pos 0) ≡ (if b then x else pos 0) +ℤ (if b then y else pos 0)

@@ -44,7 +44,8 @@ int_sum_below-append f m (suc n) = ap (int_sum_below f) (let e : m + suc n ≡ s
 -- a sum over a grid, row by row
 pub int_sum_below-grid : (f : ℕ → ℤ) (m n : ℕ) → int_sum_below f (m * n) ≡ int_sum_below (λ i. int_sum_below (λ j. f (i * n + j)) n) m
 int_sum_below-grid f zero n = ap (int_sum_below f) (let e : 0 * n ≡ 0 = omega arith in e)
-int_sum_below-grid f (suc m) n = ap (int_sum_below f) (let e : suc m * n ≡ m * n + n = omega arith in e) ∙ int_sum_below-append f (m * n) n ∙ ap (λ z. z +ℤ int_sum_below (λ j. f (m * n + j)) n) (int_sum_below-grid f m n)
+int_sum_below-grid f (suc m) n = ap (int_sum_below f) (let e : suc m * n ≡ m * n + n = omega arith in e) ∙ int_sum_below-append f (m * n) n
+    ∙ ap (λ z. z +ℤ int_sum_below (λ j. f (m * n + j)) n) (int_sum_below-grid f m n)
 
 pub piece-first : {X : Type 0} (m : ℕ) (f g : ℕ → X) (i : ℕ) → i < m → piece m f g i ≡ f i
 piece-first m f g i lt = grind (arith, nat_tests)
@@ -60,5 +61,6 @@ int_sum_below-piece m n f g a b =
       arith,
       additive,
       int_sum_below-same (λ i. piece m f g i *ℤ piece m a b i) (λ i. f i *ℤ a i) m (λ i lt. ap (λ z. z *ℤ piece m a b i) (piece-first m f g i lt) ∙ ap (λ z. f i *ℤ z) (piece-first m a b i lt)),
-      int_sum_below-same (λ i. piece m f g (m + i) *ℤ piece m a b (m + i)) (λ i. g i *ℤ b i) n (λ i lt. ap (λ z. z *ℤ piece m a b (m + i)) (piece-rest m f g i) ∙ ap (λ z. g i *ℤ z) (piece-rest m a b i)),
+      int_sum_below-same (λ i. piece m f g (m + i) *ℤ piece m a b (m + i)) (λ i. g i *ℤ b i) n
+          (λ i lt. ap (λ z. z *ℤ piece m a b (m + i)) (piece-rest m f g i) ∙ ap (λ z. g i *ℤ z) (piece-rest m a b i)),
     )

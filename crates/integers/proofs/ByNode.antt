@@ -5,7 +5,8 @@ use Rattle.std.proofs.Math.Nat.{mul-le-mul, mul-le-mul_left}
 use Rattle.integers.proofs.Ring.{additive}
 use Rattle.integers.specs.Sums.{int_sum_below, sum_below, int_sum_at, sum_at, product_below, product_but}
 use Rattle.integers.proofs.ByIndex.{int_sum_below-same}
-use Rattle.integers.proofs.AtKey.{same_or_other, chosen, passed, sum_below-part, sum_by_keys, pos-sum_at, sum_below-same, none_either, sum_at-none, sum_at-one, positive-product_below, abs-int_sum_below_to}
+use Rattle.integers.proofs.AtKey.{same_or_other, chosen, passed, sum_below-part, sum_by_keys, pos-sum_at}
+use Rattle.integers.proofs.AtKey.{sum_below-same, none_either, sum_at-none, sum_at-one, positive-product_below, abs-int_sum_below_to}
 
 -- ---- nothing
 pub sum_below-nothing : (f : ℕ → ℕ) (n : ℕ) → ((i : ℕ) → i < n → f i ≡ 0) → sum_below f n ≡ 0

@@ -3,7 +3,8 @@ use Rattle.std.proofs.Common.{◌≡◌, ℕ, zero, suc, ◌+◌, ◌*◌, ◌/�
 use Rattle.std.specs.Int.{◌∣◌, IsGcd}
 use Rattle.std.proofs.lemmas.Int.{ints, by_lt_z}
 use Rattle.integers.specs.Divisors.{IsCoprime}
-use Rattle.std.proofs.Math.Nat.{dvd-add, dvd-mul_left, dvd-mul_right, dvd-add_iff_right, dvd-mod_iff, one-dvd, mul-dvd-mul_right, div-mul_cancel, one-mul, dvd-mul_right_of_dvd, eq-zero_of_zero-dvd, zero-mul}
+use Rattle.std.proofs.Math.Nat.{dvd-add, dvd-mul_left, dvd-mul_right, dvd-add_iff_right, dvd-mod_iff, one-dvd}
+use Rattle.std.proofs.Math.Nat.{mul-dvd-mul_right, div-mul_cancel, one-mul, dvd-mul_right_of_dvd, eq-zero_of_zero-dvd, zero-mul}
 use Rattle.std.proofs.lemmas.Nat.Gcd.{dvd_refl, dvd_trans, le_of_dvd, IsGcd-from_zero, same_from_IsGcd}
 
 pub IsCoprime-swap : (a b : ℕ) → IsCoprime a b → IsCoprime b a
@@ -62,7 +63,8 @@ positive-gcd a b (suc g) p h = omega arith
 pub dvd-sum_rest : (k : ℕ) (x y : ℤ) → k ∣ unsigned_abs (x +ℤ y) → k ∣ unsigned_abs x → k ∣ unsigned_abs y
 dvd-sum_rest k x y h p = by_sizes k (unsigned_abs (x +ℤ y)) (unsigned_abs x) (unsigned_abs y) (one_is_sum x y) h p
   where
-    one_is_sum : (x y : ℤ) → (unsigned_abs (x +ℤ y) ≡ unsigned_abs x + unsigned_abs y) ⊎ ((unsigned_abs x ≡ unsigned_abs (x +ℤ y) + unsigned_abs y) ⊎ (unsigned_abs y ≡ unsigned_abs (x +ℤ y) + unsigned_abs x))
+    one_is_sum : (x y : ℤ) → (unsigned_abs (x +ℤ y) ≡ unsigned_abs x + unsigned_abs y)
+        ⊎ ((unsigned_abs x ≡ unsigned_abs (x +ℤ y) + unsigned_abs y) ⊎ (unsigned_abs y ≡ unsigned_abs (x +ℤ y) + unsigned_abs x))
     one_is_sum (pos a) (pos b) = inl refl
     one_is_sum (negsuc a) (negsuc b) = inl (omega arith)
     one_is_sum (pos a) (negsuc b) =

@@ -17,7 +17,8 @@ numbers_at-each key k (suc n) =
     All-append (λ i. (i < suc n) × (key i ≡ k)) (numbers_at key k n) (if key n == k then n ∷ [] else [])
     (All-weaker (λ i. (i < n) × (key i ≡ k)) (λ i. (i < suc n) × (key i ≡ k)) (λ i h. (omega arith, h.1)) (numbers_at key k n) (numbers_at-each key k n))
     (elim (same_or_other (key n) k) [
-      | inl e ↦ subst (λ (xs : List ℕ). All (λ i. (i < suc n) × (key i ≡ k)) xs) (sym (chosen (key n) k (n ∷ []) [] e)) (All-cons (λ i. (i < suc n) × (key i ≡ k)) n [] (omega arith, e) (All-nil (λ i. (i < suc n) × (key i ≡ k))))
+      | inl e ↦ subst (λ (xs : List ℕ). All (λ i. (i < suc n) × (key i ≡ k)) xs) (sym (chosen (key n) k (n ∷ []) [] e))
+          (All-cons (λ i. (i < suc n) × (key i ≡ k)) n [] (omega arith, e) (All-nil (λ i. (i < suc n) × (key i ≡ k))))
       | inr d ↦ subst (λ (xs : List ℕ). All (λ i. (i < suc n) × (key i ≡ k)) xs) (sym (passed (key n) k (n ∷ []) [] d)) (All-nil (λ i. (i < suc n) × (key i ≡ k)))
     ])
 

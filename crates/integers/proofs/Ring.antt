@@ -36,8 +36,11 @@ product3_is a b c = omega (
 pub mul_assoc_ℤ : (a b c : ℤ) → (a *ℤ b) *ℤ c ≡ a *ℤ (b *ℤ c)
 mul_assoc_ℤ a b c = let p = product3_is a b c in let q = product3_is b c a in omega (arith, linear, mul_comm_ℤ a (b *ℤ c), p, q)
 
-pub product4_is : (a b c d : ℤ) → (up (((a *ℤ b) *ℤ c) *ℤ d) ≡ ((up a * up b + down a * down b) * up c + (up a * down b + down a * up b) * down c) * up d + ((up a * up b + down a * down b) * down c + (up a * down b + down a * up b) * up c) * down d)
-    × (down (((a *ℤ b) *ℤ c) *ℤ d) ≡ ((up a * up b + down a * down b) * up c + (up a * down b + down a * up b) * down c) * down d + ((up a * up b + down a * down b) * down c + (up a * down b + down a * up b) * up c) * up d)
+pub product4_is : (a b c d : ℤ)
+    → (up (((a *ℤ b) *ℤ c) *ℤ d) ≡ ((up a * up b + down a * down b) * up c + (up a * down b + down a * up b) * down c) * up d +
+    ((up a * up b + down a * down b) * down c + (up a * down b + down a * up b) * up c) * down d)
+    × (down (((a *ℤ b) *ℤ c) *ℤ d) ≡ ((up a * up b + down a * down b) * up c + (up a * down b + down a * up b) * down c) * down d +
+    ((up a * up b + down a * down b) * down c + (up a * down b + down a * up b) * up c) * up d)
 product4_is a b c d = let p = product3_is a b c in omega (
   arith,
   product_is ((a *ℤ b) *ℤ c) d,

@@ -68,7 +68,8 @@ inflow-plan_of n w j k arcs positive =
     let through = λ (o : ℕ). weighed n w (n.out_pool o) k *ℤ pos (written_out w o) in
     let straight = int_sum_at n.direct_product j (λ e. n.source_quality (n.direct_source e) k *ℤ pos ((plan_of n w).direct e)) n.directs in
     ap (λ z. z +ℤ m *ℤ straight)
-    (int_sum_at-same n.out_product j (λ o. pos (product_but (n.out_pool o) (factor n (plan_of n w)) n.pools) *ℤ mix n (plan_of n w) (n.out_pool o) k *ℤ pos (w.base * written_out w o)) (λ o. m *ℤ through o) n.outs
+    (int_sum_at-same n.out_product j
+    (λ o. pos (product_but (n.out_pool o) (factor n (plan_of n w)) n.pools) *ℤ mix n (plan_of n w) (n.out_pool o) k *ℤ pos (w.base * written_out w o)) (λ o. m *ℤ through o) n.outs
     (λ o lt is. out-plan_of n w k o lt (arcs o lt) positive)
     ∙ int_sum_at-mul n.out_product j m through n.outs)
     ∙ sym (mul-add m (int_sum_at n.out_product j through n.outs) straight)
@@ -82,8 +83,10 @@ most-plan_of : (n : Net) (w : Written) (j k : ℕ) (u : ℤ) → ((o : ℕ) → 
 most-plan_of n w j k u arcs positive =
     let m = factors n w in
     let whole = factors-positive n w in
-    rw (inflow-plan_of n w j k arcs positive)
-    ((λ h. lt-cancel m (u *ℤ pos (product_inflow n (plan_of n w) j)) (written_quality n w j k) whole h), (λ h. lt-mul m (u *ℤ pos (product_inflow n (plan_of n w) j)) (written_quality n w j k) whole h))
+    rw (inflow-plan_of n w j k arcs positive) (
+      (λ h. lt-cancel m (u *ℤ pos (product_inflow n (plan_of n w) j)) (written_quality n w j k) whole h),
+      (λ h. lt-mul m (u *ℤ pos (product_inflow n (plan_of n w) j)) (written_quality n w j k) whole h),
+    )
 
 -- and of a least
 least-plan_of : (n : Net) (w : Written) (j k : ℕ) (u : ℤ) → ((o : ℕ) → o < n.outs → n.out_pool o < n.pools) → 0 < w.base
@@ -91,8 +94,10 @@ least-plan_of : (n : Net) (w : Written) (j k : ℕ) (u : ℤ) → ((o : ℕ) →
 least-plan_of n w j k u arcs positive =
     let m = factors n w in
     let whole = factors-positive n w in
-    rw (inflow-plan_of n w j k arcs positive)
-    ((λ h. lt-cancel m (written_quality n w j k) (u *ℤ pos (product_inflow n (plan_of n w) j)) whole h), (λ h. lt-mul m (written_quality n w j k) (u *ℤ pos (product_inflow n (plan_of n w) j)) whole h))
+    rw (inflow-plan_of n w j k arcs positive) (
+      (λ h. lt-cancel m (written_quality n w j k) (u *ℤ pos (product_inflow n (plan_of n w) j)) whole h),
+      (λ h. lt-mul m (written_quality n w j k) (u *ℤ pos (product_inflow n (plan_of n w) j)) whole h),
+    )
 
 -- the check's test is the plan's
 pub above_most : (n : Net) (w : Written) (j k : ℕ) → ((o : ℕ) → o < n.outs → n.out_pool o < n.pools) → 0 < w.base

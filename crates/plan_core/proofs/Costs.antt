@@ -36,7 +36,8 @@ pub record IsTotal (f : ℕ → ℤ) (g : ℕ → ℕ) (i : ℕ) (total : ℤ) :
 small_total : (g : ℕ → ℕ) (i n : ℕ) (total : ℤ) → i < n → sum_below g n ≤ 2 ^ 82 → unsigned_abs total ≤ 10 ^ 12 * sum_below g i → unsigned_abs total ≤ 2 ^ 122
 small_total g i n total lt room size = omega (arith, size, sum_below-part g i n lt)
 
-pub total_fits : (g : ℕ → ℕ) (i n : ℕ) (now total part q : ℤ) → i < n → sum_below g n ≤ 2 ^ 82 → unsigned_abs total ≤ 10 ^ 12 * sum_below g i → now ≡ total → part ≡ q *ℤ pos (g i) → IsWithin (10 ^ 12) q
+pub total_fits : (g : ℕ → ℕ) (i n : ℕ) (now total part q : ℤ) → i < n → sum_below g n ≤ 2 ^ 82 → unsigned_abs total ≤ 10 ^ 12 * sum_below g i
+    → now ≡ total → part ≡ q *ℤ pos (g i) → IsWithin (10 ^ 12) q
     → FitsSigned w128 (now +ℤ to_z w128 (of_z w128 part))
 total_fits g i n now total part q lt room size is e within =
     let before = small_total g i n total lt room size in
@@ -46,7 +47,8 @@ total_fits g i n now total part q lt room size is e within =
     fits : (a b : ℤ) → unsigned_abs a ≤ 2 ^ 122 → unsigned_abs b ≤ 2 ^ 122 → FitsSigned w128 (a +ℤ to_z w128 (of_z w128 b))
     fits a b h k = omega (arith, ints)
 
-pub total_more : (q : ℕ → ℤ) (g : ℕ → ℕ) (i n : ℕ) (now total part : ℤ) → i < n → sum_below g n ≤ 2 ^ 82 → total ≡ int_sum_below (λ j. q j *ℤ pos (g j)) i → unsigned_abs total ≤ 10 ^ 12 * sum_below g i
+pub total_more : (q : ℕ → ℤ) (g : ℕ → ℕ) (i n : ℕ) (now total part : ℤ) → i < n → sum_below g n ≤ 2 ^ 82
+    → total ≡ int_sum_below (λ j. q j *ℤ pos (g j)) i → unsigned_abs total ≤ 10 ^ 12 * sum_below g i
     → now ≡ total → part ≡ q i *ℤ pos (g i) → IsWithin (10 ^ 12) (q i) → IsTotal (λ j. q j *ℤ pos (g j)) g (i + 1) (to_z w128 (of_z w128 (now +ℤ to_z w128 (of_z w128 part))))
 total_more q g i n now total part lt room sum size is e within =
     let before = small_total g i n total lt room size in
@@ -76,7 +78,9 @@ pub difference_is : (n : Net) (w : Written) (outflows inflows : List ℕ) (spent
     → unsigned_abs spent ≤ 2 ^ 122 → unsigned_abs earned ≤ 2 ^ 122 → to_z w128 (of_z w128 (to_z w128 (of_z w128 spent) -ℤ to_z w128 (of_z w128 earned))) ≡ cost_of n (plan_of n w)
 difference_is n w outflows inflows spent earned out in_ e f h k =
     narrow spent earned h k
-    ∙ ap (λ z. z -ℤ earned) (e ∙ int_sum_below-same (λ i. n.source_cost i *ℤ pos (get_or outflows i 0)) (λ i. n.source_cost i *ℤ pos (source_outflow n (plan_of n w) i)) n.sources (λ i lt. ap (λ m. n.source_cost i *ℤ pos m) (out i lt)))
+    ∙ ap (λ z. z -ℤ earned)
+    (e ∙ int_sum_below-same (λ i. n.source_cost i *ℤ pos (get_or outflows i 0))
+    (λ i. n.source_cost i *ℤ pos (source_outflow n (plan_of n w) i)) n.sources (λ i lt. ap (λ m. n.source_cost i *ℤ pos m) (out i lt)))
     ∙ ap (λ z. int_sum_below (λ i. n.source_cost i *ℤ pos (source_outflow n (plan_of n w) i)) n.sources -ℤ z)
     (f ∙ int_sum_below-same (λ j. n.price j *ℤ pos (get_or inflows j 0)) (λ j. n.price j *ℤ pos (product_inflow n (plan_of n w) j)) n.products (λ j lt. ap (λ m. n.price j *ℤ pos m) (in_ j lt)))
   where

@@ -1,5 +1,6 @@
 -- The first of the cheapest starting plans: one number more, and what is found at the end.
-use Rattle.std.proofs.Common.{◌≡◌, ℕ, zero, suc, ◌+◌, ◌-◌, ◌*◌, ◌<◌, ◌⊎◌, inl, inr, Bool, true, false, if◌then◌else◌, Option, Some, None, ℤ, pos, ◌-ℤ◌, ◌*ℤ◌, ◌≤ℤ◌, ◌<ℤ◌, arith, refl, sym, ap, subst, ◌∙◌}
+use Rattle.std.proofs.Common.{◌≡◌, ℕ, zero, suc, ◌+◌, ◌-◌, ◌*◌, ◌<◌, ◌⊎◌, inl, inr, Bool, true, false, if◌then◌else◌}
+use Rattle.std.proofs.Common.{Option, Some, None, ℤ, pos, ◌-ℤ◌, ◌*ℤ◌, ◌≤ℤ◌, ◌<ℤ◌, arith, refl, sym, ap, subst, ◌∙◌}
 use Rattle.std.specs.Prelude.{int_lt, IfNone, IfSome}
 use Rattle.std.proofs.lemmas.Int.{ints}
 use Rattle.integers.proofs.Ring.{additive}
@@ -141,7 +142,8 @@ module _ (n : Net) (limited : IsLimited n) where
     first = λ k lt obeys. omega (arith, additive, least.first k lt obeys, least.is, ap (λ v. cost_of n (plan_of n v)) is);
   }
 
-  pub least-costs : (best : Choice) (w : Written) (c : Cost) → w ≡ start_at n best.number → IsFirstLeast (StartObeys n) (start_cost n) (starts n) (Some best) → c.num ≡ best.cost → c.base ≡ 1 → IsCostOf n w c
+  pub least-costs : (best : Choice) (w : Written) (c : Cost) → w ≡ start_at n best.number
+      → IsFirstLeast (StartObeys n) (start_cost n) (starts n) (Some best) → c.num ≡ best.cost → c.base ≡ 1 → IsCostOf n w c
   least-costs best w c is least num base = record {
     written = subst (IsWritten n) (sym is) (start_at-written n best.number limited least.there);
     obeys = subst (λ v. Obeys n (plan_of n v)) (sym is) least.has;

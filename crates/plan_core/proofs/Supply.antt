@@ -71,7 +71,8 @@ room_of n w limited shaped sums most = record {
   weighed = λ l k in_pools in_qualities. omega (
     arith,
     abs-int_sum_at n.feed_pool l (λ e. n.source_quality (n.feed_source e) k *ℤ pos (weight w e)) (λ e. 10 ^ 11 * weight w e) n.feeds
-        (λ e lt. abs-mul-le (n.source_quality (n.feed_source e) k) (pos (weight w e)) (10 ^ 11) (weight w e) (abs-within (10 ^ 11) _ (limited.source_qualities (n.feed_source e) k (limited.feed_sources e lt) in_qualities)) (omega arith)),
+        (λ e lt. abs-mul-le (n.source_quality (n.feed_source e) k) (pos (weight w e)) (10 ^ 11) (weight w e)
+        (abs-within (10 ^ 11) _ (limited.source_qualities (n.feed_source e) k (limited.feed_sources e lt) in_qualities)) (omega arith)),
     sum_at-mul n.feed_pool l (10 ^ 11) (weight w) n.feeds,
     whole_weights n w sums l in_pools,
     shaped.base,

@@ -38,7 +38,8 @@ quality_is n k arc source narrow wide fits is e f = f ∙ to_z-of_z w64 narrow f
 pub direct_size : (n : Net) (w : Written) (k arc flow : ℕ) (wide : ℤ) → IsLimited n → HasRoom n w → arc < n.directs → k < n.qualities → wide ≡ n.source_quality (n.direct_source arc) k
     → flow ≡ (plan_of n w).direct arc → unsigned_abs (to_z w128 (of_z w128 wide)) * flow ≤ 10 ^ 11 * 2 ^ 76
 direct_size n w k arc flow wide limited room lt in_qualities e f =
-    let small : unsigned_abs wide ≤ 10 ^ 11 = omega (arith, ap unsigned_abs e, abs-within (10 ^ 11) _ (limited.source_qualities (n.direct_source arc) k (limited.direct_sources arc lt) in_qualities)) in
+    let small : unsigned_abs wide ≤ 10 ^ 11 =
+    omega (arith, ap unsigned_abs e, abs-within (10 ^ 11) _ (limited.source_qualities (n.direct_source arc) k (limited.direct_sources arc lt) in_qualities)) in
     let flow_small : flow ≤ 2 ^ 76 = omega (arith, f, room.directs arc lt) in
     rw (read_wide wide (10 ^ 11) small (omega arith)) (mul-le-mul small flow_small)
 

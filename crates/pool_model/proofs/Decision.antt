@@ -63,7 +63,8 @@ Decides-blends n p =
     (λ b j lj k lk. (λ u is. b.at_most j k u lj lk is, λ u is. b.at_least j k u lj lk is))
     (Decides-all_below
     (λ j. all_below (λ k. most_test n p j (quality_inflow n p j k) (n.most j k) && least_test n p j (quality_inflow n p j k) (n.least j k)) n.qualities)
-    (λ j. (k : ℕ) → k < n.qualities → ((u : ℤ) → n.most j k ≡ Some u → quality_inflow n p j k ≤ℤ quality_room n p j u) × ((u : ℤ) → n.least j k ≡ Some u → quality_room n p j u ≤ℤ quality_inflow n p j k))
+    (λ j. (k : ℕ) → k < n.qualities → ((u : ℤ) → n.most j k ≡ Some u → quality_inflow n p j k ≤ℤ quality_room n p j u)
+    × ((u : ℤ) → n.least j k ≡ Some u → quality_room n p j u ≤ℤ quality_inflow n p j k))
     n.products
     (λ j. Decides-all_below
     (λ k. most_test n p j (quality_inflow n p j k) (n.most j k) && least_test n p j (quality_inflow n p j k) (n.least j k))
@@ -79,8 +80,10 @@ Decides-sources n p =
 
 Decides-pools : (n : Net) (p : Plan) → Decides (pools_test n p) ((l : ℕ) → l < n.pools → (pool_inflow n p l ≡ outflow n p l) × (outflow n p l ≤ p.base * n.pool_max l))
 Decides-pools n p =
-    Decides-all_below (λ l. (pool_inflow n p l == outflow n p l) && nat_le (outflow n p l) (p.base * n.pool_max l)) (λ l. (pool_inflow n p l ≡ outflow n p l) × (outflow n p l ≤ p.base * n.pool_max l)) n.pools
-    (λ l. Decides-and (pool_inflow n p l == outflow n p l) (nat_le (outflow n p l) (p.base * n.pool_max l)) (Decides-eqb (pool_inflow n p l) (outflow n p l)) (Decides-nat_le (outflow n p l) (p.base * n.pool_max l)))
+    Decides-all_below (λ l. (pool_inflow n p l == outflow n p l) && nat_le (outflow n p l) (p.base * n.pool_max l))
+    (λ l. (pool_inflow n p l ≡ outflow n p l) × (outflow n p l ≤ p.base * n.pool_max l)) n.pools
+    (λ l. Decides-and (pool_inflow n p l == outflow n p l) (nat_le (outflow n p l) (p.base * n.pool_max l))
+    (Decides-eqb (pool_inflow n p l) (outflow n p l)) (Decides-nat_le (outflow n p l) (p.base * n.pool_max l)))
 
 Decides-products : (n : Net) (p : Plan)
     → Decides (products_test n p) ((j : ℕ) → j < n.products → (p.base * n.product_min j ≤ product_inflow n p j) × (product_inflow n p j ≤ p.base * n.product_max j))

@@ -49,12 +49,14 @@ product_limits-none limit j k e =
     empty : limit j k ≡ None → filter_map {Y = Limit} (λ q. option_map (λ u. record { product = j; quality = q; limit = u }) (limit j q)) (k ∷ []) ≡ []
     empty e = rw e refl
 
-pub product_limits-some : (limit : ℕ → ℕ → Option ℤ) (j k : ℕ) (u : ℤ) → limit j k ≡ Some u → product_limits limit (k + 1) j ≡ product_limits limit k j ++ record { product = j; quality = k; limit = u } ∷ []
+pub product_limits-some : (limit : ℕ → ℕ → Option ℤ) (j k : ℕ) (u : ℤ) → limit j k ≡ Some u
+    → product_limits limit (k + 1) j ≡ product_limits limit k j ++ record { product = j; quality = k; limit = u } ∷ []
 product_limits-some limit j k u e =
     let kept = λ (q : ℕ). option_map (λ (u : ℤ). let v : Limit = record { product = j; quality = q; limit = u } in v) (limit j q) in
     ap (λ q. product_limits limit q j) (add-one k) ∙ filter_map-append kept (tabulate (λ q. q) k) (k ∷ []) ∙ ap (λ xs. product_limits limit k j ++ xs) (single e)
   where
-    single : limit j k ≡ Some u → filter_map {Y = Limit} (λ q. option_map (λ u. record { product = j; quality = q; limit = u }) (limit j q)) (k ∷ []) ≡ record { product = j; quality = k; limit = u } ∷ []
+    single : limit j k ≡ Some u
+        → filter_map {Y = Limit} (λ q. option_map (λ u. record { product = j; quality = q; limit = u }) (limit j q)) (k ∷ []) ≡ record { product = j; quality = k; limit = u } ∷ []
     single e = rw e refl
 
 pub limits-more : (limit : ℕ → ℕ → Option ℤ) (qualities j : ℕ) → limits limit (j + 1) qualities ≡ limits limit j qualities ++ product_limits limit qualities j
@@ -66,9 +68,20 @@ limits-more limit qualities j =
 -- ---- how many there are
 length-product_limits : (limit : ℕ → ℕ → Option ℤ) (qualities j : ℕ) → length (product_limits limit qualities j) ≤ qualities
 length-product_limits limit qualities j =
-    omega (arith, length-filter_map (λ k. option_map (λ u. let v : Limit = record { product = j; quality = k; limit = u } in v) (limit j k)) (tabulate (λ k. k) qualities), length-tabulate (λ k. k) qualities)
+    omega (
+      arith,
+      length-filter_map (λ k. option_map (λ u. let v : Limit = record { product = j; quality = k; limit = u } in v) (limit j k))
+          (tabulate (λ k. k) qualities),
+      length-tabulate (λ k. k) qualities,
+    )
 
 pub length-limits : (limit : ℕ → ℕ → Option ℤ) (products qualities : ℕ) → length (limits limit products qualities) ≤ products * qualities
 length-limits limit zero qualities = omega arith
 length-limits limit (suc j) qualities =
-    omega (arith, length-limits limit j qualities, ap length (ap (λ p. limits limit p qualities) (sym (add-one j)) ∙ limits-more limit qualities j), length-append (limits limit j qualities) (product_limits limit qualities j), length-product_limits limit qualities j)
+    omega (
+      arith,
+      length-limits limit j qualities,
+      ap length (ap (λ p. limits limit p qualities) (sym (add-one j)) ∙ limits-more limit qualities j),
+      length-append (limits limit j qualities) (product_limits limit qualities j),
+      length-product_limits limit qualities j,
+    )

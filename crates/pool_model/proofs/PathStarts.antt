@@ -147,7 +147,8 @@ simple-weights n e o l has way lt = elim (same_or_other (n.feed_pool e) l) [
       (λ f h at. simple-weight n e o f h ∙ chosen (n.feed_pool f) (n.feed_pool e) (alone e 1 f) (first_weight n f) (at ∙ sym same))
       ∙ sum_at-one n.feed_pool l e 1 n.feeds way.0 ∙ chosen {X = ℕ} (n.feed_pool e) l 1 0 same
   | inr other ↦
-      first_weights-one n (simple_plan n (through e o)) l has lt (λ f h at. simple-weight n e o f h ∙ passed (n.feed_pool f) (n.feed_pool e) (alone e 1 f) (first_weight n f) (λ is. other (sym is ∙ at)))
+      first_weights-one n (simple_plan n (through e o)) l has lt
+      (λ f h at. simple-weight n e o f h ∙ passed (n.feed_pool f) (n.feed_pool e) (alone e 1 f) (first_weight n f) (λ is. other (sym is ∙ at)))
 ]
 
 pub path-written : (n : Net) (e o : ℕ) → HasFeeds n → IsWay n (through e o) → IsWritten n (simple_plan n (through e o))
@@ -164,4 +165,5 @@ pub path-cost : (n : Net) (e o : ℕ) → IsLimited n → IsWay n (through e o)
     → cost_of n (plan_of n (simple_plan n (through e o))) ≡ (n.source_cost (n.feed_source e) -ℤ n.price (n.out_product o)) *ℤ pos (path_flow n e o)
 path-cost n e o lim way =
     let p = plan_of n (simple_plan n (through e o)) in
-    cost-ships n p (n.feed_source e) (n.out_product o) (path_flow n e o) (ships-path n p e o (path_flow n e o) (path-only n e o way (lim.feed_pools e way.0))) (lim.feed_sources e way.0) (lim.out_products o way.1)
+    cost-ships n p (n.feed_source e) (n.out_product o) (path_flow n e o)
+    (ships-path n p e o (path_flow n e o) (path-only n e o way (lim.feed_pools e way.0))) (lim.feed_sources e way.0) (lim.out_products o way.1)

@@ -21,7 +21,8 @@ record BeginsWith (n : Net) (e : ℕ) (p : Path) : Type 0 where
 feed_paths-each : (n : Net) (e : ℕ) → All (BeginsWith n e) (feed_paths n e)
 feed_paths-each n e =
     All-map (BeginsWith n e) (λ o. record { feed = e; out = o }) (numbers_at n.out_pool (n.feed_pool e) n.outs)
-    (All-weaker (λ o. (o < n.outs) × (n.out_pool o ≡ n.feed_pool e)) (λ o. BeginsWith n e record { feed = e; out = o }) (λ o h. record { feed = refl; out = h.0; joined = h.1 }) (numbers_at n.out_pool (n.feed_pool e) n.outs) (numbers_at-each n.out_pool (n.feed_pool e) n.outs))
+    (All-weaker (λ o. (o < n.outs) × (n.out_pool o ≡ n.feed_pool e)) (λ o. BeginsWith n e record { feed = e; out = o })
+    (λ o h. record { feed = refl; out = h.0; joined = h.1 }) (numbers_at n.out_pool (n.feed_pool e) n.outs) (numbers_at-each n.out_pool (n.feed_pool e) n.outs))
 
 -- a path through this pool
 record GoesThrough (n : Net) (l : ℕ) (p : Path) : Type 0 where
@@ -38,7 +39,8 @@ pool_paths-each : (n : Net) (l : ℕ) → All (GoesThrough n l) (pool_paths n l)
 pool_paths-each n l =
     All-flat_map (GoesThrough n l) (feed_paths n) (numbers_at n.feed_pool l n.feeds)
     (All-weaker (λ e. (e < n.feeds) × (n.feed_pool e ≡ l)) (λ e. All (GoesThrough n l) (feed_paths n e))
-    (λ e h. All-weaker (BeginsWith n e) (GoesThrough n l) (λ p b. begins_through n l e p h.0 h.1 b) (feed_paths n e) (feed_paths-each n e)) (numbers_at n.feed_pool l n.feeds) (numbers_at-each n.feed_pool l n.feeds))
+    (λ e h. All-weaker (BeginsWith n e) (GoesThrough n l) (λ p b. begins_through n l e p h.0 h.1 b) (feed_paths n e) (feed_paths-each n e))
+    (numbers_at n.feed_pool l n.feeds) (numbers_at-each n.feed_pool l n.feeds))
 
 -- a path through a pool below a number
 record GoesBelow (n : Net) (l : ℕ) (p : Path) : Type 0 where
@@ -63,12 +65,14 @@ path_at-way n a e o lt feed out =
 pool_paths-every : (n : Net) (e o : ℕ) → IsWay n (through e o) → Contains (pool_paths n (n.feed_pool e)) record { feed = e; out = o }
 pool_paths-every n e o way =
     Contains-flat_map (feed_paths n) (numbers_at n.feed_pool (n.feed_pool e) n.feeds) e record { feed = e; out = o } (numbers_at-every n.feed_pool (n.feed_pool e) n.feeds e way.0 refl)
-    (Contains-map (λ (i : ℕ). let p : Path = record { feed = e; out = i } in p) (numbers_at n.out_pool (n.feed_pool e) n.outs) o (numbers_at-every n.out_pool (n.feed_pool e) n.outs o way.1 (sym way.2)))
+    (Contains-map (λ (i : ℕ). let p : Path = record { feed = e; out = i } in p) (numbers_at n.out_pool (n.feed_pool e) n.outs) o
+    (numbers_at-every n.out_pool (n.feed_pool e) n.outs o way.1 (sym way.2)))
 
 paths_below-every : (n : Net) (l e o : ℕ) → IsWay n (through e o) → n.feed_pool e < l → Contains (paths_below n l) record { feed = e; out = o }
 paths_below-every n zero e o way lt = absurd (omega arith)
 paths_below-every n (suc l) e o way lt = elim (same_or_other (n.feed_pool e) l) [
-  | inl same ↦ Contains-append_right (paths_below n l) (pool_paths n l) record { feed = e; out = o } (subst (λ (k : ℕ). Contains (pool_paths n k) record { feed = e; out = o }) same (pool_paths-every n e o way))
+  | inl same ↦ Contains-append_right (paths_below n l) (pool_paths n l) record { feed = e; out = o }
+      (subst (λ (k : ℕ). Contains (pool_paths n k) record { feed = e; out = o }) same (pool_paths-every n e o way))
   | inr d ↦ Contains-append_left (paths_below n l) (pool_paths n l) record { feed = e; out = o } (paths_below-every n l e o way (omega arith))
 ]
 
@@ -84,18 +88,21 @@ path_at-every n e o way lt =
 feed_paths-rise : (n : Net) (e : ℕ) → AllPairs (ComesBefore n) (feed_paths n e)
 feed_paths-rise n e =
     AllPairs-map (ComesBefore n) (λ o. record { feed = e; out = o }) (numbers_at n.out_pool (n.feed_pool e) n.outs)
-    (AllPairs-weaker (λ i j. i < j) (λ i j. ComesBefore n record { feed = e; out = i } record { feed = e; out = j }) (numbers_at n.out_pool (n.feed_pool e) n.outs) (λ i j lt. inr (refl, inr (refl, lt))) (numbers_at-rise n.out_pool (n.feed_pool e) n.outs))
+    (AllPairs-weaker (λ i j. i < j) (λ i j. ComesBefore n record { feed = e; out = i } record { feed = e; out = j })
+    (numbers_at n.out_pool (n.feed_pool e) n.outs) (λ i j lt. inr (refl, inr (refl, lt))) (numbers_at-rise n.out_pool (n.feed_pool e) n.outs))
 
 -- two feeds of one pool
 later_feed : (n : Net) (l e f : ℕ) → n.feed_pool e ≡ l → n.feed_pool f ≡ l → e < f → All (λ p. All (ComesBefore n p) (feed_paths n f)) (feed_paths n e)
 later_feed n l e f at to lt =
     All-weaker (BeginsWith n e) (λ p. All (ComesBefore n p) (feed_paths n f))
-    (λ p b. All-weaker (BeginsWith n f) (ComesBefore n p) (λ q c. inr (ap n.feed_pool b.feed ∙ at ∙ sym (ap n.feed_pool c.feed ∙ to), inl (omega (arith, b.feed, c.feed)))) (feed_paths n f) (feed_paths-each n f))
+    (λ p b. All-weaker (BeginsWith n f) (ComesBefore n p)
+    (λ q c. inr (ap n.feed_pool b.feed ∙ at ∙ sym (ap n.feed_pool c.feed ∙ to), inl (omega (arith, b.feed, c.feed)))) (feed_paths n f) (feed_paths-each n f))
     (feed_paths n e) (feed_paths-each n e)
 
 pool_paths-rise : (n : Net) (l : ℕ) → AllPairs (ComesBefore n) (pool_paths n l)
 pool_paths-rise n l =
-    AllPairs-flat_map (λ e. (e < n.feeds) × (n.feed_pool e ≡ l)) (λ e f. e < f) (ComesBefore n) (feed_paths n) (numbers_at n.feed_pool l n.feeds) (numbers_at-each n.feed_pool l n.feeds) (numbers_at-rise n.feed_pool l n.feeds)
+    AllPairs-flat_map (λ e. (e < n.feeds) × (n.feed_pool e ≡ l)) (λ e f. e < f) (ComesBefore n) (feed_paths n) (numbers_at n.feed_pool l n.feeds)
+    (numbers_at-each n.feed_pool l n.feeds) (numbers_at-rise n.feed_pool l n.feeds)
     (λ e h. feed_paths-rise n e)
     (λ e f h k lt. later_feed n l e f h.1 k.1 lt)
 

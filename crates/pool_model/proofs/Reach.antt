@@ -109,7 +109,8 @@ out-margin : (n : Net) (o : ℕ) (a : ℤ) → o < n.outs → pool_cost n (n.out
 unfolding pool_price best
 out-margin n o a h e =
     let r : Reaches (pool_cost n (n.out_pool o)) a = subst (λ (w : Option ℤ). Reaches w a) (sym e) (omega (arith, additive)) in
-    let m : (n.price (n.out_product o) -ℤ a) ≤ℤ margin (reach_cost n (n.out_product o)) (n.price (n.out_product o)) = margin-earns (reach_cost n (n.out_product o)) (n.price (n.out_product o)) a (out-reaches n o a h r) in
+    let m : (n.price (n.out_product o) -ℤ a) ≤ℤ margin (reach_cost n (n.out_product o)) (n.price (n.out_product o)) =
+    margin-earns (reach_cost n (n.out_product o)) (n.price (n.out_product o)) a (out-reaches n o a h r) in
     let q : unwrap_or (pool_cost n (n.out_pool o)) (pos 0) ≡ a = ap (λ w. unwrap_or w (pos 0)) e in
     omega (arith, additive, m, q)
 
@@ -117,7 +118,8 @@ direct-margin : (n : Net) (e : ℕ) → e < n.directs
     → n.price (n.direct_product e) ≤ℤ (n.source_cost (n.direct_source e) +ℤ best n (n.direct_product e))
 unfolding best
 direct-margin n e h =
-    let m : (n.price (n.direct_product e) -ℤ n.source_cost (n.direct_source e)) ≤ℤ margin (reach_cost n (n.direct_product e)) (n.price (n.direct_product e)) = margin-earns (reach_cost n (n.direct_product e)) (n.price (n.direct_product e)) (n.source_cost (n.direct_source e)) (direct-reaches n e h) in
+    let m : (n.price (n.direct_product e) -ℤ n.source_cost (n.direct_source e)) ≤ℤ margin (reach_cost n (n.direct_product e))
+    (n.price (n.direct_product e)) = margin-earns (reach_cost n (n.direct_product e)) (n.price (n.direct_product e)) (n.source_cost (n.direct_source e)) (direct-reaches n e h) in
     omega (arith, additive, m)
 
 -- a flow times two costs in order
@@ -199,9 +201,11 @@ reach_bound-holds n lim p ob =
       two_kinds n.price n.out_product n.direct_product p.out p.direct n.products n.outs n.directs lim.out_products lim.direct_products,
       two_kinds (best n) n.out_product n.direct_product p.out p.direct n.products n.outs n.directs lim.out_products lim.direct_products,
       feeds-cost n p lim c,
-      int_sum_below-le (λ o. n.price (n.out_product o) *ℤ pos (p.out o)) (λ o. pool_price n (n.out_pool o) *ℤ pos (p.out o) +ℤ best n (n.out_product o) *ℤ pos (p.out o)) n.outs (λ o h. out-earns n p o lim c h),
+      int_sum_below-le (λ o. n.price (n.out_product o) *ℤ pos (p.out o))
+          (λ o. pool_price n (n.out_pool o) *ℤ pos (p.out o) +ℤ best n (n.out_product o) *ℤ pos (p.out o)) n.outs (λ o h. out-earns n p o lim c h),
       int_sum_below-add (λ o. pool_price n (n.out_pool o) *ℤ pos (p.out o)) (λ o. best n (n.out_product o) *ℤ pos (p.out o)) n.outs,
-      int_sum_below-le (λ e. n.price (n.direct_product e) *ℤ pos (p.direct e)) (λ e. n.source_cost (n.direct_source e) *ℤ pos (p.direct e) +ℤ best n (n.direct_product e) *ℤ pos (p.direct e)) n.directs (λ e h. direct-earns n p e h),
+      int_sum_below-le (λ e. n.price (n.direct_product e) *ℤ pos (p.direct e))
+          (λ e. n.source_cost (n.direct_source e) *ℤ pos (p.direct e) +ℤ best n (n.direct_product e) *ℤ pos (p.direct e)) n.directs (λ e h. direct-earns n p e h),
       int_sum_below-add (λ e. n.source_cost (n.direct_source e) *ℤ pos (p.direct e)) (λ e. best n (n.direct_product e) *ℤ pos (p.direct e)) n.directs,
       int_sum_below-le (λ j. best n j *ℤ pos (product_inflow n p j)) (λ j. pos (n.product_max j) *ℤ best n j *ℤ pos p.base) n.products (λ j h. product-earns n p j c h),
       int_sum_below-mul_right (λ j. pos (n.product_max j) *ℤ best n j) (pos p.base) n.products,

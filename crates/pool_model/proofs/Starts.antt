@@ -33,7 +33,8 @@ quality_inflow-only n p e t j k o =
       arith,
       additive,
       int_sum_at-nothing n.out_product j (λ i. pos (product_but (n.out_pool i) (factor n p) n.pools) *ℤ mix n p (n.out_pool i) k *ℤ pos (p.out i)) n.outs
-          (λ i lt. ap (λ z. pos (product_but (n.out_pool i) (factor n p) n.pools) *ℤ mix n p (n.out_pool i) k *ℤ pos z) (o.out i lt) ∙ *ℤ-zero (pos (product_but (n.out_pool i) (factor n p) n.pools) *ℤ mix n p (n.out_pool i) k)),
+          (λ i lt. ap (λ z. pos (product_but (n.out_pool i) (factor n p) n.pools) *ℤ mix n p (n.out_pool i) k *ℤ pos z) (o.out i lt)
+          ∙ *ℤ-zero (pos (product_but (n.out_pool i) (factor n p) n.pools) *ℤ mix n p (n.out_pool i) k)),
       ap (λ z. pos (product_below (factor n p) n.pools) *ℤ z)
           (int_sum_at-alone n.direct_product j (λ i. n.source_quality (n.direct_source i) k) p.direct e t n.directs o.there o.direct
           ∙ ap (λ z. n.source_quality (n.direct_source e) k *ℤ pos z) (sym (product_inflow-only n p e t j o))),
@@ -70,7 +71,9 @@ pub zero-obeys : (n : Net) → HasNoMinima n → Obeys n (plan_of n (zero_plan n
 zero-obeys n m = record {
   denominator = omega arith;
   carries = carries-only n (plan_of n (zero_plan n)) 0 0 (zero-only n) (meets-nothing n (n.direct_product 0) m) (omega arith) (omega arith);
-  blends = blends-ships n (plan_of n (zero_plan n)) (n.direct_source 0) (n.direct_product 0) 0 (ships-only n (plan_of n (zero_plan n)) 0 0 (zero-only n)) (record { most = λ k u lk is. le-none_or (n.source_quality (n.direct_source 0) k) u 0 refl; least = λ k u lk is. le-none_or u (n.source_quality (n.direct_source 0) k) 0 refl });
+  blends = blends-ships n (plan_of n (zero_plan n)) (n.direct_source 0) (n.direct_product 0) 0
+      (ships-only n (plan_of n (zero_plan n)) 0 0 (zero-only n))
+      (record { most = λ k u lk is. le-none_or (n.source_quality (n.direct_source 0) k) u 0 refl; least = λ k u lk is. le-none_or u (n.source_quality (n.direct_source 0) k) 0 refl });
 }
 
 pub zero-minima : (n : Net) → Obeys n (plan_of n (zero_plan n)) → HasNoMinima n
@@ -82,8 +85,10 @@ zero-cost n =
     omega (
       arith,
       additive,
-      int_sum_below-nothing (λ i. n.source_cost i *ℤ pos (source_outflow n p i)) n.sources (λ i lt. ap (λ z. n.source_cost i *ℤ pos z) (source_outflow-only n p 0 0 i (zero-only n) ∙ none_either (n.direct_source 0 == i) 0 refl) ∙ *ℤ-zero (n.source_cost i)),
-      int_sum_below-nothing (λ j. n.price j *ℤ pos (product_inflow n p j)) n.products (λ j lt. ap (λ z. n.price j *ℤ pos z) (product_inflow-only n p 0 0 j (zero-only n) ∙ none_either (n.direct_product 0 == j) 0 refl) ∙ *ℤ-zero (n.price j)),
+      int_sum_below-nothing (λ i. n.source_cost i *ℤ pos (source_outflow n p i)) n.sources
+          (λ i lt. ap (λ z. n.source_cost i *ℤ pos z) (source_outflow-only n p 0 0 i (zero-only n) ∙ none_either (n.direct_source 0 == i) 0 refl) ∙ *ℤ-zero (n.source_cost i)),
+      int_sum_below-nothing (λ j. n.price j *ℤ pos (product_inflow n p j)) n.products
+          (λ j lt. ap (λ z. n.price j *ℤ pos z) (product_inflow-only n p 0 0 j (zero-only n) ∙ none_either (n.direct_product 0 == j) 0 refl) ∙ *ℤ-zero (n.price j)),
     )
   where
     p : Plan
@@ -94,7 +99,13 @@ zero-cost n =
 pub first_weights : (n : Net) (l m : ℕ) → sum_at n.feed_pool l (first_weight n) m ≡ min 1 (sum_at n.feed_pool l (λ _. 1) m)
 first_weights n l zero = refl
 first_weights n l (suc m) = elim (same_or_other (n.feed_pool m) l) [
-  | inl e ↦ omega (arith, first_weights n l m, chosen (n.feed_pool m) l (first_weight n m) 0 e, chosen {X = ℕ} (n.feed_pool m) l 1 0 e, first_or_later (feeds_before n m) (sum_at n.feed_pool l (λ _. 1) m) (ap (λ k. sum_at n.feed_pool k (λ _. 1) m) e))
+  | inl e ↦ omega (
+    arith,
+    first_weights n l m,
+    chosen (n.feed_pool m) l (first_weight n m) 0 e,
+    chosen {X = ℕ} (n.feed_pool m) l 1 0 e,
+    first_or_later (feeds_before n m) (sum_at n.feed_pool l (λ _. 1) m) (ap (λ k. sum_at n.feed_pool k (λ _. 1) m) e),
+  )
   | inr d ↦ omega (arith, first_weights n l m, passed (n.feed_pool m) l (first_weight n m) 0 d, passed {X = ℕ} (n.feed_pool m) l 1 0 d)
 ]
   where
@@ -104,7 +115,8 @@ first_weights n l (suc m) = elim (same_or_other (n.feed_pool m) l) [
       | inr d ↦ omega (arith, passed {X = ℕ} before 0 1 0 d)
     ]
 
-pub first_weights-one : (n : Net) (w : Written) (l : ℕ) → HasFeeds n → l < n.pools → ((e : ℕ) → e < n.feeds → n.feed_pool e ≡ l → weight w e ≡ first_weight n e) → sum_at n.feed_pool l (weight w) n.feeds ≡ 1
+pub first_weights-one : (n : Net) (w : Written) (l : ℕ) → HasFeeds n → l < n.pools
+    → ((e : ℕ) → e < n.feeds → n.feed_pool e ≡ l → weight w e ≡ first_weight n e) → sum_at n.feed_pool l (weight w) n.feeds ≡ 1
 first_weights-one n w l has lt is =
     let f = has l lt in
     sum_at-same_key n.feed_pool l (weight w) (first_weight n) n.feeds is
@@ -125,7 +137,8 @@ direct-only : (n : Net) (e : ℕ) → e < n.directs → OnlyDirect n (plan_of n 
 direct-only n e h = record {
   base = refl;
   there = inl h;
-  feed = λ i lt. ap (λ z. weight (simple_plan n (straight e)) i * z) (sum_at-nothing n.out_pool (n.feed_pool i) (written_out (simple_plan n (straight e))) n.outs (λ o ho. get_or-nothing n.outs o)) ∙ omega arith;
+  feed = λ i lt. ap (λ z. weight (simple_plan n (straight e)) i * z)
+      (sum_at-nothing n.out_pool (n.feed_pool i) (written_out (simple_plan n (straight e))) n.outs (λ o ho. get_or-nothing n.outs o)) ∙ omega arith;
   out = λ i lt. ap (λ z. 1 * z) (get_or-nothing n.outs i);
   direct = λ i lt. ap (λ z. 1 * z) (get_or-tabulate (alone e (direct_flow n e)) n.directs i 0 lt) ∙ omega arith;
 }
@@ -137,7 +150,9 @@ direct-obeys n e m h =
     let j = n.direct_product e in
     record {
       denominator = omega arith;
-      carries = carries-only n p e (direct_flow n e) (direct-only n e h) m (flow-le (suits n i j) (min (n.source_max i) (n.product_max j)) (n.source_max i) (omega arith)) (flow-le (suits n i j) (min (n.source_max i) (n.product_max j)) (n.product_max j) (omega arith));
+      carries = carries-only n p e (direct_flow n e) (direct-only n e h) m
+          (flow-le (suits n i j) (min (n.source_max i) (n.product_max j)) (n.source_max i) (omega arith))
+          (flow-le (suits n i j) (min (n.source_max i) (n.product_max j)) (n.product_max j) (omega arith));
       blends = blends-ships n p i j (direct_flow n e) (ships-only n p e (direct_flow n e) (direct-only n e h)) (flow-suits n i j (min (n.source_max i) (n.product_max j)));
     }
 
@@ -158,4 +173,6 @@ direct-written n e has h = record {
 
 pub direct-cost : (n : Net) (e : ℕ) → IsLimited n → e < n.directs
     → cost_of n (plan_of n (simple_plan n (straight e))) ≡ (n.source_cost (n.direct_source e) -ℤ n.price (n.direct_product e)) *ℤ pos (direct_flow n e)
-direct-cost n e lim h = cost-ships n (plan_of n (simple_plan n (straight e))) (n.direct_source e) (n.direct_product e) (direct_flow n e) (ships-only n (plan_of n (simple_plan n (straight e))) e (direct_flow n e) (direct-only n e h)) (lim.direct_sources e h) (lim.direct_products e h)
+direct-cost n e lim h =
+    cost-ships n (plan_of n (simple_plan n (straight e))) (n.direct_source e) (n.direct_product e) (direct_flow n e)
+    (ships-only n (plan_of n (simple_plan n (straight e))) e (direct_flow n e) (direct-only n e h)) (lim.direct_sources e h) (lim.direct_products e h)

@@ -1,5 +1,6 @@
 -- Which texts stand for a quantity in millionths, and for which number.
-use Rattle.std.specs.Prelude.{◌≡◌, ◌≤◌, ◌<◌, ◌^◌, ◌+◌, ◌-◌, ◌*◌, ◌/◌, ◌%◌, ◌-ℤ◌, unsigned_abs, int_lt, zero, suc, decimal, ◌++◌, ◌&&◌, ◌==◌, ℕ, ℤ, pos, List, [], ◌∷◌, length, drop, take, fold, Bool, true, false, nat_lt, nat_le, if◌then◌else◌, Option, Some, None, option_map}
+use Rattle.std.specs.Prelude.{◌≡◌, ◌≤◌, ◌<◌, ◌^◌, ◌+◌, ◌-◌, ◌*◌, ◌/◌, ◌%◌, ◌-ℤ◌, unsigned_abs, int_lt, zero, suc, decimal, ◌++◌, ◌&&◌, ◌==◌, ℕ}
+use Rattle.std.specs.Prelude.{ℤ, pos, List, [], ◌∷◌, length, drop, take, fold, Bool, true, false, nat_lt, nat_le, if◌then◌else◌, Option, Some, None, option_map}
 use Rattle.std.specs.List.{list_all, prefix_len}
 use Rattle.std.specs.Char.{is_ascii_digit}
 

@@ -52,7 +52,8 @@ haverly cost = record {
   qualities = codes "sulfur" ∷ [];
   sources = source_row (codes "A") (pos 6000000) None (pos 3000000 ∷ []) ∷ source_row (codes "B") cost None (pos 1000000 ∷ []) ∷ source_row (codes "C") (pos 10000000) None (pos 2000000 ∷ []) ∷ [];
   pools = pool_row (codes "P") ∷ [];
-  products = product_row (codes "X") (pos 9000000) (pos 100000000) (None ∷ []) (Some (pos 2500000) ∷ []) ∷ product_row (codes "Y") (pos 15000000) (pos 200000000) (None ∷ []) (Some (pos 1500000) ∷ []) ∷ [];
+  products = product_row (codes "X") (pos 9000000) (pos 100000000) (None ∷ []) (Some (pos 2500000) ∷ []) ∷ product_row (codes "Y") (pos 15000000)
+      (pos 200000000) (None ∷ []) (Some (pos 1500000) ∷ []) ∷ [];
   arcs = (codes "A", codes "P") ∷ (codes "B", codes "P") ∷ (codes "P", codes "X") ∷ (codes "P", codes "Y") ∷ (codes "C", codes "X") ∷ (codes "C", codes "Y") ∷ [];
 }
 
@@ -92,9 +93,11 @@ two_products = record {
 abbrev pub wastewater : Rows
 wastewater = record {
   qualities = codes "load" ∷ [];
-  sources = source_row (codes "W1") (pos 1000000) (Some (pos 40000000)) (pos 120000000 ∷ []) ∷ source_row (codes "W2") (pos 0) (Some (pos 60000000)) (pos 30000000 ∷ []) ∷ source_row (codes "fresh") (pos 350000) None (pos 0 ∷ []) ∷ [];
+  sources = source_row (codes "W1") (pos 1000000) (Some (pos 40000000)) (pos 120000000 ∷ []) ∷ source_row (codes "W2") (pos 0) (Some (pos 60000000))
+      (pos 30000000 ∷ []) ∷ source_row (codes "fresh") (pos 350000) None (pos 0 ∷ []) ∷ [];
   pools = pool_row (codes "basin 1") ∷ pool_row (codes "basin 2") ∷ [];
-  products = product_row (codes "river") (pos 3000000) (pos 80000000) (None ∷ []) (Some (pos 50000000) ∷ []) ∷ product_row (codes "sewer") (pos 1000000) (pos 100000000) (None ∷ []) (Some (pos 90000000) ∷ []) ∷ [];
+  products = product_row (codes "river") (pos 3000000) (pos 80000000) (None ∷ []) (Some (pos 50000000) ∷ []) ∷ product_row (codes "sewer")
+      (pos 1000000) (pos 100000000) (None ∷ []) (Some (pos 90000000) ∷ []) ∷ [];
   arcs = (codes "W1", codes "basin 1") ∷ (codes "W2", codes "basin 1") ∷ (codes "W2", codes "basin 2") ∷ (codes "fresh", codes "basin 2")
       ∷ (codes "basin 1", codes "river") ∷ (codes "basin 1", codes "sewer") ∷ (codes "basin 2", codes "river") ∷ (codes "basin 2", codes "sewer") ∷ (codes "fresh", codes "river") ∷ [];
 }

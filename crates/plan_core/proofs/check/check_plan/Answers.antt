@@ -8,11 +8,13 @@ use Rattle.plan_core.proofs.check.check_plan.Goals as goal
 
 pub check_qualities-requires-clause-room : goal.check_qualities-requires-clause-room
 check_qualities-requires-clause-room c =
-    room_of (net_of c.args.net.now) (shown_plan c.args.plan.now) c.check_shape.ensures.limited c.in_ok-check_shape.ensures.shaped c.in_ok-check_weight_sums.ensures.keeps c.in_ok-check_maxima.ensures.keeps
+    room_of (net_of c.args.net.now)
+    (shown_plan c.args.plan.now) c.check_shape.ensures.limited c.in_ok-check_shape.ensures.shaped c.in_ok-check_weight_sums.ensures.keeps c.in_ok-check_maxima.ensures.keeps
 
 pub cost-requires-clause-room : goal.cost-requires-clause-room
 cost-requires-clause-room c =
-    room_of (net_of c.args.net.now) (shown_plan c.args.plan.now) c.check_shape.ensures.limited c.in_ok-check_shape.ensures.shaped c.in_ok-check_weight_sums.ensures.keeps c.in_ok-check_maxima.ensures.keeps
+    room_of (net_of c.args.net.now)
+    (shown_plan c.args.plan.now) c.check_shape.ensures.limited c.in_ok-check_shape.ensures.shaped c.in_ok-check_weight_sums.ensures.keeps c.in_ok-check_maxima.ensures.keeps
 
 pub returns-in_err-check_qualities-clause-fault : goal.returns-in_err-check_qualities-clause-fault
 returns-in_err-check_qualities-clause-fault c =

@@ -11,7 +11,8 @@ returns-in-Some-clause-first c =
     let among : j < n.products = subst (λ (xs : List ℕ). j < get_or xs 2 0) c.counts.ensures.counts c.loop-product-test.true in
     inl (record {
       product = j;
-      quality = first_over n (shown_plan c.args.plan.now) j (get_or c.args.inflows.now j 0) c.qualities-sums.result c.counts.ensures.limited c.requires.shaped among (c.requires.inflows j among) c.qualities-sums.ensures
+      quality = first_over n (shown_plan c.args.plan.now) j
+          (get_or c.args.inflows.now j 0) c.qualities-sums.result c.counts.ensures.limited c.requires.shaped among (c.requires.inflows j among) c.qualities-sums.ensures
           c.in-Some.quality c.in-Some.ensures;
       first = c.loop-product.invariant;
     })
@@ -22,7 +23,8 @@ loop-product-preserved c =
     let j = c.loop-product.product in
     let among : j < n.products = subst (λ (xs : List ℕ). j < get_or xs 2 0) c.counts.ensures.counts c.loop-product-test.true in
     below_more _ _ c.loop-product.invariant
-    (none_over n (shown_plan c.args.plan.now) j (get_or c.args.inflows.now j 0) c.qualities-sums.result c.counts.ensures.limited c.requires.shaped among (c.requires.inflows j among) c.qualities-sums.ensures c.in_default.ensures)
+    (none_over n (shown_plan c.args.plan.now) j
+    (get_or c.args.inflows.now j 0) c.qualities-sums.result c.counts.ensures.limited c.requires.shaped among (c.requires.inflows j among) c.qualities-sums.ensures c.in_default.ensures)
 
 pub returns-in-Some-first_below-clause-first : goal.returns-in-Some-first_below-clause-first
 returns-in-Some-first_below-clause-first c =
@@ -34,7 +36,8 @@ returns-in-Some-first_below-clause-first c =
       all_over n (shown_plan c.args.plan.now) c.loop-product.product done c.loop-product.invariant,
       record {
         product = j;
-        quality = first_under n (shown_plan c.args.plan.now) j (get_or c.args.inflows.now j 0) c.qualities-sums.result c.counts.ensures.limited c.requires.shaped among (c.requires.inflows j among) c.qualities-sums.ensures
+        quality = first_under n (shown_plan c.args.plan.now) j
+            (get_or c.args.inflows.now j 0) c.qualities-sums.result c.counts.ensures.limited c.requires.shaped among (c.requires.inflows j among) c.qualities-sums.ensures
             c.in-Some-first_below.quality c.in-Some-first_below.ensures;
         first = c.loop-product-2.invariant;
       },
@@ -46,7 +49,8 @@ loop-product-2-preserved c =
     let j = c.loop-product-2.product in
     let among : j < n.products = subst (λ (xs : List ℕ). j < get_or xs 2 0) c.counts.ensures.counts c.loop-product-2-test.true in
     below_more _ _ c.loop-product-2.invariant
-    (none_under n (shown_plan c.args.plan.now) j (get_or c.args.inflows.now j 0) c.qualities-sums.result c.counts.ensures.limited c.requires.shaped among (c.requires.inflows j among) c.qualities-sums.ensures c.in_default-first_below.ensures)
+    (none_under n (shown_plan c.args.plan.now) j
+    (get_or c.args.inflows.now j 0) c.qualities-sums.result c.counts.ensures.limited c.requires.shaped among (c.requires.inflows j among) c.qualities-sums.ensures c.in_default-first_below.ensures)
 
 pub returns-clause-keeps_most : goal.returns-clause-keeps_most
 returns-clause-keeps_most c =

@@ -31,8 +31,10 @@ overflow_add-total c =
     let among : i < n.sources = subst (λ (xs : List ℕ). i < get_or xs 0 0) c.counts.ensures.counts c.loop-source-test.true in
     let within = c.counts.ensures.limited.source_costs i among in
     let narrow : FitsSigned w64 c.source_cost.result = search rules in
-    let part = priced_is c.from.result (n.source_cost i) c.weighted-total.result (flow i) (widened c.source_cost.result c.from.result (n.source_cost i) narrow c.from.ensures c.source_cost.ensures.value) within c.weighted-total.ensures.value in
-    total_fits flow i n.sources (to_z w128 c.loop-source.total-bits) (to_z w128 c.loop-source.total-bits) c.weighted-total.result (n.source_cost i) among c.requires c.loop-source.invariant.size refl part within
+    let part = priced_is c.from.result (n.source_cost i) c.weighted-total.result (flow i)
+    (widened c.source_cost.result c.from.result (n.source_cost i) narrow c.from.ensures c.source_cost.ensures.value) within c.weighted-total.ensures.value in
+    total_fits flow i n.sources (to_z w128 c.loop-source.total-bits) (to_z w128 c.loop-source.total-bits) c.weighted-total.result
+    (n.source_cost i) among c.requires c.loop-source.invariant.size refl part within
 
 pub loop-source-preserved : goal.loop-source-preserved
 loop-source-preserved c =
@@ -42,13 +44,19 @@ loop-source-preserved c =
     let among : i < n.sources = subst (λ (xs : List ℕ). i < get_or xs 0 0) c.counts.ensures.counts c.loop-source-test.true in
     let within = c.counts.ensures.limited.source_costs i among in
     let narrow : FitsSigned w64 c.source_cost.result = search rules in
-    let part = priced_is c.from.result (n.source_cost i) c.weighted-total.result (flow i) (widened c.source_cost.result c.from.result (n.source_cost i) narrow c.from.ensures c.source_cost.ensures.value) within c.weighted-total.ensures.value in
-    let more = total_more n.source_cost flow i n.sources (to_z w128 c.loop-source.total-bits) (to_z w128 c.loop-source.total-bits) c.weighted-total.result among c.requires c.loop-source.invariant.sum c.loop-source.invariant.size refl part within in
+    let part = priced_is c.from.result (n.source_cost i) c.weighted-total.result (flow i)
+    (widened c.source_cost.result c.from.result (n.source_cost i) narrow c.from.ensures c.source_cost.ensures.value) within c.weighted-total.ensures.value in
+    let more = total_more n.source_cost flow i n.sources (to_z w128 c.loop-source.total-bits)
+    (to_z w128 c.loop-source.total-bits) c.weighted-total.result among c.requires c.loop-source.invariant.sum c.loop-source.invariant.size refl part within in
     record { sum = more.sum; size = more.size }
 
 pub returns-clause-size : goal.returns-clause-size
 returns-clause-size c =
     let n = net_of c.args.net.now in
     let all : c.loop-source.source ≡ n.sources =
-    omega (arith, subst (λ (xs : List ℕ). get_or xs 0 0 ≤ c.loop-source.source) c.counts.ensures.counts c.loop-source-test.false, subst (λ (xs : List ℕ). c.loop-source.source ≤ get_or xs 0 0) c.counts.ensures.counts c.loop-source.auto.source-end) in
+    omega (
+      arith,
+      subst (λ (xs : List ℕ). get_or xs 0 0 ≤ c.loop-source.source) c.counts.ensures.counts c.loop-source-test.false,
+      subst (λ (xs : List ℕ). c.loop-source.source ≤ get_or xs 0 0) c.counts.ensures.counts c.loop-source.auto.source-end,
+    ) in
     omega (arith, c.loop-source.invariant.size, c.requires, ap (sum_below (λ i. get_or c.args.outflows.now i 0)) all)

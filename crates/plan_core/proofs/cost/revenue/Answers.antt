@@ -31,8 +31,10 @@ overflow_add-total c =
     let among : i < n.products = subst (λ (xs : List ℕ). i < get_or xs 2 0) c.counts.ensures.counts c.loop-product-test.true in
     let within = c.counts.ensures.limited.prices i among in
     let narrow : FitsSigned w64 c.product_price.result = search rules in
-    let part = priced_is c.from.result (n.price i) c.weighted-total.result (flow i) (widened c.product_price.result c.from.result (n.price i) narrow c.from.ensures c.product_price.ensures.value) within c.weighted-total.ensures.value in
-    total_fits flow i n.products (to_z w128 c.loop-product.total-bits) (to_z w128 c.loop-product.total-bits) c.weighted-total.result (n.price i) among c.requires c.loop-product.invariant.size refl part within
+    let part = priced_is c.from.result (n.price i) c.weighted-total.result (flow i)
+    (widened c.product_price.result c.from.result (n.price i) narrow c.from.ensures c.product_price.ensures.value) within c.weighted-total.ensures.value in
+    total_fits flow i n.products (to_z w128 c.loop-product.total-bits) (to_z w128 c.loop-product.total-bits) c.weighted-total.result
+    (n.price i) among c.requires c.loop-product.invariant.size refl part within
 
 pub loop-product-preserved : goal.loop-product-preserved
 loop-product-preserved c =
@@ -42,13 +44,19 @@ loop-product-preserved c =
     let among : i < n.products = subst (λ (xs : List ℕ). i < get_or xs 2 0) c.counts.ensures.counts c.loop-product-test.true in
     let within = c.counts.ensures.limited.prices i among in
     let narrow : FitsSigned w64 c.product_price.result = search rules in
-    let part = priced_is c.from.result (n.price i) c.weighted-total.result (flow i) (widened c.product_price.result c.from.result (n.price i) narrow c.from.ensures c.product_price.ensures.value) within c.weighted-total.ensures.value in
-    let more = total_more n.price flow i n.products (to_z w128 c.loop-product.total-bits) (to_z w128 c.loop-product.total-bits) c.weighted-total.result among c.requires c.loop-product.invariant.sum c.loop-product.invariant.size refl part within in
+    let part = priced_is c.from.result (n.price i) c.weighted-total.result (flow i)
+    (widened c.product_price.result c.from.result (n.price i) narrow c.from.ensures c.product_price.ensures.value) within c.weighted-total.ensures.value in
+    let more = total_more n.price flow i n.products (to_z w128 c.loop-product.total-bits)
+    (to_z w128 c.loop-product.total-bits) c.weighted-total.result among c.requires c.loop-product.invariant.sum c.loop-product.invariant.size refl part within in
     record { sum = more.sum; size = more.size }
 
 pub returns-clause-size : goal.returns-clause-size
 returns-clause-size c =
     let n = net_of c.args.net.now in
     let all : c.loop-product.product ≡ n.products =
-    omega (arith, subst (λ (xs : List ℕ). get_or xs 2 0 ≤ c.loop-product.product) c.counts.ensures.counts c.loop-product-test.false, subst (λ (xs : List ℕ). c.loop-product.product ≤ get_or xs 2 0) c.counts.ensures.counts c.loop-product.auto.product-end) in
+    omega (
+      arith,
+      subst (λ (xs : List ℕ). get_or xs 2 0 ≤ c.loop-product.product) c.counts.ensures.counts c.loop-product-test.false,
+      subst (λ (xs : List ℕ). c.loop-product.product ≤ get_or xs 2 0) c.counts.ensures.counts c.loop-product.auto.product-end,
+    ) in
     omega (arith, c.loop-product.invariant.size, c.requires, ap (sum_below (λ i. get_or c.args.inflows.now i 0)) all)

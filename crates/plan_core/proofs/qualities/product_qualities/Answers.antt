@@ -78,7 +78,8 @@ overflow_add-sums-in-loop-direct c =
     let n = net_of c.args.net.now in
     let limited = c.counts.ensures.limited in
     let among : c.loop-direct.direct < n.directs = subst (λ (xs : List ℕ). c.loop-direct.direct < get_or xs 6 0) c.counts.ensures.counts c.loop-direct-test.true in
-    wide_fits (get_or c.loop-direct.sums c.direct-source.result.1 (pos 0)) c.weighted-in-loop-direct.result (2 ^ 113 * 256 + 2 ^ 113 * c.loop-direct.direct) (c.loop-direct.invariant.size c.direct-source.result.1)
+    wide_fits (get_or c.loop-direct.sums c.direct-source.result.1 (pos 0)) c.weighted-in-loop-direct.result
+    (2 ^ 113 * 256 + 2 ^ 113 * c.loop-direct.direct) (c.loop-direct.invariant.size c.direct-source.result.1)
     (omega (arith, limited.directs)) (omega (arith, (this_direct c).size))
 
 pub loop-direct-preserved : goal.loop-direct-preserved
@@ -94,10 +95,12 @@ loop-direct-preserved c =
     let among : arc < n.directs = subst (λ (xs : List ℕ). arc < get_or xs 6 0) c.counts.ensures.counts c.loop-direct-test.true in
     let within : at < length table = omega (arith, c.direct-source.ensures.product, limited.direct_products arc among, limited.products, c.loop-direct.invariant.long) in
     let part = this_direct c in
-    let new = wide_sum (get_or table at (pos 0)) c.weighted-in-loop-direct.result (2 ^ 113 * 256 + 2 ^ 113 * arc) (c.loop-direct.invariant.size at) (omega (arith, limited.directs)) (omega (arith, part.size)) in
+    let new = wide_sum (get_or table at (pos 0)) c.weighted-in-loop-direct.result (2 ^ 113 * 256 + 2 ^ 113 * arc) (c.loop-direct.invariant.size at)
+    (omega (arith, limited.directs)) (omega (arith, part.size)) in
     record {
       long = length-set table at _ ∙ c.loop-direct.invariant.long;
-      exact = int_added n.direct_product term through arc at n.products _ table within c.direct-source.ensures.product c.loop-direct.invariant.exact (new ∙ ap (λ z. get_or table at (pos 0) +ℤ z) part.exact);
+      exact = int_added n.direct_product term through arc at n.products _ table within c.direct-source.ensures.product c.loop-direct.invariant.exact
+          (new ∙ ap (λ z. get_or table at (pos 0) +ℤ z) part.exact);
       size = λ i. omega (arith, int_added_size at (2 ^ 113 * 256 + 2 ^ 113 * arc) (2 ^ 113) _ c.weighted-in-loop-direct.result table within c.loop-direct.invariant.size new part.size i);
     }
 
@@ -106,5 +109,10 @@ returns c =
     let n = net_of c.args.net.now in
     let w = shown_plan c.args.plan.now in
     let all : c.loop-direct.direct ≡ n.directs =
-    omega (arith, c.loop-direct.auto.direct-end, subst (λ (xs : List ℕ). get_or xs 6 0 ≤ c.loop-direct.direct) c.counts.ensures.counts c.loop-direct-test.false, subst (λ (xs : List ℕ). c.loop-direct.direct ≤ get_or xs 6 0) c.counts.ensures.counts c.loop-direct.auto.direct-end) in
+    omega (
+      arith,
+      c.loop-direct.auto.direct-end,
+      subst (λ (xs : List ℕ). get_or xs 6 0 ≤ c.loop-direct.direct) c.counts.ensures.counts c.loop-direct-test.false,
+      subst (λ (xs : List ℕ). c.loop-direct.direct ≤ get_or xs 6 0) c.counts.ensures.counts c.loop-direct.auto.direct-end,
+    ) in
     rw all at c.loop-direct.invariant.exact

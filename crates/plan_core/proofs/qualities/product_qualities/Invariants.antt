@@ -19,6 +19,7 @@ invariant-loop-direct l = record {
   long : length l.sums ≡ 64;
   exact : (j : ℕ) → j < (net_of l.net).products → get_or l.sums j (pos 0)
       ≡ int_sum_at (net_of l.net).out_product j (λ o. weighed (net_of l.net) (shown_plan l.plan) ((net_of l.net).out_pool o) l.quality *ℤ pos (written_out (shown_plan l.plan) o)) (net_of l.net).outs
-      +ℤ int_sum_at (net_of l.net).direct_product j (λ e. (net_of l.net).source_quality ((net_of l.net).direct_source e) l.quality *ℤ pos ((plan_of (net_of l.net) (shown_plan l.plan)).direct e)) l.direct;
+      +ℤ int_sum_at (net_of l.net).direct_product j
+      (λ e. (net_of l.net).source_quality ((net_of l.net).direct_source e) l.quality *ℤ pos ((plan_of (net_of l.net) (shown_plan l.plan)).direct e)) l.direct;
   size : (j : ℕ) → unsigned_abs (get_or l.sums j (pos 0)) ≤ 2 ^ 113 * 256 + 2 ^ 113 * l.direct;
 }

@@ -19,5 +19,8 @@ loop-out-preserved c =
     record {
       long = length-set flows at _ ∙ c.loop-out.invariant.long;
       exact = added_first n.out_pool (written_out w) out at _ n.pools flows within c.out-pool.ensures.pool c.loop-out.invariant.exact (ap (λ z. get_or flows at 0 + z) flow);
-      size = λ i. omega (arith, added_size at (get_or flows at 0 + c.from.result) _ (2 ^ 64) c.from.result flows within c.loop-out.invariant.size (omega arith) (omega (arith, c.from.ensures, c.outflow.type_inv)) i);
+      size = λ i. omega (
+        arith,
+        added_size at (get_or flows at 0 + c.from.result) _ (2 ^ 64) c.from.result flows within c.loop-out.invariant.size (omega arith) (omega (arith, c.from.ensures, c.outflow.type_inv)) i,
+      );
     }

@@ -23,7 +23,11 @@ loop-out-preserved c =
     record {
       long = length-set table at _ ∙ c.loop-out.invariant.long;
       exact = added_first n.out_product ((plan_of n w).out) arc at _ n.products table within c.out-product.ensures.product c.loop-out.invariant.exact (ap (λ z. get_or table at 0 + z) flow);
-      size = λ i. omega (arith, added_size at (get_or table at 0 + c.whole_outflow.result) (2 ^ 96 * arc) (2 ^ 96) c.whole_outflow.result table within c.loop-out.invariant.size (omega arith) (omega (arith, c.whole_outflow.ensures.size)) i);
+      size = λ i. omega (
+        arith,
+        added_size at (get_or table at 0 + c.whole_outflow.result) (2 ^ 96 * arc)
+            (2 ^ 96) c.whole_outflow.result table within c.loop-out.invariant.size (omega arith) (omega (arith, c.whole_outflow.ensures.size)) i,
+      );
     }
 
 pub loop-direct-preserved : goal.loop-direct-preserved
@@ -39,6 +43,11 @@ loop-direct-preserved c =
     let flow : c.whole_direct.result ≡ (plan_of n w).direct arc = c.whole_direct.ensures.flow in
     record {
       long = length-set table at _ ∙ c.loop-direct.invariant.long;
-      exact = added n.direct_product ((plan_of n w).direct) (λ j. sum_at n.out_product j (plan_of n w).out n.outs) arc at _ n.products table within c.direct-product.ensures.product c.loop-direct.invariant.exact (ap (λ z. get_or table at 0 + z) flow);
-      size = λ i. omega (arith, added_size at (get_or table at 0 + c.whole_direct.result) (2 ^ 96 * 256 + 2 ^ 96 * arc) (2 ^ 96) c.whole_direct.result table within c.loop-direct.invariant.size (omega arith) (omega (arith, c.whole_direct.ensures.size)) i);
+      exact = added n.direct_product ((plan_of n w).direct)
+          (λ j. sum_at n.out_product j (plan_of n w).out n.outs) arc at _ n.products table within c.direct-product.ensures.product c.loop-direct.invariant.exact (ap (λ z. get_or table at 0 + z) flow);
+      size = λ i. omega (
+        arith,
+        added_size at (get_or table at 0 + c.whole_direct.result) (2 ^ 96 * 256 + 2 ^ 96 * arc)
+            (2 ^ 96) c.whole_direct.result table within c.loop-direct.invariant.size (omega arith) (omega (arith, c.whole_direct.ensures.size)) i,
+      );
     }

@@ -19,5 +19,9 @@ loop-feed-preserved c =
     record {
       long = length-set table at _ ∙ c.loop-feed.invariant.long;
       exact = added_first n.feed_pool (weight w) arc at _ n.pools table within c.feed-pool.ensures.pool c.loop-feed.invariant.exact (ap (λ z. get_or table at 0 + z) flow);
-      size = λ i. omega (arith, added_size at (get_or table at 0 + c.from.result) (2 ^ 32 * arc) (2 ^ 32) c.from.result table within c.loop-feed.invariant.size (omega arith) (omega (arith, c.from.ensures, c.weight.type_inv)) i);
+      size = λ i. omega (
+        arith,
+        added_size at (get_or table at 0 + c.from.result) (2 ^ 32 * arc) (2 ^ 32) c.from.result table within c.loop-feed.invariant.size
+            (omega arith) (omega (arith, c.from.ensures, c.weight.type_inv)) i,
+      );
     }

@@ -10,7 +10,11 @@ pub returns-then-num-gt-MOST-clause-wide : goal.returns-then-num-gt-MOST-clause-
 returns-then-num-gt-MOST-clause-wide c = (
   refl,
   LeavesRange-signed c.args.negative c.args.num c.args.den c.requires.lowest
-      (elim c.then-num-gt-MOST.branch [ then-num-gt-MOST-via-then-num-gt-MOST w ↦ (λ p q. absurd (omega arith)) | then-num-gt-MOST-via-else-num-gt-MOST+then-den-gt-MOST w ↦ (λ p q. absurd (omega arith)) ]),
+      (elim c.then-num-gt-MOST.branch [
+        | then-num-gt-MOST-via-then-num-gt-MOST w ↦
+            (λ p q. absurd (omega arith))
+        | then-num-gt-MOST-via-else-num-gt-MOST+then-den-gt-MOST w ↦ (λ p q. absurd (omega arith))
+      ]),
 )
 
 pub invariant_of-result : goal.invariant_of-result
