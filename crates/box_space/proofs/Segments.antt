@@ -13,7 +13,7 @@ use Rattle.box_space.specs.declared.table.Block.TheVariants.{Feeds, Outs, Direct
 use Rattle.box_space.specs.declared.table.Terms.{Terms}
 use Rattle.box_space.specs.declared.table.Terms.TheVariants.{Nothing, One, All}
 use Rattle.box_space.specs.Blocks.{IsBlock, rank, size_of, number_of, with_block}
-use Rattle.box_space.specs.Keys.{key_of, count_of}
+use Rattle.blend_network.specs.Keys.{key_of, count_of}
 use Rattle.box_space.specs.Lines.{term_of, terms_by, terms_from, terms_at}
 use Rattle.box_space.specs.Tables.{AreRising, AreKnown, factor_of, coefs_of, terms_of}
 use Rattle.box_space.proofs.TermLists.{terms_by-same, terms_by-zero, terms_by-one, terms_by-key, terms_from-split, column, terms_from-column}

@@ -1,14 +1,12 @@
 -- Terms that are written number by number, and table part by table part.
-use Rattle.std.proofs.Common.{◌≡◌, ℕ, zero, suc, ◌+◌, ◌*◌, ◌<◌, ◌≤◌, inl, inr, nat_lt, List, [], ◌∷◌, ◌++◌, length, get_or, take, ◌==◌, if◌then◌else◌, ℤ, arith, refl, sym, ap, subst, ◌∙◌, append_assoc, length-append}
-use Rattle.std.specs.List.{All, flat_map, sum_by}
+use Rattle.std.proofs.Common.{◌≡◌, ℕ, zero, suc, ◌+◌, ◌*◌, ◌<◌, ◌≤◌, nat_lt, List, [], ◌∷◌, ◌++◌, length, get_or, take, if◌then◌else◌, ℤ, arith, refl, sym, ap, subst, ◌∙◌, append_assoc, length-append}
+use Rattle.std.specs.List.{flat_map, sum_by}
 use Rattle.std.proofs.lemmas.Bool.Decides.{nat_tests}
 use Rattle.std.proofs.lemmas.List.{append-nil, take_more}
 use Rattle.std.proofs.lemmas.List.Sums.{sum_by-cons}
-use Rattle.std.proofs.lemmas.List.Elements.{All-weaker}
 use Rattle.std.proofs.lemmas.Grind.{flat_map-append}
 use Rattle.integers.specs.Numbers.{numbers_at}
-use Rattle.integers.proofs.AtKey.{same_or_other, chosen, passed}
-use Rattle.integers.proofs.Numbers.{numbers_at-each}
+use Rattle.number_groups.proofs.Grouped.{numbers_at-few}
 use Rattle.pool_model.specs.Network.{Net, IsLimited}
 use Rattle.row_model.specs.Variables.{path_count}
 use Rattle.row_model.specs.Catalogue.{Row}
@@ -17,7 +15,7 @@ use Rattle.box_space.specs.declared.table.Block.TheVariants.{Feeds, Outs, Direct
 use Rattle.box_space.specs.declared.table.Terms.{Terms}
 use Rattle.box_space.specs.declared.table.Terms.TheVariants.{Nothing, One, All as Every}
 use Rattle.box_space.specs.Blocks.{rank, size_of, number_of}
-use Rattle.box_space.specs.Keys.{key_of, count_of}
+use Rattle.blend_network.specs.Keys.{key_of, count_of}
 use Rattle.box_space.specs.declared.rows.RowKind.{RowKind}
 use Rattle.box_space.specs.Lines.{Line, term_of, terms_at}
 use Rattle.box_space.specs.Tables.{AreTerms, AreKnown, AreRising, factor_of, terms_of, most_of}
@@ -59,27 +57,7 @@ one-room {X} {A} f old row xs k d lt short h = omega (arith, more-room f (λ x. 
     ones [] = refl
     ones (x ∷ xs) = omega (arith, sum_by-cons (λ x. 1) x xs, ones xs)
 
--- ---- the numbers of a key, as a slice holds them
-
-pub few : (key : ℕ → ℕ) (k n : ℕ) (numbers : List ℕ) → numbers ≡ numbers_at key k n → length numbers ≤ n
-few key k n numbers e = omega (arith, ap (length {A = ℕ}) e, short n)
-  where
-    short : (n : ℕ) → length (numbers_at key k n) ≤ n
-    short zero = omega arith
-    short (suc n) = omega (arith, short n, length-append (numbers_at key k n) (if key n == k then n ∷ [] else []), last n)
-      where
-        last : (n : ℕ) → length (if key n == k then n ∷ [] else []) ≤ 1
-        last n = elim (same_or_other (key n) k) [
-          | inl e ↦ omega (arith, ap (length {A = ℕ}) (chosen {X = List ℕ} (key n) k (n ∷ []) [] e))
-          | inr d ↦ omega (arith, ap (length {A = ℕ}) (passed {X = List ℕ} (key n) k (n ∷ []) [] d))
-        ]
-
-pub below : (key : ℕ → ℕ) (k n : ℕ) (numbers : List ℕ) → numbers ≡ numbers_at key k n → All (λ i. i < n) numbers
-below key k n numbers e = subst (λ (is : List ℕ). All (λ i. i < n) is) (sym e) (All-weaker (λ i. (i < n) × (key i ≡ k)) (λ i. i < n) (λ i h. h.0) (numbers_at key k n) (numbers_at-each key k n))
-
--- one of them stands below the count
-pub below-at : (key : ℕ → ℕ) (k n : ℕ) (numbers : List ℕ) (i : ℕ) → numbers ≡ numbers_at key k n → i < length numbers → get_or numbers i 0 < n
-below-at key k n numbers i e lt = below key k n numbers e i 0 lt
+-- ---- terms of tables
 
 -- no more terms than numbers
 short-terms_at : (var : ℕ → ℕ) (c : ℕ → ℤ) (numbers : List ℕ) → length (terms_at var c numbers) ≤ length numbers
@@ -91,7 +69,7 @@ short-terms n Nothing h = omega arith
 short-terms n (One b i c) h = length-term_of (number_of n b i) c
 short-terms n (Every b key node f) h =
     let numbers = numbers_at (key_of n key) node (count_of n key) in
-    omega (arith, short-terms_at (number_of n b) (factor_of n b f) numbers, few (key_of n key) node (count_of n key) numbers refl, h.1)
+    omega (arith, short-terms_at (number_of n b) (factor_of n b f) numbers, numbers_at-few (key_of n key) node (count_of n key), h.1)
 
 -- what holds of a table's terms holds of each
 pub known-at : (n : Net) (ts : List Terms) (k : ℕ) (d : Terms) → k < length ts → AreKnown n ts → AreTerms n (get_or ts k d)

@@ -1,7 +1,5 @@
 pub mod Lines
 pub mod Blocks
-pub mod Keys
-pub mod Counted
 pub mod Tables
 pub mod Written
 pub mod Forms

@@ -5,7 +5,7 @@ use Rattle.pool_model.specs.Network.{Net}
 use Rattle.row_model.specs.Variables.{PerVariable, none}
 use Rattle.row_model.specs.Catalogue.{when, Row}
 use Rattle.box_space.specs.Blocks.{IsBlock, rank, size_of, number_of, source_of, HasSource, with_block}
-use Rattle.box_space.specs.Keys.{key_of, nodes_of, count_of}
+use Rattle.blend_network.specs.Keys.{key_of, nodes_of, count_of}
 use Rattle.box_space.specs.Lines.{term_of, terms_at}
 use Rattle.box_space.specs.Views.{shown_kind}
 use Rattle.box_space.specs.declared.terms.Term.{Term}

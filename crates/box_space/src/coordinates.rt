@@ -1,12 +1,12 @@
 //! Coordinates of a plan, by number and by name, and splits.
 
-ghost use Rattle.std.specs.Prelude.{◌≡◌, ◌<◌, ◌≤◌};
+ghost use Rattle.std.specs.Prelude.{◌≡◌, ◌<◌, ◌≤◌, ◌↔◌, IsTrue};
 ghost use Rattle.pool_model.specs.Network.{net_of, IsLimited};
-ghost use Rattle.row_model.specs.Boxes.{coords as coords_lem, coord_at as coord_at_lem};
+ghost use Rattle.row_model.specs.Boxes as boxes;
 ghost use Rattle.box_space.specs.Views.{shown_coord};
 ghost use Rattle.box_space.specs.Forms.{cuts, IsCoord};
 
-use crate::counts::{counts_in, grid};
+use crate::numbers::grid;
 use blend_network::Network;
 
 /// A form of the linear program: by qualities (P), by proportions (Q), or by proportions with more rows (Pq).
@@ -41,39 +41,38 @@ pub struct Split {
 
 /// How many coordinates there are: proportions by feed, then qualities by pool, then flows by out.
 pub fn coords(net: &Network) -> u32
-    ensures count { result ≡ coords_lem (net_of net.now) }
+    ensures count { result ≡ boxes.coords (net_of net.now) }
     ensures small { result ≤ 640 }
     ensures limited { IsLimited (net_of net.now) }
 {
-    let counts = counts_in(net);
+    let counts = net.sizes();
     counts.feeds + (grid(counts.pools, counts.qualities) + counts.outs)
 }
 
 /// The coordinate of a number.
 pub fn coord_at(net: &Network, n: u32) -> Coord
-    requires { n < coords_lem (net_of net.now) }
+    requires { n < boxes.coords (net_of net.now) }
     ensures among { IsCoord (net_of net.now) result }
-    ensures coordinate { shown_coord result ≡ coord_at_lem (net_of net.now) n }
+    ensures coordinate { shown_coord result ≡ boxes.coord_at (net_of net.now) n }
 {
-    let counts = counts_in(net);
+    let counts = net.sizes();
     if n < counts.feeds {
         return Coord::Prop(n);
     }
-    let place = n - counts.feeds;
+    let n = n - counts.feeds;
     let qualities = grid(counts.pools, counts.qualities);
-    if place < qualities {
-        Coord::Qual(place / counts.qualities, place % counts.qualities)
+    if n < qualities {
+        Coord::Qual(n / counts.qualities, n % counts.qualities)
     } else {
-        Coord::Flow(place - qualities)
+        Coord::Flow(n - qualities)
     }
 }
 
-/// Whether a form cuts the coordinate of a number.
+/// Whether a form cuts the coordinate of a number. Past the last coordinate it cuts none.
 pub fn of_form(net: &Network, form: Form, n: u32) -> bool
-    requires { n < coords_lem (net_of net.now) }
-    ensures { result ≡ cuts form (coord_at_lem (net_of net.now) n) }
+    ensures { IsTrue result ↔ ((n < boxes.coords (net_of net.now)) × IsTrue (cuts form (boxes.coord_at (net_of net.now) n))) }
 {
-    is_cut_by(form, coord_at(net, n))
+    n < coords(net) && is_cut_by(form, coord_at(net, n))
 }
 
 fn is_cut_by(form: Form, coord: Coord) -> bool

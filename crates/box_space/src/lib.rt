@@ -6,12 +6,8 @@
 //! Contracts see these types as the data of `row_model`, by `specs/Views.antt`.
 #![tactic(auto)]
 
-mod arcs;
 mod boxes;
 mod coordinates;
-mod counts;
-mod keys;
-mod limits;
 mod multipliers;
 mod numbers;
 mod root;
@@ -21,12 +17,8 @@ mod terms;
 mod variables;
 mod write;
 
-pub use arcs::{direct_ends, feed_ends, out_ends, path_arcs, path_ends};
 pub use boxes::{BoxEnds, BoxView, can_cut, halves};
 pub use coordinates::{Coord, Form, Split, coord_at, coords, of_form};
-pub use counts::{Counts, counts_in};
-pub use keys::Key;
-pub use limits::{count_limits, limit_at};
 pub use multipliers::{Part, Proof};
 pub use numbers::{flow_coordinate, quality_coordinate, variable_number};
 pub use root::{root_box, root_ends};

@@ -5,7 +5,6 @@ ghost use Rattle.pool_model.specs.Network.{net_of};
 ghost use Rattle.row_model.specs.Boxes.{qual_number, flow_number};
 ghost use Rattle.box_space.specs.Blocks.{IsBlock, size_of, number_of};
 
-use crate::counts::{counts_in, grid};
 use crate::table::Block;
 use blend_network::Network;
 
@@ -15,7 +14,7 @@ pub fn variable_number(net: &Network, block: Block, number: u32) -> u32
     requires among { number < size_of (net_of net.now) block }
     ensures { result ≡ number_of (net_of net.now) block number }
 {
-    let counts = counts_in(net);
+    let counts = net.sizes();
     let outs = counts.feeds;
     let directs = outs + counts.outs;
     let paths = directs + counts.directs;
@@ -41,7 +40,7 @@ pub fn quality_coordinate(net: &Network, pool: u32, quality: u32) -> u32
     requires quality { quality < (net_of net.now).qualities }
     ensures { result ≡ qual_number (net_of net.now) pool quality }
 {
-    let counts = counts_in(net);
+    let counts = net.sizes();
     counts.feeds + in_grid(pool, counts.qualities, quality)
 }
 
@@ -50,16 +49,26 @@ pub fn flow_coordinate(net: &Network, out: u32) -> u32
     requires { out < (net_of net.now).outs }
     ensures { result ≡ flow_number (net_of net.now) out }
 {
-    let counts = counts_in(net);
+    let counts = net.sizes();
     counts.feeds + (grid(counts.pools, counts.qualities) + out)
 }
 
-/// A place in a grid of some width, row by row.
+/// How many cells a grid has.
+pub(crate) fn grid(rows: u32, width: u32) -> u32
+    requires rows { rows ≤ 256 }
+    requires width { width ≤ 8 }
+    ensures value { result ≡ rows * width }
+    ensures small { result ≤ rows * 8 }
+{
+    rows * width
+}
+
+/// The number of a cell in a grid of some width, row by row.
 fn in_grid(row: u32, width: u32, column: u32) -> u32
     requires row { row ≤ 256 }
     requires width { width ≤ 8 }
     requires column { column < width }
-    ensures place { result ≡ row * width + column }
+    ensures value { result ≡ row * width + column }
     ensures small { result ≤ 4096 }
 {
     row * width + column

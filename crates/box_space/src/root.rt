@@ -2,15 +2,15 @@
 
 ghost use Rattle.std.specs.Prelude.{◌≡◌, ◌<◌, IfOk, pos, unwrap_or};
 ghost use Rattle.pool_model.specs.Network.{net_of};
-ghost use Rattle.pool_model.specs.Starting.{lesser as lesser_lem, least_below};
-ghost use Rattle.row_model.specs.Boxes.{root_low, root_high, greater as greater_lem, greatest_below, fed_quality as fed_quality_lem};
+ghost use Rattle.pool_model.specs.Starting as starting;
+ghost use Rattle.pool_model.specs.Starting.{least_below};
+ghost use Rattle.row_model.specs.Boxes as boxes;
+ghost use Rattle.row_model.specs.Boxes.{root_low, root_high, greatest_below};
 ghost use Rattle.box_space.specs.Forms.{IsCoord};
 ghost use Rattle.box_space.specs.Views.{shown_coord, AreRoot, AreEnds};
 
-use crate::arcs::{feed_ends, out_ends};
 use crate::boxes::BoxEnds;
 use crate::coordinates::{Coord, coord_at, coords};
-use crate::counts::counts_in;
 use blend_network::Network;
 use edge_io::Memory;
 use std::alloc::Global;
@@ -43,7 +43,7 @@ pub fn root_ends(net: &Network, coord: Coord) -> (i64, i64)
         Coord::Prop(_) => (0, GRAIN),
         Coord::Qual(pool, quality) => quality_range(net, pool, quality),
         Coord::Flow(out) => {
-            let (pool, product) = out_ends(net, out);
+            let (pool, product) = net.out(out);
             (0, net.pool_max(pool).min(net.product_max(product)))
         }
     }
@@ -52,10 +52,10 @@ pub fn root_ends(net: &Network, coord: Coord) -> (i64, i64)
 /// The least and the greatest quality of the feeds to a pool.
 fn quality_range(net: &Network, pool: u32, quality: u32) -> (i64, i64)
     requires { quality < (net_of net.now).qualities }
-    ensures low { result.0 ≡ unwrap_or (least_below (fed_quality_lem (net_of net.now) pool quality) (net_of net.now).feeds) (pos 0) }
-    ensures high { result.1 ≡ unwrap_or (greatest_below (fed_quality_lem (net_of net.now) pool quality) (net_of net.now).feeds) (pos 0) }
+    ensures low { result.0 ≡ unwrap_or (least_below (boxes.fed_quality (net_of net.now) pool quality) (net_of net.now).feeds) (pos 0) }
+    ensures high { result.1 ≡ unwrap_or (greatest_below (boxes.fed_quality (net_of net.now) pool quality) (net_of net.now).feeds) (pos 0) }
 {
-    let counts = counts_in(net);
+    let counts = net.sizes();
     let mut least = None;
     let mut greatest = None;
     for feed in 0..counts.feeds {
@@ -70,9 +70,9 @@ fn quality_range(net: &Network, pool: u32, quality: u32) -> (i64, i64)
 fn fed_quality(net: &Network, pool: u32, quality: u32, feed: u32) -> Option<i64>
     requires quality { quality < (net_of net.now).qualities }
     requires feed { feed < (net_of net.now).feeds }
-    ensures { result ≡ fed_quality_lem (net_of net.now) pool quality feed }
+    ensures { result ≡ boxes.fed_quality (net_of net.now) pool quality feed }
 {
-    let (source, to) = feed_ends(net, feed);
+    let (source, to) = net.feed(feed);
     if to == pool {
         Some(net.source_quality(source, quality))
     } else {
@@ -81,7 +81,7 @@ fn fed_quality(net: &Network, pool: u32, quality: u32, feed: u32) -> Option<i64>
 }
 
 fn lesser(a: Option<i64>, b: Option<i64>) -> Option<i64>
-    ensures { result ≡ lesser_lem a b }
+    ensures { result ≡ starting.lesser a b }
 {
     match (a, b) {
         (None, b) => b,
@@ -91,7 +91,7 @@ fn lesser(a: Option<i64>, b: Option<i64>) -> Option<i64>
 }
 
 fn greater(a: Option<i64>, b: Option<i64>) -> Option<i64>
-    ensures { result ≡ greater_lem a b }
+    ensures { result ≡ boxes.greater a b }
 {
     match (a, b) {
         (None, b) => b,

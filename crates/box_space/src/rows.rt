@@ -4,7 +4,8 @@ ghost use Rattle.std.specs.Prelude.{◌≡◌, ◌++◌, ◌<◌, [], length, po
 ghost use Rattle.box_space.specs.Lines.{term_of};
 
 use crate::terms::Term;
-use std::alloc::{AllocError, Global};
+use edge_io::Memory;
+use std::alloc::Global;
 use std::marker::Model;
 
 /// What is said of a row.
@@ -40,7 +41,7 @@ impl Model for LinRow {
 
 impl LinRow {
     /// A row without terms, with room for 1,024.
-    pub fn new(alloc: Global) -> Result<LinRow, AllocError>
+    pub fn new(alloc: Global) -> Result<LinRow, Memory>
         ensures terms { IfOk result (λ r. r.terms ≡ []) }
         ensures constant { IfOk result (λ r. r.constant ≡ pos 0) }
     {

@@ -1,7 +1,7 @@
 //! Rows as tables: which variables a row takes, and with which coefficients.
 
-use crate::keys::Key;
 use crate::rows::RowKind;
+use blend_network::Key;
 
 /// The variables of one kind, numbered one after another.
 #[derive(Clone, Copy, Debug)]

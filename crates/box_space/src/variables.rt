@@ -7,10 +7,8 @@ ghost use Rattle.row_model.specs.Variables.{PerVariable, variables, by_number, l
 ghost use Rattle.box_space.specs.Variables.{at_variable, IsVariable};
 ghost use Rattle.box_space.specs.Views.{IsView, shown_box};
 
-use crate::arcs::{direct_ends, feed_ends, out_ends, path_arcs};
 use crate::boxes::BoxView;
-use crate::counts::{counts_in, grid};
-use crate::numbers::{flow_coordinate, quality_coordinate};
+use crate::numbers::{flow_coordinate, grid, quality_coordinate};
 use blend_network::Network;
 
 /// A variable of the programs.
@@ -38,22 +36,12 @@ pub fn vars(net: &Network) -> u32
     ensures small { result ≤ 4096 }
     ensures limited { IsLimited (net_of net.now) }
 {
-    let counts = counts_in(net);
-    let mixed = outs_grid(counts.outs, counts.qualities);
+    let counts = net.sizes();
+    let mixed = grid(counts.outs, counts.qualities);
     counts.feeds
         + (counts.outs
             + (counts.directs
                 + (counts.paths + (counts.feeds + (grid(counts.pools, counts.qualities) + mixed)))))
-}
-
-/// How many there are of outs and qualities.
-fn outs_grid(outs: u32, qualities: u32) -> u32
-    requires outs { outs ≤ 256 }
-    requires qualities { qualities ≤ 8 }
-    ensures value { result ≡ outs * qualities }
-    ensures small { result ≤ 2048 }
-{
-    outs * qualities
 }
 
 /// The variable of a number.
@@ -62,7 +50,7 @@ pub fn variable_at(net: &Network, var: u32) -> Variable
     ensures same { (a : PerVariable) → by_number (net_of net.now) a var ≡ at_variable a result }
     ensures among { IsVariable (net_of net.now) result }
 {
-    let counts = counts_in(net);
+    let counts = net.sizes();
     let qualities = grid(counts.pools, counts.qualities);
     if var < counts.feeds {
         return Variable::Feed(var);
@@ -106,34 +94,14 @@ fn cost_of(net: &Network, variable: Variable) -> i64
     ensures cost { result ≡ at_variable (costs (net_of net.now)) variable }
 {
     match variable {
-        Variable::Feed(feed) => cost_at(net, feed_ends(net, feed).0),
-        Variable::Out(out) => opposite(price_at(net, out_ends(net, out).1)),
+        Variable::Feed(feed) => net.source_cost(net.feed(feed).0),
+        Variable::Out(out) => opposite(net.product_price(net.out(out).1)),
         Variable::Direct(direct) => {
-            let (source, product) = direct_ends(net, direct);
-            less(cost_at(net, source), price_at(net, product))
+            let (source, product) = net.direct(direct);
+            margin(net.source_cost(source), net.product_price(product))
         }
         _ => 0,
     }
-}
-
-/// What a unit from a source costs: at most 10^12 in size.
-fn cost_at(net: &Network, source: u32) -> i64
-    requires { source < (net_of net.now).sources }
-    ensures value { result ≡ (net_of net.now).source_cost source }
-    ensures small { unsigned_abs result ≤ 10 ^ 12 }
-{
-    let _counts = counts_in(net);
-    net.source_cost(source)
-}
-
-/// What a unit of a product brings: at most 10^12 in size.
-fn price_at(net: &Network, product: u32) -> i64
-    requires { product < (net_of net.now).products }
-    ensures value { result ≡ (net_of net.now).price product }
-    ensures small { unsigned_abs result ≤ 10 ^ 12 }
-{
-    let _counts = counts_in(net);
-    net.product_price(product)
 }
 
 fn opposite(price: i64) -> i64
@@ -143,7 +111,7 @@ fn opposite(price: i64) -> i64
     -price
 }
 
-fn less(cost: i64, price: i64) -> i64
+fn margin(cost: i64, price: i64) -> i64
     requires cost { unsigned_abs cost ≤ 10 ^ 12 }
     requires price { unsigned_abs price ≤ 10 ^ 12 }
     ensures { result ≡ cost -ℤ price }
@@ -169,7 +137,7 @@ fn ends_of(net: &Network, v: &BoxView, variable: Variable) -> (i128, i128)
 {
     match variable {
         Variable::Feed(feed) => {
-            let (source, pool) = feed_ends(net, feed);
+            let (source, pool) = net.feed(feed);
             (0, lesser(net.source_max(source), net.pool_max(pool)))
         }
         Variable::Out(out) => {
@@ -177,19 +145,19 @@ fn ends_of(net: &Network, v: &BoxView, variable: Variable) -> (i128, i128)
             (v.low_at(flow).into(), v.high_at(flow).into())
         }
         Variable::Direct(direct) => {
-            let (source, product) = direct_ends(net, direct);
+            let (source, product) = net.direct(direct);
             (0, lesser(net.source_max(source), net.product_max(product)))
         }
         Variable::Path(path) => {
-            let (feed, out) = path_arcs(net, path);
-            let (source, _) = feed_ends(net, feed);
+            let (feed, out) = net.path(path);
+            let (source, _) = net.feed(feed);
             let flow = flow_coordinate(net, out);
             (0, lesser(net.source_max(source), v.high_at(flow)))
         }
         Variable::Proportion(feed) => (v.low_at(feed).into(), v.high_at(feed).into()),
         Variable::Quality(pool, quality) => {
-            let place = quality_coordinate(net, pool, quality);
-            (v.low_at(place).into(), v.high_at(place).into())
+            let held = quality_coordinate(net, pool, quality);
+            (v.low_at(held).into(), v.high_at(held).into())
         }
         Variable::Mixed(out, quality) => mixed_ends(net, v, out, quality),
     }
@@ -209,12 +177,12 @@ fn mixed_ends(net: &Network, v: &BoxView, out: u32, quality: u32) -> (i128, i128
     ensures low { result.0 ≡ (lows (net_of net.now) (shown_box v.now)).mixed out quality }
     ensures high { result.1 ≡ (highs (net_of net.now) (shown_box v.now)).mixed out quality }
 {
-    let (pool, _) = out_ends(net, out);
-    let place = quality_coordinate(net, pool, quality);
+    let (pool, _) = net.out(out);
+    let held = quality_coordinate(net, pool, quality);
     let flow = flow_coordinate(net, out);
     products(
-        v.low_at(place),
-        v.high_at(place),
+        v.low_at(held),
+        v.high_at(held),
         v.low_at(flow),
         v.high_at(flow),
     )

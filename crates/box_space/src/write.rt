@@ -3,17 +3,14 @@
 ghost use Rattle.std.specs.Prelude.{◌≡◌, ◌++◌, ◌+◌, ◌<◌, ◌≤◌, length};
 ghost use Rattle.pool_model.specs.Network.{net_of};
 ghost use Rattle.box_space.specs.Blocks.{IsBlock, size_of, source_of as source_in, HasSource};
-ghost use Rattle.box_space.specs.Keys.{nodes_of, count_of};
+ghost use Rattle.blend_network.specs.Keys.{nodes_of, count_of};
 ghost use Rattle.box_space.specs.Tables.{IsTable, row_of, AreTerms, IsFactor, terms_of, most_of, factor_of, rated as made_of};
 ghost use Rattle.box_space.specs.Written.{IsLineOf};
 
-use crate::arcs::{direct_ends, feed_ends, path_ends};
-use crate::counts::counts_in;
-use crate::keys::{Key, numbers_at};
 use crate::numbers::variable_number;
 use crate::rows::{LinRow, RowKind};
 use crate::table::{Block, Factor, Rate, RowTable, Terms};
-use blend_network::Network;
+use blend_network::{Key, Network};
 
 impl LinRow {
     /// Writes the row of a table in place of what stands there: terms by rising variable, each variable once. It costs what
@@ -23,7 +20,7 @@ impl LinRow {
         ensures { IsLineOf (net_of net.now) (row_of (net_of net.now) table.now) self.new result }
     {
         // Arcs and paths are few enough that there is room.
-        let _counts = counts_in(net);
+        let _sizes = net.sizes();
         self.clear();
         self.set_constant(table.constant);
         for terms in &table.terms {
@@ -55,7 +52,7 @@ impl LinRow {
         ensures terms { self.new.terms ≡ self.old.terms ++ terms_of (net_of net.now) (Terms.All block key node factor) }
         ensures constant { self.new.constant ≡ self.old.constant }
     {
-        let numbers = numbers_at(net, key, node);
+        let numbers = net.numbers_at(key, node);
         for number in numbers {
             let coef = coef_at(net, block, factor, *number);
             self.add_term(variable_number(net, block, *number), coef);
@@ -86,9 +83,9 @@ fn source_of(net: &Network, block: Block, number: u32) -> u32
     ensures known { result < (net_of net.now).sources }
 {
     match block {
-        Block::Feeds => feed_ends(net, number).0,
-        Block::Directs => direct_ends(net, number).0,
-        Block::Paths => path_ends(net, number).0,
+        Block::Feeds => net.feed(number).0,
+        Block::Directs => net.direct(number).0,
+        Block::Paths => net.path_ends(number).0,
         _ => unreachable!(),
     }
 }

@@ -10,8 +10,7 @@ ghost use Rattle.box_space.specs.Written.{IsLineOf};
 
 use blend_network::Network;
 use box_space::{
-    Block, BoxView, LinRow, RowKind, counts_in, flow_coordinate, out_ends, quality_coordinate,
-    variable_number,
+    Block, BoxView, LinRow, RowKind, flow_coordinate, quality_coordinate, variable_number,
 };
 use mccormick::{Ends, envelope};
 
@@ -20,7 +19,7 @@ pub(crate) fn count(net: &Network) -> u32
     ensures value { result ≡ (net_of net.now).outs * ((net_of net.now).qualities * 4) }
     ensures small { result ≤ 8192 }
 {
-    let counts = counts_in(net);
+    let counts = net.sizes();
     sides(counts.outs, counts.qualities)
 }
 
@@ -39,7 +38,7 @@ pub(crate) fn write(net: &Network, n: u32, v: &BoxView, row: &mut LinRow) -> Row
     requires among { n < (net_of net.now).outs * ((net_of net.now).qualities * 4) }
     ensures { IsLineOf (net_of net.now) (quality_envelope_row (net_of net.now) (shown_box v.now) (n / ((net_of net.now).qualities * 4)) (n % ((net_of net.now).qualities * 4) / 4) (n % 4 + 1)) row.new result }
 {
-    let counts = counts_in(net);
+    let counts = net.sizes();
     let (out, quality, side) = envelope_at(n, counts.outs, counts.qualities);
     write_side(net, v, out, quality, side, row)
 }
@@ -75,7 +74,7 @@ fn write_side(
     requires high { side ≤ 4 }
     ensures { IsLineOf (net_of net.now) (quality_envelope_row (net_of net.now) (shown_box v.now) out quality side) row.new result }
 {
-    let (pool, _) = out_ends(net, out);
+    let (pool, _) = net.out(out);
     let ends = quality_ends(net, v, pool, out, quality);
     let a = variable_number(net, Block::Qualities(quality), pool);
     let b = variable_number(net, Block::Outs, out);

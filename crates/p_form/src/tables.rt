@@ -8,19 +8,17 @@ ghost use Rattle.row_model.specs.Catalogue.{p_families, row_in, mixing_row, mixe
 ghost use Rattle.blend_network.specs.Limits.{shown_limit};
 ghost use Rattle.box_space.specs.Tables.{row_of, IsTable};
 
-use blend_network::{Bound, Limit, Network};
-use box_space::{
-    Block, Factor, Key, Rate, RowKind, RowTable, Terms, count_limits, counts_in, limit_at,
-};
+use blend_network::{Key, Limit, LimitSide, Network};
+use box_space::{Block, Factor, Rate, RowKind, RowTable, Terms};
 
 /// How many of the rows there are.
 pub(crate) fn count(net: &Network) -> u32
     ensures count { result ≡ (net_of net.now).pools * (net_of net.now).qualities + (length (most_limits (net_of net.now)) + length (least_limits (net_of net.now))) }
     ensures small { result ≤ 1152 }
 {
-    let counts = counts_in(net);
+    let counts = net.sizes();
     mixings(counts.pools, counts.qualities)
-        + (count_limits(net, Bound::Most) + count_limits(net, Bound::Least))
+        + (net.count_limits(LimitSide::Most) + net.count_limits(LimitSide::Least))
 }
 
 /// How many mixing rows there are.
@@ -39,17 +37,17 @@ pub(crate) fn table_at(net: &Network, n: u32) -> RowTable
     ensures row { (b : Box) → row_of (net_of net.now) result ≡ row_in (p_families (net_of net.now) b) n }
     ensures table { IsTable (net_of net.now) result }
 {
-    let counts = counts_in(net);
+    let counts = net.sizes();
     let mixing_rows = mixings(counts.pools, counts.qualities);
     if n < mixing_rows {
         return mixing(n / counts.qualities, n % counts.qualities);
     }
     let n = n - mixing_rows;
-    let most = count_limits(net, Bound::Most);
+    let most = net.count_limits(LimitSide::Most);
     if n < most {
-        return mixed_most(limit_at(net, Bound::Most, n));
+        return mixed_most(net.limit_at(LimitSide::Most, n));
     }
-    mixed_least(limit_at(net, Bound::Least, n - most))
+    mixed_least(net.limit_at(LimitSide::Least, n - most))
 }
 
 /// The quality that flows into a pool flows out of it.

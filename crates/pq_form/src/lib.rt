@@ -12,10 +12,8 @@ ghost use Rattle.box_space.specs.Views.{IsView, shown_box};
 ghost use Rattle.box_space.specs.Written.{IsLineOf};
 ghost use Rattle.box_space.specs.Tables.{row_of, IsTable};
 
-use blend_network::Network;
-use box_space::{
-    Block, BoxView, Factor, Key, LinRow, RowKind, RowTable, Terms, counts_in, feed_ends,
-};
+use blend_network::{Key, Network};
+use box_space::{Block, BoxView, Factor, LinRow, RowKind, RowTable, Terms};
 
 /// How many parts a proportion is counted in.
 const GRAIN: i128 = 1_048_576;
@@ -25,7 +23,7 @@ pub fn count(net: &Network) -> u32
     ensures count { result ≡ row_count (pq_families (net_of net.now)) }
     ensures small { result ≤ 256 }
 {
-    let counts = counts_in(net);
+    let counts = net.sizes();
     counts.outs + counts.feeds
 }
 
@@ -45,7 +43,7 @@ fn table_at(net: &Network, n: u32) -> RowTable
     ensures row { row_of (net_of net.now) result ≡ row_in (pq_families (net_of net.now)) n }
     ensures table { IsTable (net_of net.now) result }
 {
-    let counts = counts_in(net);
+    let counts = net.sizes();
     if n < counts.outs {
         return out_row(n);
     }
@@ -74,7 +72,7 @@ fn share_row(net: &Network, feed: u32) -> RowTable
     ensures row { row_of (net_of net.now) result ≡ catalogue.share_row (net_of net.now) feed }
     ensures table { IsTable (net_of net.now) result }
 {
-    let (_, pool) = feed_ends(net, feed);
+    let (_, pool) = net.feed(feed);
     RowTable {
         kind: RowKind::AtLeast,
         terms: [

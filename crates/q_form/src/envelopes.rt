@@ -10,7 +10,7 @@ ghost use Rattle.box_space.specs.Views.{IsView, shown_box};
 ghost use Rattle.box_space.specs.Written.{IsLineOf};
 
 use blend_network::Network;
-use box_space::{Block, BoxView, LinRow, RowKind, flow_coordinate, path_arcs, variable_number};
+use box_space::{Block, BoxView, LinRow, RowKind, flow_coordinate, variable_number};
 use mccormick::{Ends, envelope};
 
 /// How many parts a proportion is counted in.
@@ -33,7 +33,7 @@ fn write_side(net: &Network, v: &BoxView, path: u32, side: u8, row: &mut LinRow)
     requires high { side ≤ 4 }
     ensures { IsLineOf (net_of net.now) (proportion_envelope_row (net_of net.now) (shown_box v.now) path side) row.new result }
 {
-    let (feed, out) = path_arcs(net, path);
+    let (feed, out) = net.path(path);
     let ends = proportion_ends(net, v, feed, out);
     let a = variable_number(net, Block::Proportions, feed);
     let b = variable_number(net, Block::Outs, out);

@@ -8,10 +8,8 @@ ghost use Rattle.row_model.specs.Catalogue.{q_families, row_in, proportions_row,
 ghost use Rattle.blend_network.specs.Limits.{shown_limit};
 ghost use Rattle.box_space.specs.Tables.{row_of, IsTable};
 
-use blend_network::{Bound, Limit, Network};
-use box_space::{
-    Block, Factor, Key, Rate, RowKind, RowTable, Terms, count_limits, counts_in, limit_at,
-};
+use blend_network::{Key, LimitSide, Limit, Network};
+use box_space::{Block, Factor, Rate, RowKind, RowTable, Terms};
 
 /// How many parts a proportion is counted in.
 const GRAIN: i128 = 1_048_576;
@@ -21,9 +19,9 @@ pub(crate) fn count(net: &Network) -> u32
     ensures count { result ≡ (net_of net.now).pools + ((net_of net.now).feeds + (length (most_limits (net_of net.now)) + length (least_limits (net_of net.now)))) }
     ensures small { result ≤ 1296 }
 {
-    let counts = counts_in(net);
+    let counts = net.sizes();
     counts.pools
-        + (counts.feeds + (count_limits(net, Bound::Most) + count_limits(net, Bound::Least)))
+        + (counts.feeds + (net.count_limits(LimitSide::Most) + net.count_limits(LimitSide::Least)))
 }
 
 /// The row of a number: first proportions by pool, then feeds, and limits.
@@ -32,7 +30,7 @@ pub(crate) fn table_at(net: &Network, n: u32) -> RowTable
     ensures row { (b : Box) → row_of (net_of net.now) result ≡ row_in (q_families (net_of net.now) b) n }
     ensures table { IsTable (net_of net.now) result }
 {
-    let counts = counts_in(net);
+    let counts = net.sizes();
     if n < counts.pools {
         return proportions(n);
     }
@@ -41,11 +39,11 @@ pub(crate) fn table_at(net: &Network, n: u32) -> RowTable
         return feed(n);
     }
     let n = n - counts.feeds;
-    let most = count_limits(net, Bound::Most);
+    let most = net.count_limits(LimitSide::Most);
     if n < most {
-        return path_most(limit_at(net, Bound::Most, n));
+        return path_most(net.limit_at(LimitSide::Most, n));
     }
-    path_least(limit_at(net, Bound::Least, n - most))
+    path_least(net.limit_at(LimitSide::Least, n - most))
 }
 
 /// The proportions of a pool's feeds sum to 1.

@@ -10,7 +10,7 @@ ghost use Rattle.row_book.specs.PartRows.{kind_at, IsRow};
 
 use crate::network_rows;
 use blend_network::Network;
-use box_space::{BoxView, Form, LinRow, RowKind, counts_in};
+use box_space::{BoxView, Form, LinRow, RowKind};
 
 /// Rows of one form, or of the network.
 #[derive(Clone, Copy, Debug)]
@@ -81,7 +81,6 @@ pub fn row_at(net: &Network, v: &BoxView, id: u32, row: &mut LinRow) -> RowKind
     ensures written { IsRow (net_of net.now) (shown_box v.now) id row.new }
 {
     // The network's limits bound the coefficients.
-    let _counts = counts_in(net);
     written(net, v, id, row)
 }
 

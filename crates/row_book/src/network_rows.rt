@@ -5,15 +5,15 @@ ghost use Rattle.pool_model.specs.Network.{Net, net_of};
 ghost use Rattle.row_model.specs.Catalogue.{network_families, row_count, row_in, source_row, balance_row, pool_row, maximum_row, minimum_row};
 ghost use Rattle.box_space.specs.Tables.{row_of, IsTable};
 
-use blend_network::Network;
-use box_space::{Block, Factor, Key, RowKind, RowTable, Terms, counts_in};
+use blend_network::{Key, Network};
+use box_space::{Block, Factor, RowKind, RowTable, Terms};
 
 /// How many rows of the network there are.
 pub(crate) fn count(net: &Network) -> u32
     ensures count { result ≡ row_count (network_families (net_of net.now)) }
     ensures small { result ≤ 224 }
 {
-    let counts = counts_in(net);
+    let counts = net.sizes();
     counts.sources + (counts.pools + (counts.pools + (counts.products + counts.products)))
 }
 
@@ -23,7 +23,7 @@ pub(crate) fn table_at(net: &Network, n: u32) -> RowTable
     ensures row { row_of (net_of net.now) result ≡ row_in (network_families (net_of net.now)) n }
     ensures table { IsTable (net_of net.now) result }
 {
-    let counts = counts_in(net);
+    let counts = net.sizes();
     if n < counts.sources {
         return source(net, n);
     }

@@ -12,9 +12,9 @@ use Rattle.q_form.proofs.envelopes.write_side.Goals as goal
 pub returns : goal.returns
 returns c =
     let n = net_of c.args.net.now in
-    let arcs = c.path_arcs-feed.ensures in
-    let e = c.path_arcs-feed.result.0 in
-    let o = c.path_arcs-feed.result.1 in
+    let arcs = c.path-feed.ensures in
+    let e = c.path-feed.result.0 in
+    let o = c.path-feed.result.1 in
     let numbers : AreNumbers n c.args.path e o c.variable_number-a.result c.variable_number-b.result c.variable_number-w.result =
     record { path = c.requires.path; feed = arcs.known_feed; out = arcs.known_out; a_is = c.variable_number-a.ensures; b_is = c.variable_number-b.ensures; w_is = c.variable_number-w.ensures } in
     let s : Side = side c.args.side (pos grain) (shown_ends c.proportion_ends-ends.result) in

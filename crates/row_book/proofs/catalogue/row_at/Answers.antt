@@ -8,4 +8,4 @@ returns-clause-kind c = kind-written (net_of c.args.net.now) (shown_box c.args.v
 
 pub returns-clause-written : goal.returns-clause-written
 returns-clause-written c =
-    row-written (net_of c.args.net.now) (shown_box c.args.v.now) c.args.id c.written.new.row c.written.result c.counts_in-counts.ensures.limited c.requires.view.proper c.requires.known c.written.ensures
+    row-written (net_of c.args.net.now) (shown_box c.args.v.now) c.args.id c.written.new.row c.written.result c.sizes-counts.ensures.limited c.requires.view.proper c.requires.known c.written.ensures
