@@ -95,13 +95,13 @@ def some_network(rng):
         return rng.choice([rng.randrange(most), f"{rng.randrange(most)}.{rng.randrange(10**6):06}"])
 
     def optional(most):
-        return {"max": quantity(most)} if rng.random() < 0.5 else {}
+        return {"max": quantity(most)} if rng.random() < 0.7 else {}
 
     def limits():
         return {name: rng.choice([-3, 0, 2, "2.5", 4]) for name in qualities if rng.random() < 0.4}
 
     net = {"version": 1, "qualities": qualities}
-    net["sources"] = [{"name": name, "cost": quantity(20), **optional(300), "quality": {k: rng.randint(-2, 5) for k in qualities}} for name in sources]
+    net["sources"] = [{"name": name, "cost": quantity(20), **optional(30), "quality": {k: rng.randint(-2, 5) for k in qualities}} for name in sources]
     net["pools"] = [{"name": name, **optional(200)} for name in pools]
     net["products"] = [{"name": name, "price": quantity(30), "max": quantity(100), "most": limits()} for name in products]
     for product in net["products"]:
@@ -131,14 +131,32 @@ def some_splits(rng, net):
     return splits, boxes
 
 
+def scarce(rng, net, scale):
+    """Multipliers that take one source for scarce: where it is, they show more than the reach bound."""
+    ns, np = net.shape[:2]
+    dear = [scale * source.cost for source in net.sources]
+    dear[rng.randrange(ns)] += scale * rng.randrange(20 * 10**6)
+    least = [min(dear[s] for s, l in net.feeds if l == pool) for pool in range(np)]
+    ways = [(least[l], j) for l, j in net.outs] + [(dear[s], j) for s, j in net.directs]
+    mults = {s: price - scale * net.sources[s].cost for s, price in enumerate(dear)}
+    mults |= {ns + pool: price for pool, price in enumerate(least)}
+    for j, product in enumerate(net.products):
+        mults[ns + 2 * np + j] = max([0] + [scale * product.price - price for price, end in ways if end == j])
+    return mults
+
+
+def written_proof(node, scale, mults):
+    parts = [number for row in sorted(mults) if mults[row] for number in (row, mults[row])]
+    return [node, scale, len(parts) // 2, *parts]
+
+
 def some_proof(rng, net, node, box):
-    """A proof that is in order in the box, if one is found in some tries; now and then one that isn't."""
+    """A proof of some multipliers that is in order in the box, if one is found; now and then one that isn't."""
     for _ in range(20):
-        ids = sorted(rng.sample(range(len(net.rows)), min(len(net.rows), rng.randint(0, 6))))
         size = rng.choice([1, 10, 10**3, 10**6, 2**40, 2**62])
-        mults = [rng.randint(1, size) * (1 if net.rows[row][0] else rng.choice([-1, 1])) for row in ids]
-        parts = [number for pair in zip(ids, mults) for number in pair]
-        proof = [node, rng.choice([0, 1, 1, 7, 10**3, 2**20, 2**40]), len(ids), *parts]
+        rows = rng.sample(range(len(net.rows)), min(len(net.rows), rng.randint(0, 6)))
+        mults = {row: rng.randint(1, size) * (1 if net.rows[row][0] else rng.choice([-1, 1])) for row in rows}
+        proof = written_proof(node, rng.choice([0, 1, 1, 7, 10**3, 2**20, 2**40]), mults)
         try:
             checker.proof_number(net, proof, *box)
             return proof
@@ -146,6 +164,22 @@ def some_proof(rng, net, node, box):
             if rng.random() < 0.03:
                 return proof
     return [node, 1, 0]
+
+
+def strong_proof(rng, net, node, box):
+    """The best of some proofs that take a source for scarce, with a few small multipliers more."""
+    proofs = []
+    for _ in range(12):
+        scale = rng.choice([1, 7, 10**3, 2**20])
+        mults = scarce(rng, net, scale)
+        for row in rng.sample(range(len(net.rows)), min(len(net.rows), rng.randrange(4))):
+            mults[row] = mults.get(row, 0) + rng.randint(0, 30)
+        proof = written_proof(node, scale, mults)
+        try:
+            proofs.append((checker.proof_number(net, proof, *box) // scale, proof))
+        except checker.Refused:
+            pass
+    return max(proofs)[1] if proofs else [node, 1, 0]
 
 
 def text_of(net, splits, proofs, kind, bound):
@@ -169,7 +203,8 @@ def some_tree(rng, data):
     net.rows = checker.make_rows(net)
     splits, boxes = some_splits(rng, net)
     nodes = sorted(rng.sample(range(len(boxes)), rng.randint(0, len(boxes))))
-    proofs = [some_proof(rng, net, node, boxes[node]) for node in nodes]
+    nodes = nodes if 0 in nodes or rng.random() < 0.4 else [0, *nodes]
+    proofs = [rng.choice([some_proof, strong_proof])(rng, net, node, boxes[node]) for node in nodes]
     try:
         bound = checker.tree_bound(net, SimpleNamespace(splits=splits, proofs=proofs))
     except checker.Refused:
