@@ -20,7 +20,8 @@ module _ (n : Net) (v : BoxView) (e : BoxEnds) (proof : Proof) (limited : IsLimi
       let same : shown_box_ends e ≡ shown_box v = λ i. record { low = λ c. get_or (sym low i) c (pos 0); high = λ c. get_or (sym high i) c (pos 0) } in
       subst (λ (z : Box). Agree n z b) same is.agree
 
-  pub in_order-agreed : (r : Result Shown ProofFault) → IfOk r (λ s. IsInOrder n (shown_box v) proof × (shown_value s ≡ shown_by n (shown_box v) proof)) → (b : Box) → AreEndsOf n b e → IfOk r (λ _. IsInOrder n b proof)
+  pub in_order-agreed : (r : Result Shown ProofFault)
+      → IfOk r (λ s. IsInOrder n (shown_box v) proof × (shown_value s ≡ shown_by n (shown_box v) proof)) → (b : Box) → AreEndsOf n b e → IfOk r (λ _. IsInOrder n b proof)
   in_order-agreed (Ok s) is b ends = in_order-same n (shown_box v) b proof limited (agreed b ends) is.0
   in_order-agreed (Err f) is b ends = tt
 

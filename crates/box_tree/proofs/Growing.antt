@@ -1,16 +1,15 @@
 -- What a split makes of what a tree keeps is a network's again.
-use Rattle.std.proofs.Common.{◌≡◌, ℕ, zero, suc, ◌-◌, ◌<◌, ◌≤◌, ◌⊎◌, inl, inr, ◌==◌, ◌||◌, if◌then◌else◌, List, [], ◌∷◌, ◌++◌, length, get_or, set, Bool, true, false, Option, Some, None, option_map, ℤ, arith, refl, sym, ap, subst, ◌∙◌, length-append, get_or-set_same, get_or-set_other}
+use Rattle.std.proofs.Common.{◌≡◌, ℕ, zero, suc, ◌-◌, ◌<◌, ◌≤◌, ◌⊎◌, inl, inr, ◌==◌, ◌||◌, if◌then◌else◌, List, [], ◌∷◌, ◌++◌, length}
+use Rattle.std.proofs.Common.{get_or, Bool, true, false, Option, Some, None, option_map, ℤ, arith, refl, sym, ap, subst, ◌∙◌, length-append}
 use Rattle.std.proofs.Math.Path.{fun_ext}
-use Rattle.std.specs.List.{list_any}
-use Rattle.std.proofs.lemmas.List.{length-set, get_or_append_left, get_or-append_right, get_or_past}
-use Rattle.std.proofs.lemmas.List.Folds.{list_any-append}
+use Rattle.std.proofs.lemmas.List.{get_or_append_left, get_or-append_right, get_or_past}
 use Rattle.std.proofs.Math.Seq.{get_or-append_seam}
-use Rattle.integers.proofs.AtKey.{same_or_other, chosen, passed}
+use Rattle.integers.proofs.AtKey.{chosen, passed}
 use Rattle.pool_model.specs.Network.{Net}
 use Rattle.pool_model.specs.Starting.{reach_bound}
 use Rattle.row_model.specs.Boxes.{Box, left_of, right_of}
 use Rattle.row_model.specs.Multipliers.{Proof, Shown, shown_by}
-use Rattle.row_model.specs.Trees.{Split, no_split, split_at, left_node, right_node, nodes, is_cut, box_of, Tree, IsTree, raised, own, bound_after, node_bound}
+use Rattle.row_model.specs.Trees.{Split, no_split, split_at, left_node, right_node, nodes, box_of, IsTree, raised, own, bound_after, node_bound}
 use Rattle.row_model.specs.Entries.{Searched, after, split_of, IsSplitEntryInOrder, IsSearched}
 use Rattle.row_model.proofs.TreeLaw.{length_before, same_node, other_leaf}
 use Rattle.row_model.proofs.EntryLaw.{length-more, box_before, box_left, box_right, searched-kept}
@@ -55,9 +54,11 @@ proof_at proofs left right t node long = elim (where_node t node) [
         ∙ sym (passed node (left_node t) left (if node == right_node t then right else get_or proofs node None) (omega arith) ∙ chosen node (right_node t) right (get_or proofs node None) e)
     | inr s ↦ elim s [
       | inl h ↦ at_before proofs left right None t long node h
-          ∙ sym (passed node (left_node t) left (if node == right_node t then right else get_or proofs node None) (omega arith) ∙ passed node (right_node t) right (get_or proofs node None) (omega arith))
+          ∙ sym (passed node (left_node t) left (if node == right_node t then right else get_or proofs node None) (omega arith)
+          ∙ passed node (right_node t) right (get_or proofs node None) (omega arith))
       | inr h ↦ at_past proofs left right None t long node h
-          ∙ sym (passed node (left_node t) left (if node == right_node t then right else get_or proofs node None) (omega arith) ∙ passed node (right_node t) right (get_or proofs node None) (omega arith))
+          ∙ sym (passed node (left_node t) left (if node == right_node t then right else get_or proofs node None) (omega arith)
+          ∙ passed node (right_node t) right (get_or proofs node None) (omega arith))
     ]
   ]
 ]
@@ -65,7 +66,8 @@ proof_at proofs left right t node long = elim (where_node t node) [
 abbrev searched_with : Searched → List Split → (ℕ → Option Proof) → Searched
 searched_with s splits proof = record s { tree = record { splits = splits; proof = proof } }
 
-grown-made : (k : Kept) (split : Split) (span : Span) (left right : Option Proof) (lb rb : Option ℤ) → length k.proofs ≡ nodes k.splits.list → searched_of (grown k split span left right lb rb) ≡ after (searched_of k) (split_of split left right)
+grown-made : (k : Kept) (split : Split) (span : Span) (left right : Option Proof) (lb rb : Option ℤ) → length k.proofs ≡ nodes k.splits.list
+    → searched_of (grown k split span left right lb rb) ≡ after (searched_of k) (split_of split left right)
 grown-made k split span left right lb rb long = ap (searched_with (searched_of k) (k.splits.list ++ split ∷ [])) (fun_ext (λ node. proof_at k.proofs left right (length k.splits.list) node long))
 
 -- ---- bounds
@@ -127,8 +129,10 @@ module _ (n : Net) (s : Searched) (split : Split) (left right : Option Proof) (i
       ≡ raised (node_bound n s.tree split.leaf) (option_map (shown_by n (right_of (box_of n s.tree.splits split.leaf) split.coord split.cut)) right)
   bound-right there =
       let t = length s.tree.splits in
-      bound-new (right_node t) (right_of (box_of n s.tree.splits split.leaf) split.coord split.cut) right (cc (other_leaf (right_node t) (left_node t) (omega arith), same_node (right_node t))) there (box_right n s.tree.splits split)
-      (passed (right_node t) (left_node t) left (if right_node t == right_node t then right else s.tree.proof (right_node t)) (omega arith) ∙ chosen (right_node t) (right_node t) right (s.tree.proof (right_node t)) refl)
+      bound-new (right_node t) (right_of (box_of n s.tree.splits split.leaf) split.coord split.cut) right
+      (cc (other_leaf (right_node t) (left_node t) (omega arith), same_node (right_node t))) there (box_right n s.tree.splits split)
+      (passed (right_node t) (left_node t) left (if right_node t == right_node t then right else s.tree.proof (right_node t)) (omega arith)
+      ∙ chosen (right_node t) (right_node t) right (s.tree.proof (right_node t)) refl)
 
 -- ---- all of it
 

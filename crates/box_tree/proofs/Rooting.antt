@@ -1,5 +1,6 @@
 -- A proof of the root: what is kept with it is a network's again.
-use Rattle.std.proofs.Common.{◌≡◌, ◌≢◌, ℕ, ◌<◌, ◌⊎◌, inl, inr, ◌==◌, if◌then◌else◌, List, [], ◌∷◌, length, get_or, set, Bool, true, false, Option, Some, None, option_map, ℤ, arith, refl, sym, ap, subst, ◌∙◌, get_or-set_same, get_or-set_other}
+use Rattle.std.proofs.Common.{◌≡◌, ◌≢◌, ℕ, ◌<◌, ◌⊎◌, inl, inr, ◌==◌, if◌then◌else◌, List, [], ◌∷◌, length, get_or, set}
+use Rattle.std.proofs.Common.{Bool, true, false, Option, Some, None, option_map, ℤ, arith, refl, sym, ap, subst, ◌∙◌, get_or-set_same, get_or-set_other}
 use Rattle.std.proofs.Math.Path.{fun_ext}
 use Rattle.std.proofs.lemmas.List.{length-set}
 use Rattle.integers.proofs.AtKey.{same_or_other, chosen, passed}
@@ -69,7 +70,8 @@ root-taken n k proof bound is shows unproved uncut bound_is =
         splits = is.splits;
         bounds = λ node h. subst (λ (z : Searched). get_or (set k.bounds 0 bound) node None ≡ node_bound n z.tree node) (sym made)
             (let first : node ≡ 0 = omega (arith, h, only) in
-            ap (λ (i : ℕ). get_or (set k.bounds 0 bound) i None) first ∙ get_or-set_same k.bounds 0 bound None (omega (arith, is.bounded)) ∙ now ∙ sym (first_bound n new (length k.splits.list) node only first));
+            ap (λ (i : ℕ). get_or (set k.bounds 0 bound) i None) first ∙ get_or-set_same k.bounds 0 bound None (omega (arith, is.bounded)) ∙ now
+            ∙ sym (first_bound n new (length k.splits.list) node only first));
         cost = is.cost;
       };
     }

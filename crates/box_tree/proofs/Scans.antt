@@ -1,5 +1,5 @@
 -- The bound of a tree from the bounds and marks that are kept.
-use Rattle.std.proofs.Common.{◌≡◌, ◌≢◌, ℕ, zero, suc, ◌<◌, ◌⊎◌, inl, inr, length, get_or, Bool, true, false, ◌+◌, if◌then◌else◌, Option, Some, None, ℤ, arith, refl, sym, ap, ◌∙◌}
+use Rattle.std.proofs.Common.{◌≡◌, ◌≢◌, ℕ, zero, suc, ◌<◌, ◌⊎◌, inl, inr, length, Bool, true, false, ◌+◌, if◌then◌else◌, Option, Some, None, ℤ, arith, refl, sym, ap, ◌∙◌}
 use Rattle.std.specs.Int.{int_min}
 use Rattle.std.proofs.lemmas.Int.{clamps}
 use Rattle.std.proofs.lemmas.Bool.{cases_lt}

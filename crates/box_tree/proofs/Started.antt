@@ -1,5 +1,5 @@
 -- The tree of the root alone is the network's.
-use Rattle.std.proofs.Common.{◌≡◌, ℕ, zero, suc, ◌<◌, List, [], ◌∷◌, get_or, Bool, false, Option, Some, None, ℤ, arith, refl, sym, subst, ◌∙◌, map, option_map}
+use Rattle.std.proofs.Common.{◌≡◌, ℕ, zero, suc, ◌<◌, List, [], ◌∷◌, get_or, Option, Some, None, ℤ, arith, refl, sym, subst, ◌∙◌, map, option_map}
 use Rattle.std.proofs.lemmas.Option.{none-some}
 use Rattle.pool_model.specs.Network.{Net}
 use Rattle.pool_model.specs.Starting.{reach_bound}
@@ -49,4 +49,4 @@ first-held n t proofs bounds e cut f g =
     subst (λ (xs : List (Option HeldProof)). IsKeptOf n record { splits = t; proofs = map (option_map shown_proof) xs; bounds = bounds; best = None; cost = None }) (sym f)
     (subst (λ (xs : List (Option ℤ)). IsKeptOf n record { splits = t; proofs = None ∷ []; bounds = xs; best = None; cost = None }) (sym g)
     (subst (λ (xs : List Split). AreCut n record { list = xs; spans = t.spans }
-        → IsKeptOf n record { splits = record { list = xs; spans = t.spans }; proofs = None ∷ []; bounds = Some (reach_bound n) ∷ []; best = None; cost = None }) (sym e) (first-kept n t.spans) cut))
+    → IsKeptOf n record { splits = record { list = xs; spans = t.spans }; proofs = None ∷ []; bounds = Some (reach_bound n) ∷ []; best = None; cost = None }) (sym e) (first-kept n t.spans) cut))

@@ -43,7 +43,8 @@ impl Tree {
     ) -> Result<(), EntryFault>
         requires { IsOf (net_of net.now) self.old }
         ensures taken { IfOk result (λ _. IsTaken (net_of net.now) (split_of (shown_split split) (option_map shown_proof left) (option_map shown_proof right)) self.old.kept self.new.kept) }
-        ensures fault { IfErr result (λ f. f ≢ EntryFault.Memory → IsFirstFault (net_of net.now) (searched_of self.old.kept) (split_of (shown_split split) (option_map shown_proof left) (option_map shown_proof right)) f) }
+        ensures fault { IfErr result (λ f. f ≢ EntryFault.Memory → IsFirstFault (net_of net.now) (searched_of self.old.kept)
+            (split_of (shown_split split) (option_map shown_proof left) (option_map shown_proof right)) f) }
         ensures unchanged { IfErr result (λ _. self.new.kept ≡ self.old.kept) }
         ensures scratch { Fits (net_of net.now) self.new.scratch }
     {
@@ -84,9 +85,12 @@ impl Tree {
     ) -> Result<Option<Shown>, EntryFault>
         requires tree { IsOf (net_of net.now) self.old }
         requires cuts { MayCome (net_of net.now) self.old.kept.splits.list (shown_split split.now) }
-        ensures in_order { IfOk result (λ _. ForSome (option_map shown_proof proof.now) (multipliers.IsInOrder (net_of net.now) (half_at (net_of net.now) self.old.kept.splits.list (shown_split split.now) side))) }
-        ensures shown { IfOk result (λ s. option_map results.shown_value s ≡ option_map (multipliers.shown_by (net_of net.now) (half_at (net_of net.now) self.old.kept.splits.list (shown_split split.now) side)) (option_map shown_proof proof.now)) }
-        ensures fault { IfErr result (λ f. f ≢ EntryFault.Memory → IsBadProof (net_of net.now) (half_at (net_of net.now) self.old.kept.splits.list (shown_split split.now) side) (option_map shown_proof proof.now) f) }
+        ensures in_order { IfOk result (λ _. ForSome (option_map shown_proof proof.now) (multipliers.IsInOrder (net_of net.now)
+            (half_at (net_of net.now) self.old.kept.splits.list (shown_split split.now) side))) }
+        ensures shown { IfOk result (λ s. option_map results.shown_value s ≡ option_map (multipliers.shown_by (net_of net.now)
+            (half_at (net_of net.now) self.old.kept.splits.list (shown_split split.now) side)) (option_map shown_proof proof.now)) }
+        ensures fault { IfErr result (λ f. f ≢ EntryFault.Memory → IsBadProof (net_of net.now)
+            (half_at (net_of net.now) self.old.kept.splits.list (shown_split split.now) side) (option_map shown_proof proof.now) f) }
         ensures kept { self.new.kept ≡ self.old.kept }
         ensures scratch { Fits (net_of net.now) self.new.scratch }
     {
@@ -109,7 +113,8 @@ impl Tree {
     ) -> Result<(), AllocError>
         requires leaf { split.leaf < trees.nodes self.old.kept.splits.list }
         requires few { length self.old.kept.splits.list < trees.most_splits }
-        ensures grown { IfOk result (λ _. self.new.kept ≡ grown self.old.kept (shown_split split) span (option_map shown_proof left.proof) (option_map shown_proof right.proof) left.bound right.bound) }
+        ensures grown { IfOk result (λ _. self.new.kept ≡ grown self.old.kept (shown_split split) span
+            (option_map shown_proof left.proof) (option_map shown_proof right.proof) left.bound right.bound) }
         ensures cut { (n : Net) → AreCut n self.old.kept.splits → MayCome n self.old.kept.splits.list (shown_split split)
             → CutsBetween n self.old.kept.splits.list (shown_split split) span → IfOk result (λ _. AreCut n self.new.kept.splits) }
         ensures unchanged { IfErr result (λ _. self.new.kept ≡ self.old.kept) }

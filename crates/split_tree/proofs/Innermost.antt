@@ -1,5 +1,6 @@
 -- The box of a node by its innermost cuts: from the node up to the root, the least of the right ends and the greatest of the left ones.
-use Rattle.std.proofs.Common.{◌≡◌, ◌≢◌, ℕ, suc, ◌+◌, ◌-◌, ◌*◌, ◌/◌, ◌%◌, ◌<◌, inl, inr, ◌==◌, if◌then◌else◌, List, length, get_or, set, ℤ, pos, ◌≤ℤ◌, ◌<ℤ◌, arith, sym, ap, subst, ◌∙◌, get_or-set_same, get_or-set_other, map}
+use Rattle.std.proofs.Common.{◌≡◌, ◌≢◌, ℕ, suc, ◌+◌, ◌-◌, ◌*◌, ◌/◌, ◌%◌, ◌<◌, inl, inr, ◌==◌, if◌then◌else◌, List}
+use Rattle.std.proofs.Common.{length, get_or, set, ℤ, pos, ◌≤ℤ◌, ◌<ℤ◌, arith, sym, ap, subst, ◌∙◌, get_or-set_same, get_or-set_other, map}
 use Rattle.std.specs.Int.{int_min, int_max}
 use Rattle.std.proofs.lemmas.Int.{clamps}
 use Rattle.std.proofs.lemmas.Option.{none-some}
@@ -47,12 +48,14 @@ child_right n tree t is h =
     ∙ ap (λ (b : Box). right_of b s.coord s.cut) (sym (box_is n tree.splits t s.leaf (omega arith) (leaf_before n tree t is h)))
 
 -- the cut of a split lies inside the box of its leaf
-cut_low : (n : Net) (tree : Tree) (t : ℕ) → IsTree n tree → t < length tree.splits → (box_of n tree.splits (split_at tree.splits t).leaf).low (split_at tree.splits t).coord <ℤ (split_at tree.splits t).cut
+cut_low : (n : Net) (tree : Tree) (t : ℕ) → IsTree n tree → t < length tree.splits
+    → (box_of n tree.splits (split_at tree.splits t).leaf).low (split_at tree.splits t).coord <ℤ (split_at tree.splits t).cut
 cut_low n tree t is h =
     let s = split_at tree.splits t in
     subst (λ (b : Box). b.low s.coord <ℤ s.cut) (sym (box_is n tree.splits t s.leaf (omega arith) (leaf_before n tree t is h))) (is.splits t h).low
 
-cut_high : (n : Net) (tree : Tree) (t : ℕ) → IsTree n tree → t < length tree.splits → (split_at tree.splits t).cut <ℤ (box_of n tree.splits (split_at tree.splits t).leaf).high (split_at tree.splits t).coord
+cut_high : (n : Net) (tree : Tree) (t : ℕ) → IsTree n tree → t < length tree.splits
+    → (split_at tree.splits t).cut <ℤ (box_of n tree.splits (split_at tree.splits t).leaf).high (split_at tree.splits t).coord
 cut_high n tree t is h =
     let s = split_at tree.splits t in
     subst (λ (b : Box). s.cut <ℤ b.high s.coord) (sym (box_is n tree.splits t s.leaf (omega arith) (leaf_before n tree t is h))) (is.splits t h).high
@@ -189,7 +192,8 @@ so_far-last n tree node at e lim is there last so_far =
     let top : box_of n tree.splits at ≡ root n = ap (box_of n tree.splits) last ∙ box_is n tree.splits 0 0 (omega arith) (omega arith) in
     agree-ends n (box_of n tree.splits node) e (node-proper n tree lim is node there) so_far.lows so_far.highs record {
       low = λ c h. sym (so_far.least c h ∙ ap (λ (b : Box). int_max (get_or e.low.items c (pos 0)) (b.low c)) top ∙ max_left (get_or e.low.items c (pos 0)) ((root n).low c) (so_far.above c h));
-      high = λ c h. sym (so_far.greatest c h ∙ ap (λ (b : Box). int_min (get_or e.high.items c (pos 0)) (b.high c)) top ∙ min_left (get_or e.high.items c (pos 0)) ((root n).high c) (so_far.below c h));
+      high = λ c h. sym (so_far.greatest c h ∙ ap (λ (b : Box). int_min (get_or e.high.items c (pos 0)) (b.high c)) top
+          ∙ min_left (get_or e.high.items c (pos 0)) ((root n).high c) (so_far.below c h));
     }
 
 -- ---- splits as code holds them
@@ -206,7 +210,8 @@ held_at held splits t e h =
 pub parent_below : (at l : ℕ) → 0 < at → at < 2 * l + 1 → (at - 1) / 2 < l
 parent_below at l h k = omega arith
 
-pub walked-left : (n : Net) (tree : Tree) (node at : ℕ) (low high : List ℤ) (held : List HeldSplit) → IsTree n tree → map shown_split held ≡ tree.splits → 0 < at → at % 2 ≡ 1 → IsSoFar n tree.splits node at low high
+pub walked-left : (n : Net) (tree : Tree) (node at : ℕ) (low high : List ℤ) (held : List HeldSplit) → IsTree n tree
+    → map shown_split held ≡ tree.splits → 0 < at → at % 2 ≡ 1 → IsSoFar n tree.splits node at low high
     → IsSoFar n tree.splits node (get_or held ((at - 1) / 2) no_held).leaf low
     (set high (get_or held ((at - 1) / 2) no_held).coord (int_min (get_or high (get_or held ((at - 1) / 2) no_held).coord (pos 0)) (get_or held ((at - 1) / 2) no_held).cut))
 walked-left n tree node at low high held is e some odd so_far =
@@ -215,7 +220,8 @@ walked-left n tree node at low high held is e some odd so_far =
     subst (λ (s : Split). IsSoFar n tree.splits node s.leaf low (set high s.coord (int_min (get_or high s.coord (pos 0)) s.cut))) (sym (held_at held tree.splits t e there))
     (so_far-left n tree node at t low high is (omega arith) there so_far)
 
-pub walked-right : (n : Net) (tree : Tree) (node at : ℕ) (low high : List ℤ) (held : List HeldSplit) → IsTree n tree → map shown_split held ≡ tree.splits → 0 < at → at % 2 ≢ 1 → IsSoFar n tree.splits node at low high
+pub walked-right : (n : Net) (tree : Tree) (node at : ℕ) (low high : List ℤ) (held : List HeldSplit) → IsTree n tree
+    → map shown_split held ≡ tree.splits → 0 < at → at % 2 ≢ 1 → IsSoFar n tree.splits node at low high
     → IsSoFar n tree.splits node (get_or held ((at - 1) / 2) no_held).leaf
     (set low (get_or held ((at - 1) / 2) no_held).coord (int_max (get_or low (get_or held ((at - 1) / 2) no_held).coord (pos 0)) (get_or held ((at - 1) / 2) no_held).cut)) high
 walked-right n tree node at low high held is e some even so_far =
@@ -229,7 +235,8 @@ pub record IsAbove (n : Net) (at : ℕ) (s : HeldSplit) : Type 0 where
   pub coord : s.coord < coords n
   pub leaf : s.leaf < at
 
-pub above-held : (n : Net) (tree : Tree) (at : ℕ) (held : List HeldSplit) → IsTree n tree → map shown_split held ≡ tree.splits → 0 < at → at < nodes tree.splits → IsAbove n at (get_or held ((at - 1) / 2) no_held)
+pub above-held : (n : Net) (tree : Tree) (at : ℕ) (held : List HeldSplit) → IsTree n tree → map shown_split held ≡ tree.splits → 0 < at
+    → at < nodes tree.splits → IsAbove n at (get_or held ((at - 1) / 2) no_held)
 above-held n tree at held is e some there =
     let t = (at - 1) / 2 in
     let below = parent_below at (length tree.splits) some there in

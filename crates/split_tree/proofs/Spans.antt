@@ -104,7 +104,8 @@ module _ (n : Net) (k : Splits) (coord node at : ℕ) (held : List HeldSplit) (i
       (subst (λ (s : Split). IsSpanOf (box_of n k.list node) coord record { low = s.cut; high = (get_or k.spans t no_span).high }) (sym up_is)
       (below_right n (tree_of k.list) (tree-of n k is) coord node at t up_below same (get_or k.spans t no_span) (omega arith) (ap (λ (s : Split). s.coord) (sym up_is) ∙ on) (is.spans t up_below)))
 
-pub span-root : (n : Net) (splits : List Split) (coord node at : ℕ) (span : Span) → at ≡ 0 → IsSameTo n splits coord node at → span.low ≡ (root n).low coord → span.high ≡ (root n).high coord → IsSpanOf (box_of n splits node) coord span
+pub span-root : (n : Net) (splits : List Split) (coord node at : ℕ) (span : Span) → at ≡ 0 → IsSameTo n splits coord node at
+    → span.low ≡ (root n).low coord → span.high ≡ (root n).high coord → IsSpanOf (box_of n splits node) coord span
 span-root n splits coord node at span last same low high =
     let top : box_of n splits at ≡ root n = ap (box_of n splits) last ∙ box_is n splits 0 0 (omega arith) (omega arith) in
     record {
@@ -137,7 +138,8 @@ spans-more n k split span is there below here t h = elim (same_or_other t (lengt
       moved (split_at k.list t) (split_at (k.list ++ split ∷ []) t) (get_or k.spans t no_span) (get_or (k.spans ++ span ∷ []) t no_span) at ends (below t lt) (is.spans t lt)
 ]
   where
-    moved : (old new : Split) (before after : Span) → new ≡ old → after ≡ before → old.leaf < nodes k.list → IsSpanOf (box_of n k.list old.leaf) old.coord before → IsSpanOf (box_of n (k.list ++ split ∷ []) new.leaf) new.coord after
+    moved : (old new : Split) (before after : Span) → new ≡ old → after ≡ before → old.leaf < nodes k.list
+        → IsSpanOf (box_of n k.list old.leaf) old.coord before → IsSpanOf (box_of n (k.list ++ split ∷ []) new.leaf) new.coord after
     moved old new before after at ends lt h =
         subst (λ (s : Split). IsSpanOf (box_of n (k.list ++ split ∷ []) s.leaf) s.coord after) (sym at)
         (subst (λ (x : Span). IsSpanOf (box_of n (k.list ++ split ∷ []) old.leaf) old.coord x) (sym ends)

@@ -23,7 +23,7 @@ impl SplitTree {
         ensures { IfOk result (AreEndsOf (net_of net.now) (trees.box_of (net_of net.now) self.now.list node)) }
     {
         let _counts = net.counts();
-        let splits = self.splits.as_slice();
+        let splits = self.splits();
         let BoxEnds { mut low, mut high } = root_box(self.alloc, net)?;
         let mut at = node;
         while at > 0 {
@@ -66,7 +66,7 @@ impl SplitTree {
         requires known { coord < coords (net_of net.now) }
         ensures { IsSpanOf (trees.box_of (net_of net.now) self.now.list node) coord result }
     {
-        let splits = self.splits.as_slice();
+        let splits = self.splits();
         let spans = self.spans.as_slice();
         let mut at = node;
         while at > 0 {

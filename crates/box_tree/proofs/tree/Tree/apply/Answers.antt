@@ -12,16 +12,19 @@ pub returns-in-Root-clause-refused : goal.returns-in-Root-clause-refused
 returns-in-Root-clause-refused c =
     let n = net_of c.args.net.now in
     let s = searched_of c.args.self.now.kept in
-    refused-each n s (shown_entry c.args.entry) c.prove_root.result (subst (λ (e : Entry). IfErr c.prove_root.result (λ f. f ≢ Memory → IsFirstFault n s (shown_entry e) f)) (sym c.in-Root.is) c.prove_root.ensures.fault)
+    refused-each n s (shown_entry c.args.entry) c.prove_root.result
+    (subst (λ (e : Entry). IfErr c.prove_root.result (λ f. f ≢ Memory → IsFirstFault n s (shown_entry e) f)) (sym c.in-Root.is) c.prove_root.ensures.fault)
 
 pub returns-in-SplitOf-clause-refused : goal.returns-in-SplitOf-clause-refused
 returns-in-SplitOf-clause-refused c =
     let n = net_of c.args.net.now in
     let s = searched_of c.args.self.now.kept in
-    refused-each n s (shown_entry c.args.entry) c.split.result (subst (λ (e : Entry). IfErr c.split.result (λ f. f ≢ Memory → IsFirstFault n s (shown_entry e) f)) (sym c.in-SplitOf.is) c.split.ensures.fault)
+    refused-each n s (shown_entry c.args.entry) c.split.result
+    (subst (λ (e : Entry). IfErr c.split.result (λ f. f ≢ Memory → IsFirstFault n s (shown_entry e) f)) (sym c.in-SplitOf.is) c.split.ensures.fault)
 
 pub returns-in-Improve-clause-refused : goal.returns-in-Improve-clause-refused
 returns-in-Improve-clause-refused c =
     let n = net_of c.args.net.now in
     let s = searched_of c.args.self.now.kept in
-    refused-each n s (shown_entry c.args.entry) c.improve.result (subst (λ (e : Entry). IfErr c.improve.result (λ f. f ≢ Memory → IsFirstFault n s (shown_entry e) f)) (sym c.in-Improve.is) c.improve.ensures.fault)
+    refused-each n s (shown_entry c.args.entry) c.improve.result
+    (subst (λ (e : Entry). IfErr c.improve.result (λ f. f ≢ Memory → IsFirstFault n s (shown_entry e) f)) (sym c.in-Improve.is) c.improve.ensures.fault)

@@ -20,7 +20,8 @@ use Rattle.box_tree.proofs.tree.Tree.split.Goals as goal
 pub returns-in_err-span-clause-fault : goal.returns-in_err-span-clause-fault
 returns-in_err-span-clause-fault c =
     let p = err_from_is_err_and c.from_residual.result c.from_residual.ensures.1 in
-    rw (p.1, p.2) (λ _. bad-split (net_of c.args.net.now) (searched_of c.args.self.now.kept) (shown_split c.args.split) (option_map shown_proof c.args.left) (option_map shown_proof c.args.right) c.in_err-span.field-0.0
+    rw (p.1, p.2) (λ _. bad-split (net_of c.args.net.now) (searched_of c.args.self.now.kept) (shown_split c.args.split)
+    (option_map shown_proof c.args.left) (option_map shown_proof c.args.right) c.in_err-span.field-0.0
     c.in_err-span.ensures.fault)
 
 pub returns-in_err-left_shown-clause-fault : goal.returns-in_err-left_shown-clause-fault
@@ -28,7 +29,8 @@ returns-in_err-left_shown-clause-fault c =
     let n = net_of c.args.net.now in
     let cut = c.in_ok-span.ensures in
     let p = err_from_is_err_and c.from_residual-in_err-left_shown.result c.from_residual-in_err-left_shown.ensures.1 in
-    rw (p.1, p.2) (λ ne. bad-left n (searched_of c.args.self.now.kept) (shown_split c.args.split) (option_map shown_proof c.args.left) (option_map shown_proof c.args.right) c.in_err-left_shown.field-0.0 cut.cuts cut.few
+    rw (p.1, p.2) (λ ne. bad-left n (searched_of c.args.self.now.kept) (shown_split c.args.split) (option_map shown_proof c.args.left)
+    (option_map shown_proof c.args.right) c.in_err-left_shown.field-0.0 cut.cuts cut.few
     (c.in_err-left_shown.ensures.fault ne))
 
 pub returns-in_err-right_shown-clause-fault : goal.returns-in_err-right_shown-clause-fault
