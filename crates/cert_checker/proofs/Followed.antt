@@ -12,7 +12,8 @@ use Rattle.cert_format.specs.Valid.{tree_of, IsShown, IsValid}
 shown-follows : (n : Net) (tree : Tree) (claim : Claimed) → IsLimited n → IsTree n tree → IsShown n tree claim → Follows n claim
 shown-follows n tree (with_gap plan cost base bound gap) limited is shown =
     let holds = tree-bound n tree bound limited is shown.bound_is in
-    let above : (bound *ℤ pos base) ≤ℤ cost = subst (λ c. (bound *ℤ pos base) ≤ℤ c) (sym shown.cost_is) (subst (λ b. (bound *ℤ pos b) ≤ℤ cost_of n (plan_of n plan)) (sym shown.base_is) (holds (plan_of n plan) shown.obeys)) in
+    let above : (bound *ℤ pos base) ≤ℤ cost =
+    subst (λ c. (bound *ℤ pos base) ≤ℤ c) (sym shown.cost_is) (subst (λ b. (bound *ℤ pos b) ≤ℤ cost_of n (plan_of n plan)) (sym shown.base_is) (holds (plan_of n plan) shown.obeys)) in
     record {
       obeys = shown.obeys;
       base_is = shown.base_is;

@@ -16,7 +16,8 @@ use Rattle.cert_checker.specs.Trees.{ArePlaced}
 use Rattle.cert_checker.specs.Judging.{IsNext}
 
 -- a line that is read from a list
-pub line-is : (lines : List declared.NodeProof) (k : ℕ) (line : declared.NodeProof) → k < length lines → line ≡ get_or lines k line → get_or (map shown_node_proof lines) k no_proof ≡ shown_node_proof line
+pub line-is : (lines : List declared.NodeProof) (k : ℕ) (line : declared.NodeProof) → k < length lines → line ≡ get_or lines k line
+    → get_or (map shown_node_proof lines) k no_proof ≡ shown_node_proof line
 line-is lines k line h e = get_or-map shown_node_proof lines k line no_proof h ∙ ap shown_node_proof (sym e)
 
 rising_tail : (p : NodeProof) (lines : List NodeProof) → IsRising (p ∷ lines) → IsRising lines
@@ -90,7 +91,8 @@ next-named lines node next rising is h e = record {
 }
 
 -- no line names the node
-unnamed_at : (lines : List NodeProof) (node next : ℕ) → IsRising lines → IsNext lines node next → (next < length lines → node_at lines next ≢ node) → (k : ℕ) → next ≤ k → k < length lines → node < node_at lines k
+unnamed_at : (lines : List NodeProof) (node next : ℕ) → IsRising lines → IsNext lines node next → (next < length lines → node_at lines next ≢ node)
+    → (k : ℕ) → next ≤ k → k < length lines → node < node_at lines k
 unnamed_at lines node next rising is other k le lt =
     let first : node ≤ node_at lines next = is.behind next (omega arith) (omega arith) in
     let unequal : node_at lines next ≢ node = other (omega arith) in

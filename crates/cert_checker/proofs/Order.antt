@@ -1,9 +1,10 @@
 -- The first cause to refuse a certificate, and that there is none for a valid one.
-use Rattle.std.proofs.Common.{◌≡◌, ◌≢◌, ℕ, suc, ◌<◌, inl, inr, List, Option, None, Some, ℤ, arith, refl, sym, ap, subst, ◌∙◌}
+use Rattle.std.proofs.Common.{◌≡◌, ◌≢◌, ℕ, suc, ◌<◌, inl, inr, List, [], ◌∷◌, Option, None, Some, ℤ, arith, refl, sym, ap, subst, ◌∙◌}
 use Rattle.std.specs.Prelude.{unwrap_or, Result, Ok, Err, IfOk, IfErr}
 use Rattle.std.proofs.lemmas.Option.{none-some}
 use Rattle.integers.proofs.Ring.{additive}
-use Rattle.integers.proofs.AtKey.{same_or_other}
+use Rattle.faults.specs.First.{IsBelow}
+use Rattle.faults.proofs.First.{IsClear, clear-next, first-of, lone-first}
 use Rattle.pool_model.specs.Network.{Net, counts_of}
 use Rattle.pool_model.specs.Plan.{Written}
 use Rattle.pool_model.specs.Claim.{Claimed, with_gap, with_bound, no_plan}
@@ -16,37 +17,44 @@ use Rattle.plan_core.specs.declared.fault.PlanFault.TheVariants as faults
 use Rattle.cert_format.specs.Cert.{Cert, NodeProof}
 use Rattle.cert_format.specs.Valid.{tree_of, IsShown, IsValid}
 use Rattle.cert_checker.specs.declared.verdict.Verdict.{Verdict}
-use Rattle.cert_checker.specs.Answers.{verdict_of, IsTakenAs}
+use Rattle.cert_checker.specs.Answers.{verdict_of, Spells, IsRefused, IsTakenAs}
 use Rattle.cert_checker.specs.declared.refusal.Refusal.{Refusal}
 use Rattle.cert_checker.specs.declared.refusal.Refusal.TheVariants.{Text, Shape, Plan, Split as SplitAt, ProofPlace, Proof as ProofOf, WrongKind, WrongCost, WrongBound, WrongGap, Memory}
-use Rattle.cert_checker.specs.Refusals.{HasPlanFault, IsWrongKind, IsWrongCost, IsWrongBound, IsWrongGap, Refuses, stage, number, IsFirstRefusal}
+use Rattle.cert_checker.specs.Refusals.{HasPlanFault, IsWrongKind, IsWrongCost, IsWrongBound, IsWrongGap, Refuses, number, about, IsFirstRefusal}
 use Rattle.cert_checker.specs.Trees.{AreSplits, ArePlaced, AreProved, IsFirstSplit, IsFirstPlace, IsBoundOf, IsTreeRefusal}
 use Rattle.cert_checker.specs.Claims.{IsClaimCost, IsPlanRefusal, IsOtherCost, AreClaimed, IsClaimRefusal}
 use Rattle.row_book.proofs.AgreedFaults.{no-fault}
 use Rattle.cert_checker.proofs.Lines.{all-placed}
 
--- a certificate gives no cause of this stage
+-- a certificate gives no cause of this number
 abbrev Clears : Net → Cert → ℕ → Type 0
-Clears n c s = (r : Refusal) → stage r ≡ s → ¬ Refuses n c r
+Clears n c s = (r : Refusal) → number r ≡ s → ¬ Refuses n c r
 
--- a certificate gives no cause before this stage
+-- a certificate gives no cause before this number
 abbrev ClearsTo : Net → Cert → ℕ → Type 0
-ClearsTo n c s = (r : Refusal) → stage r < s → ¬ Refuses n c r
+ClearsTo n c s = IsClear number (Refuses n c) s
 
 one_more : (n : Net) (c : Cert) (s : ℕ) → ClearsTo n c s → Clears n c s → ClearsTo n c (suc s)
-one_more n c s before here r h = elim (same_or_other (stage r) s) [ inl e ↦ here r e | inr d ↦ before r (omega arith) ]
+one_more n c s before here = clear-next s before here
 
-first_of : (n : Net) (c : Cert) (r : Refusal) → Refuses n c r → ClearsTo n c (stage r) → ((e : Refusal) → stage e ≡ stage r → number e < number r → ¬ Refuses n c e) → IsFirstRefusal n c r
-first_of n c r is before same = record {
-  refuses = is;
-  first = λ e lt. elim lt [ inl h ↦ before e h | inr h ↦ same e h.0 h.1 ];
-}
+first_of : (n : Net) (c : Cert) (r : Refusal) → Refuses n c r → ClearsTo n c (number r) → ((e : Refusal) → number e ≡ number r → IsBelow (about e) (about r) → ¬ Refuses n c e) → IsFirstRefusal n c r
+first_of n c r is before same = first-of {about = about} r is before same
 
--- ---- stages that a certificate clears
+lone : (n : Net) (c : Cert) (r : Refusal) → about r ≡ [] → Refuses n c r → ClearsTo n c (number r) → IsFirstRefusal n c r
+lone n c r e is before = lone-first {about = about} r e is before
+
+below_one : (i t : ℕ) → IsBelow (i ∷ []) (t ∷ []) → i < t
+below_one i t (inl h) = h
+below_one i t (inr h) = absurd h.1
+
+-- ---- numbers that a certificate clears
 
 clear_text : (n : Net) (c : Cert) → ClearsTo n c 2
-clear_text n c (Text f) h k = k
-clear_text n c _ h k = absurd (omega arith)
+clear_text n c = record { none = none }
+  where
+    none : (r : Refusal) → number r < 2 → ¬ Refuses n c r
+    none (Text f) h k = k
+    none _ h k = absurd (omega arith)
 
 clear_shape : (n : Net) (c : Cert) → c.shape ≡ counts_of n → Clears n c 2
 clear_shape n c same Shape e k = k same
@@ -111,10 +119,10 @@ to_plan : (n : Net) (c : Cert) → c.shape ≡ counts_of n → ClearsTo n c 3
 to_plan n c same = one_more n c 2 (clear_text n c) (clear_shape n c same)
 
 pub shape-refused : (n : Net) (c : Cert) → c.shape ≢ counts_of n → IsFirstRefusal n c Shape
-shape-refused n c other = first_of n c Shape other (clear_text n c) (λ e same lt. absurd (omega arith))
+shape-refused n c other = lone n c Shape refl other (clear_text n c)
 
 pub plan-refused : (n : Net) (c : Cert) (r : Refusal) → c.shape ≡ counts_of n → IsPlanRefusal n c.claim r → IsFirstRefusal n c r
-plan-refused n c r same is = subst (IsFirstRefusal n c) (sym is.is) (first_of n c (Plan is.fault) is.has (to_plan n c same) (λ e at lt. absurd (omega arith)))
+plan-refused n c r same is = subst (IsFirstRefusal n c) (sym is.is) (lone n c (Plan is.fault) refl is.has (to_plan n c same))
 
 to_splits : (n : Net) (c : Cert) (cost : Option Cost) → c.shape ≡ counts_of n → IsClaimCost n c.claim cost → ClearsTo n c 4
 to_splits n c cost same is = one_more n c 3 (to_plan n c same) (clear_plan n c (λ f. claim_no_fault n c.claim cost f is))
@@ -125,30 +133,25 @@ to_places n c cost same is splits = one_more n c 4 (to_splits n c cost same is) 
 to_proofs : (n : Net) (c : Cert) (cost : Option Cost) → c.shape ≡ counts_of n → IsClaimCost n c.claim cost → AreSplits n c.splits → ArePlaced c.splits c.proofs → ClearsTo n c 6
 to_proofs n c cost same is splits placed = one_more n c 5 (to_places n c cost same is splits) (clear_places n c placed)
 
-before_split : (n : Net) (c : Cert) (t : ℕ) → IsFirstSplit n c.splits t → (e : Refusal) → stage e ≡ 4 → number e < t → ¬ Refuses n c e
-before_split n c t is (SplitAt i) at lt w = elim w.wrong [ inl h ↦ absurd (omega (arith, is.few)) | inr wrong ↦ wrong (is.before i lt) ]
+before_split : (n : Net) (c : Cert) (t : ℕ) → IsFirstSplit n c.splits t → (e : Refusal) → number e ≡ 4 → IsBelow (about e) (t ∷ []) → ¬ Refuses n c e
+before_split n c t is (SplitAt i) at lt w = let below = below_one i t lt in elim w.wrong [ inl h ↦ absurd (omega (arith, is.few)) | inr wrong ↦ wrong (is.before i below) ]
 before_split n c t is _ at lt w = absurd (omega arith)
 
-before_place : (n : Net) (c : Cert) (k : ℕ) → IsFirstPlace (nodes c.splits) c.proofs k → (e : Refusal) → stage e ≡ 5 → number e < k → ¬ Refuses n c e
-before_place n c k is (ProofPlace j) at lt w = w.wrong (is.before j lt)
+before_place : (n : Net) (c : Cert) (k : ℕ) → IsFirstPlace (nodes c.splits) c.proofs k → (e : Refusal) → number e ≡ 5 → IsBelow (about e) (k ∷ []) → ¬ Refuses n c e
+before_place n c k is (ProofPlace j) at lt w = w.wrong (is.before j (below_one j k lt))
 before_place n c k is _ at lt w = absurd (omega arith)
 
-before_proof : (n : Net) (c : Cert) (node : ℕ) → AreProved n (tree_of c) node → (e : Refusal) → stage e ≡ 6 → number e < node → ¬ Refuses n c e
-before_proof n c node is (ProofOf other f) at lt w = no-fault n (box_of n c.splits other) w.proof f (is other w.proof lt w.has) w.first.holds
+before_proof : (n : Net) (c : Cert) (node : ℕ) → AreProved n (tree_of c) node → (e : Refusal) → number e ≡ 6 → IsBelow (about e) (node ∷ []) → ¬ Refuses n c e
+before_proof n c node is (ProofOf other f) at lt w = no-fault n (box_of n c.splits other) w.proof f (is other w.proof (below_one other node lt) w.has) w.first.holds
 before_proof n c node is _ at lt w = absurd (omega arith)
 
-pub tree-refused : (n : Net) (c : Cert) (cost : Option Cost) (r : Refusal) → c.shape ≡ counts_of n → IsClaimCost n c.claim cost → IsTreeRefusal n c.splits c.proofs r → r ≢ Memory → IsFirstRefusal n c r
+pub tree-refused : (n : Net) (c : Cert) (cost : Option Cost) (r : Refusal) → c.shape ≡ counts_of n → IsClaimCost n c.claim cost
+    → IsTreeRefusal n c.splits c.proofs r → r ≢ Memory → IsFirstRefusal n c r
 tree-refused n c cost (SplitAt t) same is w other = first_of n c (SplitAt t) w.wrong (to_splits n c cost same is) (before_split n c t w)
 tree-refused n c cost (ProofPlace k) same is w other = first_of n c (ProofPlace k) w.1.wrong (to_places n c cost same is w.0) (before_place n c k w.1)
 tree-refused n c cost (ProofOf node f) same is w other = first_of n c (ProofOf node f) w.2 (to_proofs n c cost same is w.0 w.1) (before_proof n c node w.3)
 tree-refused n c cost Memory same is w other = absurd (other refl)
-tree-refused n c cost (Text f) same is w other = absurd w
-tree-refused n c cost Shape same is w other = absurd w
-tree-refused n c cost (Plan f) same is w other = absurd w
-tree-refused n c cost WrongKind same is w other = absurd w
-tree-refused n c cost WrongCost same is w other = absurd w
-tree-refused n c cost WrongBound same is w other = absurd w
-tree-refused n c cost WrongGap same is w other = absurd w
+tree-refused n c cost _ same is w other = absurd w
 
 -- ---- claims
 
@@ -184,19 +187,14 @@ module _ (n : Net) (c : Cert) (cost : Option Cost) (same : c.shape ≡ counts_of
   to_bound kind right = one_more n c 8 (to_cost kind) (clear_cost n c (λ w. right (other_cost n c.claim cost is w)))
 
   claim_refused : (r : Refusal) → IsClaimRefusal cost (tree_bound n (tree_of c)) c.claim r → IsFirstRefusal n c r
-  claim_refused WrongKind w = first_of n c WrongKind w (to_kind n c cost (tree_bound n (tree_of c)) same is tree) (λ e at lt. absurd (omega arith))
-  claim_refused WrongCost w = first_of n c WrongCost (wrong_cost n c.claim cost is w.1) (to_cost w.0) (λ e at lt. absurd (omega arith))
-  claim_refused WrongBound w = first_of n c WrongBound w.2 (to_bound w.0 w.1) (λ e at lt. absurd (omega arith))
-  claim_refused WrongGap w = first_of n c WrongGap w.3 (one_more n c 9 (to_bound w.0 w.1) (clear_bound n c w.2)) (λ e at lt. absurd (omega arith))
-  claim_refused (Text f) w = absurd w
-  claim_refused Shape w = absurd w
-  claim_refused (Plan f) w = absurd w
-  claim_refused (SplitAt t) w = absurd w
-  claim_refused (ProofPlace k) w = absurd w
-  claim_refused (ProofOf node f) w = absurd w
-  claim_refused Memory w = absurd w
+  claim_refused WrongKind w = lone n c WrongKind refl w (to_kind n c cost (tree_bound n (tree_of c)) same is tree)
+  claim_refused WrongCost w = lone n c WrongCost refl (wrong_cost n c.claim cost is w.1) (to_cost w.0)
+  claim_refused WrongBound w = lone n c WrongBound refl w.2 (to_bound w.0 w.1)
+  claim_refused WrongGap w = lone n c WrongGap refl w.3 (one_more n c 9 (to_bound w.0 w.1) (clear_bound n c w.2))
+  claim_refused _ w = absurd w
 
-pub claim-refused : (n : Net) (c : Cert) (cost : Option Cost) (found : Option ℤ) (r : Refusal) → c.shape ≡ counts_of n → IsClaimCost n c.claim cost → IsBoundOf n c.splits c.proofs found → IsClaimRefusal cost found c.claim r → IsFirstRefusal n c r
+pub claim-refused : (n : Net) (c : Cert) (cost : Option Cost) (found : Option ℤ) (r : Refusal) → c.shape ≡ counts_of n → IsClaimCost n c.claim cost
+    → IsBoundOf n c.splits c.proofs found → IsClaimRefusal cost found c.claim r → IsFirstRefusal n c r
 claim-refused n c cost found r same is tree w =
     claim_refused n c cost same is (subst (IsBoundOf n c.splits c.proofs) tree.bound_is tree) r (subst (λ b. IsClaimRefusal cost b c.claim r) tree.bound_is w)
 
@@ -217,7 +215,8 @@ shown n tree (with_gap plan num base bound gap) (Some c) is right =
 shown n tree (with_bound bound) cost is right = right
 shown n tree no_plan cost is right = right
 
-pub valid-is : (n : Net) (c : Cert) (cost : Option Cost) (found : Option ℤ) → c.shape ≡ counts_of n → IsClaimCost n c.claim cost → IsBoundOf n c.splits c.proofs found → AreClaimed cost found c.claim → IsValid n c
+pub valid-is : (n : Net) (c : Cert) (cost : Option Cost) (found : Option ℤ) → c.shape ≡ counts_of n → IsClaimCost n c.claim cost
+    → IsBoundOf n c.splits c.proofs found → AreClaimed cost found c.claim → IsValid n c
 valid-is n c cost found same is tree right = record {
   shape = same;
   tree = tree.tree;
@@ -229,7 +228,8 @@ valid-is n c cost found same is tree right = record {
 -- ---- a valid certificate gives no cause
 
 claim_plan : (n : Net) (tree : Tree) (claim : Claimed) (f : PlanFault) → IsShown n tree claim → ¬ HasPlanFault n claim f
-claim_plan n tree (with_gap plan cost base bound gap) f is h = cost_no_fault n plan record { num = cost; base = base } f record { written = is.written; obeys = is.obeys; num = is.cost_is; base = is.base_is } h.holds
+claim_plan n tree (with_gap plan cost base bound gap) f is h =
+    cost_no_fault n plan record { num = cost; base = base } f record { written = is.written; obeys = is.obeys; num = is.cost_is; base = is.base_is } h.holds
 claim_plan n tree (with_bound bound) f is h = h
 claim_plan n tree no_plan f is h = h
 
@@ -268,17 +268,18 @@ valid_clear n c Memory is h = h
 
 memory_or : (r : Refusal) (X : Type 0) → (r ≡ Memory → X) → ((r ≢ Memory) → X) → X
 memory_or Memory X h k = h refl
-memory_or (Text f) X h k = k (λ e. cc)
-memory_or Shape X h k = k (λ e. cc)
-memory_or (Plan f) X h k = k (λ e. cc)
-memory_or (SplitAt t) X h k = k (λ e. cc)
-memory_or (ProofPlace t) X h k = k (λ e. cc)
-memory_or (ProofOf node f) X h k = k (λ e. cc)
-memory_or WrongKind X h k = k (λ e. cc)
-memory_or WrongCost X h k = k (λ e. cc)
-memory_or WrongBound X h k = k (λ e. cc)
-memory_or WrongGap X h k = k (λ e. cc)
+memory_or _ X h k = k (λ e. cc)
+
+-- the first cause that a certificate gives is that of its text
+pub text-refused : (n : Net) (bytes : List ℕ) (c : Cert) (r : Result Verdict Refusal) → Spells bytes c → IfErr r (λ e. e ≢ Memory → IsFirstRefusal n c e) → IfErr r (IsRefused n bytes)
+text-refused n bytes c (Ok v) spelled h = tt
+text-refused n bytes c (Err e) spelled h = cases e h
+  where
+    cases : (e : Refusal) → (e ≢ Memory → IsFirstRefusal n c e) → IsRefused n bytes e
+    cases (Text f) h = absurd (h (λ e. cc)).holds
+    cases Memory h = tt
+    cases _ h = record { cert = c; spelled = spelled; first = h (λ e. cc) }
 
 pub taken : (n : Net) (c : Cert) (r : Result Verdict Refusal) → IsValid n c → IfOk r (λ v. v ≡ verdict_of c.claim) → IfErr r (λ e. e ≢ Memory → IsFirstRefusal n c e) → IsTakenAs c.claim r
 taken n c (Ok v) is h k = h
-taken n c (Err e) is h k = memory_or e (e ≡ Memory) (λ x. x) (λ other. absurd (valid_clear n c e is (k other).refuses))
+taken n c (Err e) is h k = memory_or e (e ≡ Memory) (λ x. x) (λ other. absurd (valid_clear n c e is (k other).holds))

@@ -1,66 +1,111 @@
--- Bounds of nodes, from one split to the next, and the least of them.
-use Rattle.std.proofs.Common.{◌≡◌, ℕ, zero, suc, ◌+◌, ◌*◌, ◌<◌, inl, inr, if◌then◌else◌, List, [], ◌∷◌, ◌++◌, length, get_or, Bool, false, Option, None, Some, option_map, ℤ, arith, refl, sym, ap, subst, ◌∙◌, add-one, length-append}
-use Rattle.std.proofs.lemmas.List.{get_or_append_left, get_or_default}
+-- Bounds of nodes, one after another, and the least of them.
+use Rattle.std.proofs.Common.{◌≡◌, ℕ, zero, suc, ◌+◌, ◌-◌, ◌*◌, ◌/◌, ◌<◌, ◌≤◌, ◌⊎◌, inl, inr, if◌then◌else◌, [], ◌∷◌}
+use Rattle.std.proofs.Common.{◌++◌, List, length, get_or, Option, None, Some, ℤ, arith, refl, sym, ap, subst, ◌∙◌, add-one, length-append}
+use Rattle.std.specs.Option.{ForSome}
+use Rattle.std.proofs.lemmas.List.{get_or_append_left}
 use Rattle.std.proofs.Math.Seq.{get_or-append_seam}
 use Rattle.integers.proofs.AtKey.{same_or_other}
 use Rattle.pool_model.specs.Network.{Net}
 use Rattle.pool_model.proofs.Reach.{least_below-same}
 use Rattle.pool_model.specs.Starting.{lesser, least_below, reach_bound}
-use Rattle.row_model.specs.Trees.{Tree, split_at, left_node, right_node, nodes, is_cut, raised, own, bound_after, leaf_bound, tree_bound}
+use Rattle.row_model.specs.Multipliers.{IsInOrder, Shown}
+use Rattle.row_model.specs.Trees.{Split, Tree, split_at, left_node, right_node, nodes, is_cut, raised, own, bound_after, node_bound, box_of, leaf_bound, tree_bound}
 use Rattle.row_model.proofs.TreeBound.{old_bound, new_left, new_right}
-use Rattle.row_book.specs.Views.{shown_value}
-use Rattle.row_book.specs.declared.shown.Shown.{Shown}
-use Rattle.cert_checker.specs.Holding.{AreMarks}
-use Rattle.cert_checker.specs.Judging.{AreOwn}
-use Rattle.cert_checker.specs.Trees.{AreBounds}
+use Rattle.row_book.specs.Fitting.{Fits}
+use Rattle.split_tree.specs.Splits.{Splits, tree_of, IsOf}
+use Rattle.split_tree.proofs.Innermost.{tree-of, leaf_before}
+use Rattle.cert_format.specs.Cert.{NodeProof}
+use Rattle.cert_format.specs.Valid.{proof_of}
+use Rattle.cert_checker.specs.declared.judge.Judge.{Judge}
+use Rattle.cert_checker.specs.Judging.{AreJudged, IsNext}
+use Rattle.cert_checker.specs.Trees.{AreBounds, tree_with}
+use Rattle.cert_checker.proofs.Lines.{next-start}
 
-pub root-bound : (n : Net) (tree : Tree) (list : List (Option Shown)) (m : ℕ) (x : Option Shown) (first : Option ℤ) → AreOwn n tree list m → 0 < m → x ≡ get_or list 0 x
-    → first ≡ raised (Some (reach_bound n)) (option_map shown_value x) → (node : ℕ) → node < 1 → get_or (first ∷ []) node None ≡ bound_after n tree 0 node
-root-bound n tree list m x first is some at e node h =
-    let here : node ≡ 0 = omega arith in
-    subst (λ k. get_or (first ∷ []) k None ≡ bound_after n tree 0 k) (sym here)
-    (e ∙ ap (raised (Some (reach_bound n))) (ap (option_map shown_value) (at ∙ get_or_default list 0 x None (omega (arith, is.long))) ∙ is.own_is 0 some))
+-- ---- a node's bound
 
--- what is shown_value of a node, as it is read
-pub own-read : (n : Net) (tree : Tree) (list : List (Option Shown)) (m node : ℕ) (x : Option Shown) → AreOwn n tree list m → node < m → x ≡ get_or list node x → option_map shown_value x ≡ own n tree node
-own-read n tree list m node x is h at = ap (option_map shown_value) (at ∙ get_or_default list node x None (omega (arith, is.long))) ∙ is.own_is node h
-
-read_left : (bounds : List (Option ℤ)) (left right : Option ℤ) (node : ℕ) → node < length bounds → get_or ((bounds ++ (left ∷ [])) ++ (right ∷ [])) node None ≡ get_or bounds node None
-read_left bounds left right node h =
-    get_or_append_left (bounds ++ (left ∷ [])) (right ∷ []) None node (omega (arith, length-append bounds (left ∷ [])))
-    ∙ get_or_append_left bounds (left ∷ []) None node h
-
-read_middle : (bounds : List (Option ℤ)) (left right : Option ℤ) → get_or ((bounds ++ (left ∷ [])) ++ (right ∷ [])) (length bounds) None ≡ left
-read_middle bounds left right =
-    get_or_append_left (bounds ++ (left ∷ [])) (right ∷ []) None (length bounds) (omega (arith, length-append bounds (left ∷ [])))
-    ∙ get_or-append_seam bounds left [] None
-
-read_last : (bounds : List (Option ℤ)) (left right : Option ℤ) → get_or ((bounds ++ (left ∷ [])) ++ (right ∷ [])) (length bounds + 1) None ≡ right
-read_last bounds left right =
-    ap (λ k. get_or ((bounds ++ (left ∷ [])) ++ (right ∷ [])) k None) (sym (length-append bounds (left ∷ [])))
-    ∙ get_or-append_seam (bounds ++ (left ∷ [])) right [] None
-
-last_node : (t l : ℕ) → l ≡ 2 * t + 1 → 2 * t + 2 ≡ l + 1
-last_node t l e = omega arith
-
--- two nodes more
-pub bounds-next : (n : Net) (tree : Tree) (t : ℕ) (bounds : List (Option ℤ)) (above left right : Option ℤ) → length bounds ≡ 2 * t + 1
-    → ((node : ℕ) → node < 2 * t + 1 → get_or bounds node None ≡ bound_after n tree t node)
-    → above ≡ bound_after n tree t (split_at tree.splits t).leaf → left ≡ raised above (own n tree (left_node t)) → right ≡ raised above (own n tree (right_node t))
-    → (node : ℕ) → node < 2 * (t + 1) + 1 → get_or ((bounds ++ (left ∷ [])) ++ (right ∷ [])) node None ≡ bound_after n tree (t + 1) node
-bounds-next n tree t bounds above left right long old a l r node h =
-    at_node ∙ ap (λ k. bound_after n tree k node) (sym (add-one t))
+-- the bound of a node that stands does not change with later splits
+bound_stays : (n : Net) (tree : Tree) (t more node : ℕ) → node < 2 * t + 1 → bound_after n tree (t + more) node ≡ bound_after n tree t node
+bound_stays n tree t zero node h = ap (λ m. bound_after n tree m node) (omega arith)
+bound_stays n tree t (suc more) node h =
+    ap (λ m. bound_after n tree m node) (same t more) ∙ old_bound n tree (t + more) node (omega arith) ∙ bound_stays n tree t more node h
   where
-    at_node : get_or ((bounds ++ (left ∷ [])) ++ (right ∷ [])) node None ≡ bound_after n tree (suc t) node
-    at_node = elim (same_or_other node (left_node t)) [
-      | inl e ↦ subst (λ k. get_or ((bounds ++ (left ∷ [])) ++ (right ∷ [])) k None ≡ bound_after n tree (suc t) k) (sym e)
-          (ap (λ k. get_or ((bounds ++ (left ∷ [])) ++ (right ∷ [])) k None) (sym long) ∙ read_middle bounds left right ∙ l ∙ ap (λ b. raised b (own n tree (left_node t))) a ∙ sym (new_left n tree t))
-      | inr d ↦ elim (same_or_other node (right_node t)) [
-        | inl e ↦ subst (λ k. get_or ((bounds ++ (left ∷ [])) ++ (right ∷ [])) k None ≡ bound_after n tree (suc t) k) (sym e)
-            (ap (λ k. get_or ((bounds ++ (left ∷ [])) ++ (right ∷ [])) k None) (last_node t (length bounds) long) ∙ read_last bounds left right ∙ r ∙ ap (λ b. raised b (own n tree (right_node t))) a ∙ sym (new_right n tree t))
-        | inr f ↦ read_left bounds left right node (omega arith) ∙ old node (omega arith) ∙ sym (old_bound n tree t node (omega arith))
-      ]
+    same : (t more : ℕ) → t + suc more ≡ suc (t + more)
+    same t more = omega arith
+
+bound_is : (n : Net) (tree : Tree) (t node : ℕ) → t ≤ length tree.splits → node < 2 * t + 1 → node_bound n tree node ≡ bound_after n tree t node
+bound_is n tree t node h k = ap (λ m. bound_after n tree m node) (whole t (length tree.splits) h) ∙ bound_stays n tree t (length tree.splits - t) node k
+  where
+    whole : (t l : ℕ) → t ≤ l → l ≡ t + (l - t)
+    whole t l h = omega arith
+
+root_bound : (n : Net) (tree : Tree) (node : ℕ) → node ≡ 0 → node_bound n tree node ≡ raised (Some (reach_bound n)) (own n tree node)
+root_bound n tree node e = bound_is n tree 0 node (omega arith) (omega arith)
+
+-- a child's, from its parent's
+child_bound : (n : Net) (tree : Tree) (t node : ℕ) → t < length tree.splits → (split_at tree.splits t).leaf < left_node t → (node ≡ left_node t) ⊎ (node ≡ right_node t)
+    → node_bound n tree node ≡ raised (node_bound n tree (split_at tree.splits t).leaf) (own n tree node)
+child_bound n tree t node h leaf which =
+    let above = ap (λ b. raised b (own n tree node)) (sym (bound_is n tree t (split_at tree.splits t).leaf (omega arith) (omega arith))) in
+    elim which [
+      | inl e ↦ bound_is n tree (suc t) node (omega arith) (omega arith)
+          ∙ subst (λ m. bound_after n tree (suc t) m ≡ raised (bound_after n tree t (split_at tree.splits t).leaf) (own n tree m)) (sym e) (new_left n tree t) ∙ above
+      | inr e ↦ bound_is n tree (suc t) node (omega arith) (omega arith)
+          ∙ subst (λ m. bound_after n tree (suc t) m ≡ raised (bound_after n tree t (split_at tree.splits t).leaf) (own n tree m)) (sym e) (new_right n tree t) ∙ above
     ]
+
+left_or_right : (node : ℕ) → 0 < node → (node ≡ left_node ((node - 1) / 2)) ⊎ (node ≡ right_node ((node - 1) / 2))
+left_or_right node some = elim (same_or_other node (left_node ((node - 1) / 2))) [ inl e ↦ inl e | inr d ↦ inr (omega arith) ]
+
+-- ---- one node more
+
+-- the node above one that is to be judged
+pub above-before : (n : Net) (t : Splits) (node : ℕ) → IsOf n t → node < nodes t.list → 0 < node → (split_at t.list ((node - 1) / 2)).leaf < node
+above-before n t node is there some = omega (arith, leaf_before n (tree_of t.list) ((node - 1) / 2) (tree-of n t is) (omega arith))
+
+pub judged-first : (n : Net) (splits : List Split) (lines : List NodeProof) (j : Judge) → j.bounds.items ≡ [] → j.next ≡ 0 → Fits n j.scratch → AreJudged n splits lines 0 j
+judged-first n splits lines j none next fits = record {
+  long = ap length none;
+  bounds = λ node h. absurd (omega arith);
+  proved = λ node proof h. absurd (omega arith);
+  next = subst (IsNext lines 0) (sym next) (next-start lines);
+  fits = fits;
+}
+
+module _ (n : Net) (t : Splits) (lines : List NodeProof) (node : ℕ) (before after : Judge) (above : Option ℤ) (shown : Option Shown) (is : IsOf n t) (there : node < nodes t.list) where
+  new_bound : AreJudged n t.list lines node before → (node ≡ 0 → above ≡ Some (reach_bound n)) → (0 < node → above ≡ get_or before.bounds.items (split_at t.list ((node - 1) / 2)).leaf None)
+      → shown ≡ own n (tree_with t.list lines) node → raised above shown ≡ node_bound n (tree_with t.list lines) node
+  new_bound judged root child own_is =
+      let tree = tree_with t.list lines in
+      elim (same_or_other node 0) [
+        | inl e ↦ ap (λ b. raised b shown) (root e) ∙ ap (raised (Some (reach_bound n))) own_is ∙ sym (root_bound n tree node e)
+        | inr d ↦
+            let some : 0 < node = omega arith in
+            let leaf = (split_at t.list ((node - 1) / 2)).leaf in
+            let up = above-before n t node is there some in
+            ap (λ b. raised b shown) (child some ∙ judged.bounds leaf up) ∙ ap (raised (node_bound n tree leaf)) own_is
+            ∙ sym (child_bound n tree ((node - 1) / 2) node (omega arith) (leaf_before n (tree_of t.list) ((node - 1) / 2) (tree-of n t is) (omega arith)) (left_or_right node some))
+      ]
+
+  pub judged-next : AreJudged n t.list lines node before → (node ≡ 0 → above ≡ Some (reach_bound n)) → (0 < node → above ≡ get_or before.bounds.items (split_at t.list ((node - 1) / 2)).leaf None)
+      → shown ≡ own n (tree_with t.list lines) node → ForSome (proof_of lines node) (IsInOrder n (box_of n t.list node)) → after.bounds.items ≡ before.bounds.items ++ raised above shown ∷ []
+      → IsNext lines (node + 1) after.next → Fits n after.scratch → AreJudged n t.list lines (node + 1) after
+  judged-next judged root child own_is order longer next fits =
+      let new = new_bound judged root child own_is in
+      let one : length (raised above shown ∷ []) ≡ 1 = refl in
+      record {
+        long = ap length longer ∙ omega (arith, length-append before.bounds.items (raised above shown ∷ []), judged.long, one);
+        bounds = λ m h. ap (λ xs. get_or xs m None) longer ∙ elim (same_or_other m node) [
+          | inl e ↦ ap (λ k. get_or (before.bounds.items ++ raised above shown ∷ []) k None) (e ∙ sym judged.long) ∙ get_or-append_seam before.bounds.items (raised above shown) [] None ∙ new
+              ∙ ap (node_bound n (tree_with t.list lines)) (sym e)
+          | inr d ↦ get_or_append_left before.bounds.items (raised above shown ∷ []) None m (omega (arith, h, d, judged.long)) ∙ judged.bounds m (omega arith)
+        ];
+        proved = λ m proof h has. elim (same_or_other m node) [
+          | inl e ↦ subst (λ k. IsInOrder n (box_of n t.list k) proof) (sym e) (order proof (subst (λ k. proof_of lines k ≡ Some proof) e has))
+          | inr d ↦ judged.proved m proof (omega arith) has
+        ];
+        next = next;
+        fits = fits;
+      }
 
 -- ---- the least
 
@@ -75,10 +120,10 @@ least-cut f i least e none = e ∙ sym (ap (least_below f) (add-one i) ∙ ap (l
 pub least-more : (f : ℕ → Option ℤ) (i : ℕ) (least x : Option ℤ) → least ≡ least_below f i → f i ≡ x → lesser least x ≡ least_below f (i + 1)
 least-more f i least x e here = ap (λ o. lesser o x) e ∙ sym (ap (least_below f) (add-one i) ∙ ap (lesser (least_below f i)) here)
 
--- the least of the bounds of the nodes that are not marked is the tree's
-pub least-tree : (n : Net) (tree : Tree) (bounds : List (Option ℤ)) (marks : List Bool) → AreBounds n tree bounds → AreMarks tree.splits marks
-    → least_below (λ node. if get_or marks node false then None else get_or bounds node None) (length marks) ≡ tree_bound n tree
-least-tree n tree bounds marks is marked =
-    ap (least_below (λ node. if get_or marks node false then None else get_or bounds node None)) marked.long
-    ∙ least_below-same (λ node. if get_or marks node false then None else get_or bounds node None) (leaf_bound n tree) (nodes tree.splits)
-    (λ node h. ap (λ t. if t then None else get_or bounds node None) (marked.same node h) ∙ ap (λ b. if is_cut tree.splits node then None else b) (is.bound_is node h))
+-- the least of the bounds of the nodes that are not cut is the tree's
+pub least-tree : (n : Net) (tree : Tree) (bounds : List (Option ℤ)) → AreBounds n tree bounds
+    → least_below (λ node. if is_cut tree.splits node then None else get_or bounds node None) (length bounds) ≡ tree_bound n tree
+least-tree n tree bounds is =
+    ap (least_below (λ node. if is_cut tree.splits node then None else get_or bounds node None)) is.long
+    ∙ least_below-same (λ node. if is_cut tree.splits node then None else get_or bounds node None) (leaf_bound n tree) (nodes tree.splits)
+    (λ node h. ap (λ b. if is_cut tree.splits node then None else b) (is.bound_is node h))

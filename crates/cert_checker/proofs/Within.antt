@@ -14,7 +14,7 @@ take_take (x ∷ l) (suc t) (suc count) h = ap (λ m. x ∷ m) (take_take l t co
 split_within : (splits : List Split) (count t : ℕ) → t < count → split_at (take count splits) t ≡ split_at splits t
 split_within splits count t h = get_or-take count splits t no_split h
 
-box_within : (n : Net) (splits : List Split) (count t node : ℕ) → t ≤ count → box_after n (take count splits) t node ≡ box_after n splits t node
+pub box_within : (n : Net) (splits : List Split) (count t node : ℕ) → t ≤ count → box_after n (take count splits) t node ≡ box_after n splits t node
 box_within n splits count zero node h = refl
 box_within n splits count (suc t) node h =
     let s = split_at (take count splits) t in
@@ -22,7 +22,8 @@ box_within n splits count (suc t) node h =
     (box_within n splits count t s.leaf (omega arith))
     ∙ ap (λ b. if node == left_node t then left_of (box_after n splits t s.leaf) s.coord s.cut else (if node == right_node t then right_of (box_after n splits t s.leaf) s.coord s.cut else b))
     (box_within n splits count t node (omega arith))
-    ∙ ap (λ (r : Split). if node == left_node t then left_of (box_after n splits t r.leaf) r.coord r.cut else (if node == right_node t then right_of (box_after n splits t r.leaf) r.coord r.cut else box_after n splits t node))
+    ∙ ap (λ (r : Split). if node == left_node t then left_of (box_after n splits t r.leaf) r.coord r.cut else
+    (if node == right_node t then right_of (box_after n splits t r.leaf) r.coord r.cut else box_after n splits t node))
     (split_within splits count t (omega arith))
 
 pub order-within : (n : Net) (splits : List Split) (count t : ℕ) → t < count → IsSplitInOrder n (take count splits) t ≡ IsSplitInOrder n splits t

@@ -9,7 +9,7 @@ use Rattle.cert_format.specs.Cert.{Cert, IsCert}
 use Rattle.cert_format.specs.Text.{text_of}
 use Rattle.cert_format.specs.Valid.{IsValid}
 use Rattle.cert_checker.specs.declared.refusal.Refusal.{Refusal}
-use Rattle.cert_checker.specs.declared.refusal.Refusal.TheVariants.{Text, Shape, Plan, Split, ProofPlace, Proof, WrongKind, WrongCost, WrongBound, WrongGap, Memory}
+use Rattle.cert_checker.specs.declared.refusal.Refusal.TheVariants.{Text, Memory}
 use Rattle.cert_checker.specs.declared.verdict.Verdict.{Verdict}
 use Rattle.cert_checker.specs.declared.verdict.Verdict.TheVariants as verdicts
 use Rattle.cert_checker.specs.Refusals.{IsFirstRefusal}
@@ -51,16 +51,8 @@ pub record IsNoText (bytes : List ℕ) (line : ℕ) : Type 0 where
 -- Why a text is refused. Want of memory says nothing of the text.
 abbrev pub IsRefused : Net → List ℕ → Refusal → Type 0
 IsRefused n bytes (Text fault) = IsNoText bytes fault.line
-IsRefused n bytes Shape = GivesFirst n bytes Shape
-IsRefused n bytes (Plan fault) = GivesFirst n bytes (Plan fault)
-IsRefused n bytes (Split t) = GivesFirst n bytes (Split t)
-IsRefused n bytes (ProofPlace k) = GivesFirst n bytes (ProofPlace k)
-IsRefused n bytes (Proof node fault) = GivesFirst n bytes (Proof node fault)
-IsRefused n bytes WrongKind = GivesFirst n bytes WrongKind
-IsRefused n bytes WrongCost = GivesFirst n bytes WrongCost
-IsRefused n bytes WrongBound = GivesFirst n bytes WrongBound
-IsRefused n bytes WrongGap = GivesFirst n bytes WrongGap
 IsRefused n bytes Memory = Unit {0}
+IsRefused n bytes r = GivesFirst n bytes r
 
 -- the verdict of a claim, unless memory ran out
 abbrev pub IsTakenAs : Claimed → Result Verdict Refusal → Type 0

@@ -7,7 +7,7 @@ use Rattle.plan_core.specs.Checks.{IsCostOf}
 use Rattle.plan_core.specs.declared.plan.Cost.{Cost}
 use Rattle.plan_core.specs.declared.fault.PlanFault.{PlanFault}
 use Rattle.cert_checker.specs.declared.refusal.Refusal.{Refusal}
-use Rattle.cert_checker.specs.declared.refusal.Refusal.TheVariants.{Text, Shape, Plan, Split, ProofPlace, Proof, WrongKind, WrongCost, WrongBound, WrongGap, Memory}
+use Rattle.cert_checker.specs.declared.refusal.Refusal.TheVariants.{Plan, WrongKind, WrongCost, WrongBound, WrongGap}
 use Rattle.cert_checker.specs.Refusals.{HasPlanFault, IsWrongKind, IsWrongBound, IsWrongGap}
 
 -- what the plan that is claimed costs, where there is one
@@ -41,17 +41,11 @@ AreClaimed cost found no_plan = found ≡ None
 
 -- the first of the four things that may be wrong with a claim
 abbrev pub IsClaimRefusal : Option Cost → Option ℤ → Claimed → Refusal → Type 0
-IsClaimRefusal cost found claim (Text fault) = ⊥
-IsClaimRefusal cost found claim Shape = ⊥
-IsClaimRefusal cost found claim (Plan fault) = ⊥
-IsClaimRefusal cost found claim (Split t) = ⊥
-IsClaimRefusal cost found claim (ProofPlace k) = ⊥
-IsClaimRefusal cost found claim (Proof node fault) = ⊥
 IsClaimRefusal cost found claim WrongKind = IsWrongKind found claim
 IsClaimRefusal cost found claim WrongCost = (¬ IsWrongKind found claim) × IsOtherCost cost claim
 IsClaimRefusal cost found claim WrongBound = (¬ IsWrongKind found claim) × (¬ IsOtherCost cost claim) × IsWrongBound found claim
 IsClaimRefusal cost found claim WrongGap = (¬ IsWrongKind found claim) × (¬ IsOtherCost cost claim) × (¬ IsWrongBound found claim) × IsWrongGap claim
-IsClaimRefusal cost found claim Memory = ⊥
+IsClaimRefusal cost found claim _ = ⊥
 
 -- no leaf may hold a plan, or the bound is another
 abbrev pub IsBoundRefusal : Option ℤ → ℤ → Refusal → Type 0

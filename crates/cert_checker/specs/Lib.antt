@@ -2,5 +2,4 @@ pub mod Refusals
 pub mod Answers
 pub mod Claims
 pub mod Trees
-pub mod Holding
 pub mod Judging

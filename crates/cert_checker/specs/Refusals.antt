@@ -1,10 +1,11 @@
 -- When a certificate is refused, and which of the causes comes first.
-use Rattle.std.specs.Prelude.{◌≡◌, ◌≢◌, ℕ, ◌+◌, ◌*◌, ◌<◌, ◌⊎◌, List, length, get_or, Option, None, Some, ℤ, pos, ◌-ℤ◌, ◌*ℤ◌}
+use Rattle.std.specs.Prelude.{◌≡◌, ◌≢◌, ℕ, ◌+◌, ◌*◌, ◌<◌, ◌⊎◌, List, [], ◌∷◌, length, get_or, Option, None, Some, ℤ, pos, ◌-ℤ◌, ◌*ℤ◌}
+use Rattle.faults.specs.First.{IsFirst}
 use Rattle.pool_model.specs.Network.{Net, counts_of}
 use Rattle.pool_model.specs.Plan.{plan_of, cost_of}
 use Rattle.pool_model.specs.Claim.{Claimed, with_gap, with_bound, no_plan}
 use Rattle.row_model.specs.Multipliers.{Proof}
-use Rattle.row_model.specs.Trees.{Split, Tree, nodes, IsSplitInOrder, box_of, tree_bound}
+use Rattle.row_model.specs.Trees.{Split, Tree, nodes, most_splits, IsSplitInOrder, box_of, tree_bound}
 use Rattle.plan_core.specs.Checks as plans
 use Rattle.plan_core.specs.declared.fault.PlanFault.{PlanFault}
 use Rattle.row_book.specs.Faults as proofs
@@ -25,7 +26,7 @@ HasPlanFault n no_plan fault = ⊥
 -- a split that is not in order in the tree of those before it, or that is one too many
 pub record IsWrongSplit (n : Net) (splits : List Split) (t : ℕ) : Type 0 where
   pub there : t < length splits
-  pub wrong : (t ≡ 20000) ⊎ (¬ IsSplitInOrder n splits t)
+  pub wrong : (t ≡ most_splits) ⊎ (¬ IsSplitInOrder n splits t)
 
 -- the node of a proof line
 abbrev pub node_at : List NodeProof → ℕ → ℕ
@@ -89,39 +90,30 @@ Refuses n c WrongBound = IsWrongBound (tree_bound n (tree_of c)) c.claim
 Refuses n c WrongGap = IsWrongGap c.claim
 Refuses n c Memory = ⊥
 
--- the place of a cause in the order in which they are looked for
-abbrev pub stage : Refusal → ℕ
-stage (Text _) = 1
-stage Shape = 2
-stage (Plan _) = 3
-stage (SplitAt _) = 4
-stage (ProofPlace _) = 5
-stage (ProofOf _ _) = 6
-stage WrongKind = 7
-stage WrongCost = 8
-stage WrongBound = 9
-stage WrongGap = 10
-stage Memory = 11
+-- the number of a cause, in the order in which they are looked for
+abbrev pub number : Refusal → ℕ
+number (Text _) = 1
+number Shape = 2
+number (Plan _) = 3
+number (SplitAt _) = 4
+number (ProofPlace _) = 5
+number (ProofOf _ _) = 6
+number WrongKind = 7
+number WrongCost = 8
+number WrongBound = 9
+number WrongGap = 10
+number Memory = 11
 
 -- the split, the line or the node that it is about
-abbrev pub number : Refusal → ℕ
-number (Text _) = 0
-number Shape = 0
-number (Plan _) = 0
-number (SplitAt t) = t
-number (ProofPlace k) = k
-number (ProofOf node _) = node
-number WrongKind = 0
-number WrongCost = 0
-number WrongBound = 0
-number WrongGap = 0
-number Memory = 0
+abbrev pub about : Refusal → List ℕ
+about (SplitAt t) = t ∷ []
+about (ProofPlace k) = k ∷ []
+about (ProofOf node _) = node ∷ []
+about _ = []
 
--- One cause comes before another: by its place, then by what it is about.
-abbrev pub IsBefore : Refusal → Refusal → Type 0
-IsBefore a b = (stage a < stage b) ⊎ ((stage a ≡ stage b) × (number a < number b))
+abbrev pub rank : Refusal → List ℕ
+rank r = number r ∷ about r
 
 -- a cause that the certificate gives, where it gives none before it
-pub record IsFirstRefusal (n : Net) (c : Cert) (r : Refusal) : Type 0 where
-  pub refuses : Refuses n c r
-  pub first : (earlier : Refusal) → IsBefore earlier r → ¬ Refuses n c earlier
+abbrev pub IsFirstRefusal : Net → Cert → Refusal → Type 0
+IsFirstRefusal n c = IsFirst rank (Refuses n c)

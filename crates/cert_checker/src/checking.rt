@@ -19,8 +19,8 @@ use std::alloc::Global;
 
 /// What the certificate of this text says of the network, or the first cause to refuse it.
 ///
-/// It goes once over the text, and for each proof over the terms of its rows and the network's variables. Of the boxes of
-/// the tree it holds those alone that a later split cuts.
+/// It goes once over the text and once over the splits, as `split_tree` says. For each proof it goes from the proof's node up to
+/// the root, for the node's box, and over the terms of the proof's rows and the network's variables.
 pub fn check(alloc: Global, net: &Network, bytes: &[u8]) -> Result<Verdict, Refusal>
     // The text is that of a valid certificate, with these numbers.
     ensures accepted { IfOk result (IsAccepted (net_of net.now) bytes.now) }

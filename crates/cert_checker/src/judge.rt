@@ -1,15 +1,12 @@
-//! What the proofs on the nodes of a tree show, node by node.
+//! The nodes of a tree, judged one after another.
 
-use row_book::{ProofFault, Scratch, Shown};
+use row_book::Scratch;
 
-/// The nodes of a tree so far, in order, and the proof lines that are read.
+/// The bounds of the nodes so far, and how many proof lines name them.
 #[derive(Drop)]
 pub(crate) struct Judge {
-    /// For each node what its proof shows, and None where it has none.
-    pub(crate) shown: Vec<Option<Shown>>,
-    /// The first node whose proof is not in order, with its fault.
-    pub(crate) fault: Option<(u32, ProofFault)>,
-    /// How many proof lines name these nodes.
+    /// Of each node, in picos: None where it holds no plan.
+    pub(crate) bounds: Vec<Option<i128>>,
     pub(crate) next: usize,
     pub(crate) scratch: Scratch,
 }

@@ -9,13 +9,11 @@
 //! the certificate. `specs/Refusals.antt` says when each refusal comes, `specs/Answers.antt` what an answer says of the text.
 #![tactic(auto)]
 
-mod bounds;
 mod checking;
 mod claim;
 mod judge;
-mod judging;
 mod laws;
-mod leaves;
+mod nodes;
 mod places;
 mod refusal;
 mod tree;

@@ -1,11 +1,13 @@
 //! Why a certificate is refused.
 
-ghost use Rattle.std.specs.Prelude.{◌≡◌};
+ghost use Rattle.std.specs.Prelude.{◌≡◌, ◌∷◌};
 ghost use Rattle.cert_checker.specs.Answers.{of_reading};
+ghost use Rattle.cert_checker.specs.Refusals.{about, number};
 ghost use Rattle.cert_checker.specs.declared.refusal.Refusal.TheVariants as refusals;
 
 use cert_format::{ReadCert, TextFault};
 use edge_io::Memory;
+use faults::Ranked;
 use plan_core::PlanFault;
 use row_book::ProofFault;
 use std::alloc::{AllocError, AllocFailed};
@@ -19,8 +21,8 @@ pub enum Refusal {
     Shape,
     /// The plan breaks a rule of the network.
     Plan(PlanFault),
-    /// This split, from 0, names no leaf, no coordinate or a cut that is not strictly inside the leaf's box; or it is the
-    /// number 20,000, which is one too many.
+    /// This split, from 0, names no leaf, no coordinate or a cut that is not strictly inside the leaf's box; or there are as many
+    /// before it as there may be.
     Split(u32),
     /// This proof line, from 0, names no node, or one that is not above that of the line before.
     ProofPlace(u32),
@@ -36,6 +38,10 @@ pub enum Refusal {
     WrongGap,
     /// There was no memory.
     Memory,
+}
+
+impl Ranked for Refusal {
+    ghost rank = { λ r. number r ∷ about r };
 }
 
 impl From<ReadCert> for Refusal {

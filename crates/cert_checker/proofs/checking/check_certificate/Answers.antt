@@ -34,18 +34,22 @@ returns-clause-valid c =
     let n = net_of c.args.net.now in
     let tree = subst (λ l. IsBoundOf n (map shown_split c.args.cert.now.splits.items) (map shown_node_proof l) c.in_ok-bound.bound) c.as_slice-2.ensures.value
     (subst (λ l. IsBoundOf n (map shown_split l) (map shown_node_proof c.as_slice-2.result.now) c.in_ok-bound.bound) c.as_slice.ensures.value c.in_ok-bound.ensures.bound) in
-    MatchResult-weaker c.check_claim.result c.check_claim.ensures.claimed (λ v k. valid-is n (view c.args.cert.now) c.in_ok-cost.cost c.in_ok-bound.bound c.in_ok-check_shape.ensures.same c.in_ok-cost.ensures.cost tree k) (λ r k. k)
+    MatchResult-weaker c.check_claim.result c.check_claim.ensures.claimed
+    (λ v k. valid-is n (view c.args.cert.now) c.in_ok-cost.cost c.in_ok-bound.bound c.in_ok-check_shape.ensures.same c.in_ok-cost.ensures.cost tree k) (λ r k. k)
 
 pub returns-clause-follows : goal.returns-clause-follows
 returns-clause-follows c =
     let n = net_of c.args.net.now in
     let tree = subst (λ l. IsBoundOf n (map shown_split c.args.cert.now.splits.items) (map shown_node_proof l) c.in_ok-bound.bound) c.as_slice-2.ensures.value
     (subst (λ l. IsBoundOf n (map shown_split l) (map shown_node_proof c.as_slice-2.result.now) c.in_ok-bound.bound) c.as_slice.ensures.value c.in_ok-bound.ensures.bound) in
-    MatchResult-weaker c.check_claim.result c.check_claim.ensures.claimed (λ v k. valid-follows n (view c.args.cert.now) c.check_shape.ensures.limited (valid-is n (view c.args.cert.now) c.in_ok-cost.cost c.in_ok-bound.bound c.in_ok-check_shape.ensures.same c.in_ok-cost.ensures.cost tree k)) (λ r k. k)
+    MatchResult-weaker c.check_claim.result c.check_claim.ensures.claimed
+    (λ v k. valid-follows n (view c.args.cert.now) c.check_shape.ensures.limited
+    (valid-is n (view c.args.cert.now) c.in_ok-cost.cost c.in_ok-bound.bound c.in_ok-check_shape.ensures.same c.in_ok-cost.ensures.cost tree k)) (λ r k. k)
 
 pub returns-clause-refused : goal.returns-clause-refused
 returns-clause-refused c =
     let n = net_of c.args.net.now in
     let tree = subst (λ l. IsBoundOf n (map shown_split c.args.cert.now.splits.items) (map shown_node_proof l) c.in_ok-bound.bound) c.as_slice-2.ensures.value
     (subst (λ l. IsBoundOf n (map shown_split l) (map shown_node_proof c.as_slice-2.result.now) c.in_ok-bound.bound) c.as_slice.ensures.value c.in_ok-bound.ensures.bound) in
-    MatchResult-weaker c.check_claim.result c.check_claim.ensures.refused (λ v k. k) (λ r k. λ other. claim-refused n (view c.args.cert.now) c.in_ok-cost.cost c.in_ok-bound.bound r c.in_ok-check_shape.ensures.same c.in_ok-cost.ensures.cost tree k)
+    MatchResult-weaker c.check_claim.result c.check_claim.ensures.refused (λ v k. k)
+    (λ r k. λ other. claim-refused n (view c.args.cert.now) c.in_ok-cost.cost c.in_ok-bound.bound r c.in_ok-check_shape.ensures.same c.in_ok-cost.ensures.cost tree k)
