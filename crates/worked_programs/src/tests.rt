@@ -64,6 +64,20 @@ fn optimum_cold_and_warm(rt: HostRuntime) -> Result<(), Fail> {
     Ok(())
 }
 
+/// Least of x and three times y, where both together are 12: x is 10 and y is 2, and one more together costs 3.
+#[test]
+fn row_that_has_to_be_0(rt: HostRuntime) -> Result<(), Fail> {
+    let mut lp = program(rt.alloc(), [1, 3], &[(-12, 1, 1)])?;
+    for row in lp.rows.iter_mut() {
+        row.equal = true;
+    }
+    let advice = advise(rt.alloc(), &lp, 10)?;
+    assert!(rt; !advice.ray);
+    assert_eq!(rt; advice.duals.as_slice(), [3 * ONE].as_slice());
+    assert_eq!(rt; advice.point.as_slice(), [10 * ONE, 2 * ONE].as_slice());
+    Ok(())
+}
+
 #[test]
 fn start_of_a_proof(rt: HostRuntime) -> Result<(), Fail> {
     let lp = shared_room(rt.alloc())?;
