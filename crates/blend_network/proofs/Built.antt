@@ -6,16 +6,17 @@ use Rattle.std.proofs.lemmas.Int.{ints}
 use Rattle.pool_model.specs.Rows.{Rows, IsRectangular}
 use Rattle.pool_model.specs.Naming.{source_names, pool_names, product_names, source_of, pool_of, product_of, stand_in, network_of}
 use Rattle.pool_model.specs.Network.{Source, Pool, Product, Network, net_of, IsWithin, IsLimited, no_source, no_pool, no_product}
-use Rattle.blend_network.specs.Faults.{row_count, row_limit, IsUpTo, no_source_row, no_pool_row, no_product_row}
-use Rattle.blend_network.specs.Checks.{IsChecked}
-use Rattle.blend_network.specs.Shown.{shown_path, IsBuilt}
+use Rattle.network_parts.specs.Faults.{row_count, row_limit, IsUpTo, no_source_row, no_pool_row, no_product_row}
+use Rattle.network_parts.specs.Checks.{IsChecked}
+use Rattle.network_parts.specs.Views.{shown_path}
+use Rattle.blend_network.specs.Built.{IsBuilt}
 use Rattle.blend_network.specs.Keys.{IsIndexOf}
 use Rattle.blend_network.specs.Limits.{AreLimitsOf}
-use Rattle.blend_network.specs.declared.network.Kind.{Kind}
-use Rattle.blend_network.specs.declared.network.Kind.TheVariants as kind
-use Rattle.blend_network.specs.declared.network.arcs.Arcs.{Arcs}
+use Rattle.network_parts.specs.declared.fault.Kind.{Kind}
+use Rattle.network_parts.specs.declared.fault.Kind.TheVariants as kind
+use Rattle.network_parts.specs.declared.arcs.Arcs.{Arcs}
 use Rattle.blend_network.specs.declared.network.limits.Limits.{Limits}
-use Rattle.blend_network.proofs.Joined.{arcs-between, few_arcs, one_of}
+use Rattle.network_parts.proofs.Joined.{arcs-between, few_arcs, one_of}
 
 -- what holds of each mapped row holds of each row
 pub all_rows : {X Y : Type 0} (P : Y → Type 0) (f : X → Y) (d : Y) (xs : List X) → ((n : ℕ) → n < length (map f xs) → P (get_or (map f xs) n d)) → All (λ x. P (f x)) xs

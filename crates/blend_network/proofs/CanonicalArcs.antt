@@ -7,8 +7,8 @@ use Rattle.pool_model.specs.Rows.{Rows}
 use Rattle.pool_model.specs.Naming.{number_of, arc_between, arcs_between}
 use Rattle.pool_model.specs.Network.{Arc, no_arc}
 use Rattle.blend_network.specs.Canonical.{canonical_arc}
-use Rattle.blend_network.proofs.Joined.{IsBetween, arcs-between}
-use Rattle.blend_network.proofs.Lookups.{number_of_some}
+use Rattle.network_parts.proofs.Joined.{IsBetween, arcs-between}
+use Rattle.network_parts.proofs.Lookups.{number_of_some}
 use Rattle.blend_network.proofs.CanonicalNames.{IsFresh, AreDisjoint, own_number, no_number}
 
 -- ---- looking the ends up again

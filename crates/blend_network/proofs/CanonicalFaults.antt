@@ -9,9 +9,9 @@ use Rattle.pool_model.specs.Naming.{source_names, pool_names, product_names, arc
 use Rattle.pool_model.specs.Network as model
 use Rattle.pool_model.specs.Network.{Network, net_of, IsLimited, IsWithin, no_source, no_pool, no_product, no_arc}
 use Rattle.pool_model.specs.Paths.{paths_of}
-use Rattle.blend_network.specs.declared.network.Kind.{Kind}
-use Rattle.blend_network.specs.declared.network.Kind.TheVariants.{Source, Pool, Product, Quality, Arc}
-use Rattle.blend_network.specs.Faults.{IsTooMany, IsBadAt, IsBadName, IsRepeatAt, IsDuplicateName, IsUnknownName, IsArcBackwards, IsPoolToPool, IsDuplicateArc, IsPoolWithoutInput, IsPoolWithoutOutput, IsOutOfRange, IsLeastAboveMost, IsUpTo, IsSourceInRange, IsPoolInRange, IsProductInRange, IsOrderly, no_source_row, no_pool_row, no_product_row, row_names, names_before, node_names, ends_of, IsFaultless}
+use Rattle.network_parts.specs.declared.fault.Kind.{Kind}
+use Rattle.network_parts.specs.declared.fault.Kind.TheVariants.{Source, Pool, Product, Quality, Arc}
+use Rattle.network_parts.specs.Faults.{IsTooMany, IsBadAt, IsBadName, IsRepeatAt, IsDuplicateName, IsUnknownName, IsArcBackwards, IsPoolToPool, IsDuplicateArc, IsPoolWithoutInput, IsPoolWithoutOutput, IsOutOfRange, IsLeastAboveMost, IsUpTo, IsSourceInRange, IsPoolInRange, IsProductInRange, IsOrderly, no_source_row, no_pool_row, no_product_row, row_names, names_before, node_names, ends_of, IsFaultless}
 use Rattle.blend_network.specs.Kinds.{names_of}
 use Rattle.blend_network.specs.Made.{IsMade}
 use Rattle.blend_network.specs.Canonical.{canonical_source, canonical_pool, canonical_product, canonical_arc, canonical_arcs, canonical_rows}

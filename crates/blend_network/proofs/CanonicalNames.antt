@@ -4,8 +4,8 @@ use Rattle.std.proofs.lemmas.Bool.{false≢true}
 use Rattle.std.proofs.lemmas.List.{length-take-le, get_or-take, get_or_default}
 use Rattle.std.proofs.lemmas.List.Elements.{Contains-append_left}
 use Rattle.pool_model.specs.Naming.{number_of}
-use Rattle.blend_network.specs.Faults.{IsRepeatAt}
-use Rattle.blend_network.proofs.Lookups.{number_of_some, has_number, found_contains}
+use Rattle.network_parts.specs.Faults.{IsRepeatAt}
+use Rattle.network_parts.proofs.Lookups.{number_of_some, has_number, found_contains}
 
 -- no name of the second list is in the first, and none stands twice in the second
 abbrev pub IsFresh : List (List ℕ) → List (List ℕ) → Type 0

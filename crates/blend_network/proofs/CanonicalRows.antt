@@ -7,9 +7,9 @@ use Rattle.pool_model.specs.Rows.{Rows}
 use Rattle.pool_model.specs.Naming.{source_names, pool_names, product_names, arc_between, stand_in, source_of, pool_of, product_of, network_of}
 use Rattle.pool_model.specs.Network as model
 use Rattle.pool_model.specs.Network.{Network, net_of, IsLimited, IsWithin, no_source, no_pool, no_product, no_arc}
-use Rattle.blend_network.specs.declared.network.Kind.TheVariants.{Source, Pool, Product}
+use Rattle.network_parts.specs.declared.fault.Kind.TheVariants.{Source, Pool, Product}
 use Rattle.blend_network.specs.Kinds.{names_of}
-use Rattle.blend_network.specs.Faults.{IsFaultless}
+use Rattle.network_parts.specs.Faults.{IsFaultless}
 use Rattle.blend_network.specs.Canonical.{canonical_source, canonical_pool, canonical_product, canonical_arcs, canonical_rows}
 use Rattle.blend_network.proofs.CanonicalNames.{IsFresh, disjoint}
 use Rattle.blend_network.proofs.CanonicalArcs.{AreJoined, all_named, all_between, feeds_again, outs_again, directs_again}

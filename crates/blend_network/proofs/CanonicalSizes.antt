@@ -4,9 +4,9 @@ use Rattle.std.proofs.lemmas.List.Elements.{All-append, All-contains, All-from_g
 use Rattle.pool_model.specs.Rows.{Rows}
 use Rattle.pool_model.specs.Naming.{source_names, pool_names, product_names}
 use Rattle.pool_model.specs.Network.{Network, net_of, IsLimited, no_source, no_pool, no_product}
-use Rattle.blend_network.specs.declared.network.Kind.{Kind}
-use Rattle.blend_network.specs.declared.network.Kind.TheVariants.{Source, Pool, Product, Quality}
-use Rattle.blend_network.specs.Faults.{row_names, node_names, ends_of, IsFaultless, IsSourceInRange, IsPoolInRange, IsProductInRange}
+use Rattle.network_parts.specs.declared.fault.Kind.{Kind}
+use Rattle.network_parts.specs.declared.fault.Kind.TheVariants.{Source, Pool, Product, Quality}
+use Rattle.network_parts.specs.Faults.{row_names, node_names, ends_of, IsFaultless, IsSourceInRange, IsPoolInRange, IsProductInRange}
 use Rattle.blend_network.specs.Made.{IsMade}
 use Rattle.blend_network.specs.Canonical.{canonical_source, canonical_pool, canonical_product, canonical_arcs, canonical_rows}
 use Rattle.blend_network.proofs.CanonicalFaults.{held, source_in, pool_in, product_in, canonical_rectangular, canonical_faultless}

@@ -10,15 +10,15 @@ use Rattle.pool_model.specs.Network.{Net, net_of, IsLimited, no_arc}
 use Rattle.pool_model.specs.Paths as path
 use Rattle.pool_model.specs.Paths.{paths_of, no_path, path_at}
 use Rattle.pool_model.proofs.Paths.{path_at-way}
-use Rattle.blend_network.specs.Checks.{AreArcsOf}
+use Rattle.network_parts.specs.Checks.{AreArcsOf}
 use Rattle.blend_network.specs.Keys.{key_of, nodes_of, count_of, groups_by, keys, key_number, IsIndexOf}
 use Rattle.blend_network.specs.Kept.{no_kept_arc, no_kept_path, kept_key, kept_count, IsAlong}
-use Rattle.blend_network.specs.Shown.{shown_arc, shown_path}
+use Rattle.network_parts.specs.Views.{shown_arc, shown_path}
 use Rattle.blend_network.specs.declared.keys.Key.{Key}
 use Rattle.blend_network.specs.declared.keys.Key.TheVariants.{FeedsFrom, FeedsInto, OutsFrom, OutsInto, DirectsFrom, DirectsInto, PathsFrom, PathsAlong, PathsInto}
-use Rattle.blend_network.specs.declared.network.Arc.{Arc}
-use Rattle.blend_network.specs.declared.network.Path.{Path}
-use Rattle.blend_network.specs.declared.network.arcs.Arcs.{Arcs}
+use Rattle.network_parts.specs.declared.arcs.Arc.{Arc}
+use Rattle.network_parts.specs.declared.arcs.Path.{Path}
+use Rattle.network_parts.specs.declared.arcs.Arcs.{Arcs}
 
 -- ---- a key of a network
 

@@ -1,16 +1,7 @@
-pub mod Mapped
 pub mod Margins
-pub mod NameTables
-pub mod Lookups
-pub mod Order
-pub mod Refusals
-pub mod ArcRefusals
-pub mod Joined
 pub mod Built
 pub mod Indexed
 pub mod LimitLists
-pub mod Conditions
-pub mod PathLists
 pub mod CanonicalNames
 pub mod CanonicalArcs
 pub mod CanonicalRows

@@ -7,7 +7,7 @@ use Rattle.pool_model.specs.Network.{Net, IsWithin, IsLimited}
 use Rattle.std.proofs.Math.Nat.{mul_comm}
 use Rattle.integers.proofs.Ring.{mul_comm_ℤ}
 use Rattle.integers.proofs.Order.{nonneg-mul, le-mul, le_trans_ℤ}
-use Rattle.blend_network.specs.Faults.{IsUpTo}
+use Rattle.network_parts.specs.Faults.{IsUpTo}
 use Rattle.pool_model.specs.Starting.{lesser, least_below, pool_cost, reach_cost}
 
 pub margin_above : (cost price : ℤ) → cost ≤ℤ price → int_max (pos 0) (price -ℤ cost) ≡ price -ℤ cost

@@ -2,7 +2,7 @@
 use Rattle.std.specs.Prelude.{ℕ, List, [], ◌++◌, map, get_or, Some, pos}
 use Rattle.pool_model.specs.Rows.{SourceRow, PoolRow, ProductRow, Rows}
 use Rattle.pool_model.specs.Network.{Source, Pool, Product, Arc, Network}
-use Rattle.blend_network.specs.declared.network.Kind.TheVariants as kind
+use Rattle.network_parts.specs.declared.fault.Kind.TheVariants as kind
 use Rattle.blend_network.specs.Kinds.{names_of}
 
 -- a source, with its maximum written out

@@ -1,8 +1,8 @@
 -- What arcs and paths are looked up by, as the code keeps them before there is a network.
 use Rattle.std.specs.Prelude.{ℕ, ◌<◌, length, get_or, All}
-use Rattle.blend_network.specs.declared.network.Arc.{Arc}
-use Rattle.blend_network.specs.declared.network.Path.{Path}
-use Rattle.blend_network.specs.declared.network.arcs.Arcs.{Arcs}
+use Rattle.network_parts.specs.declared.arcs.Arc.{Arc}
+use Rattle.network_parts.specs.declared.arcs.Path.{Path}
+use Rattle.network_parts.specs.declared.arcs.Arcs.{Arcs}
 use Rattle.blend_network.specs.declared.keys.Key.{Key}
 use Rattle.blend_network.specs.declared.keys.Key.TheVariants.{FeedsFrom, FeedsInto, OutsFrom, OutsInto, DirectsFrom, DirectsInto, PathsFrom, PathsAlong, PathsInto}
 

@@ -1,8 +1,8 @@
 -- What each kind of row has.
 use Rattle.std.specs.Prelude.{ℕ, List, [], map}
 use Rattle.pool_model.specs.Network.{Network}
-use Rattle.blend_network.specs.declared.network.Kind.{Kind}
-use Rattle.blend_network.specs.declared.network.Kind.TheVariants.{Source, Pool, Product, Quality, Arc}
+use Rattle.network_parts.specs.declared.fault.Kind.{Kind}
+use Rattle.network_parts.specs.declared.fault.Kind.TheVariants.{Source, Pool, Product, Quality, Arc}
 
 -- the names of a kind, by number: arcs have none
 abbrev pub names_of : Network → Kind → List (List ℕ)

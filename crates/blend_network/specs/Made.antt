@@ -3,7 +3,7 @@ use Rattle.std.specs.Prelude.{◌≡◌}
 use Rattle.pool_model.specs.Rows.{Rows, IsRectangular}
 use Rattle.pool_model.specs.Naming.{network_of}
 use Rattle.pool_model.specs.Network.{Network}
-use Rattle.blend_network.specs.Faults.{IsFaultless}
+use Rattle.network_parts.specs.Faults.{IsFaultless}
 
 -- rows that make this network, with no reason to refuse them
 pub record IsMade (network : Network) : Type 0 where

@@ -4,7 +4,7 @@ ghost use Rattle.std.specs.Prelude.{◌≡◌};
 ghost use Rattle.pool_model.specs.Rows.{IsRectangular};
 ghost use Rattle.pool_model.specs.Naming.{network_of};
 ghost use Rattle.pool_model.specs.Network.{Network, IsLimited, net_of};
-ghost use Rattle.blend_network.specs.Faults.{IsFaultless};
+ghost use Rattle.network_parts.specs.Faults.{IsFaultless};
 ghost use Rattle.blend_network.specs.Made.{IsMade};
 ghost use Rattle.blend_network.specs.Canonical.{canonical_rows};
 

@@ -22,13 +22,10 @@ mod keys;
 mod laws;
 mod limits;
 mod network;
-mod parts;
-#[cfg(test)]
-mod tests;
 
 pub use counts::Counts;
 pub use keys::Key;
 pub use laws::canonical_law;
 pub use limits::{Limit, LimitSide};
-pub use network::{Kind, NetFault, Network};
-pub use parts::{Parts, PoolRow, ProductRow, SourceRow};
+pub use network::Network;
+pub use network_parts::{Kind, NetFault, Parts, PoolRow, ProductRow, SourceRow};

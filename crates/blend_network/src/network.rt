@@ -10,33 +10,16 @@ ghost use Rattle.blend_network.specs.Kinds.{names_of};
 
 use self::limits::Limits;
 use crate::counts::Counts;
+use network_parts::{Arc, Kind, Path};
 use number_groups::Groups;
 use std::marker::Model;
 
-mod arcs;
 mod build;
-mod checks;
 mod index;
 mod keys;
 mod limits;
-mod names;
 mod narrow;
-mod paths;
-mod pools;
-mod ranges;
 mod reach;
-
-pub use build::NetFault;
-
-/// What a row, a name or a fault is about.
-#[derive(Clone, Copy, Debug, PartialEq, Eq)]
-pub enum Kind {
-    Source,
-    Pool,
-    Product,
-    Quality,
-    Arc,
-}
 
 /// A source, in millionths.
 #[derive(Debug, Drop)]
@@ -65,20 +48,6 @@ struct Product {
     most: Vec<Option<i64>>,
 }
 
-/// An arc, by the numbers of its two ends.
-#[derive(Clone, Copy, Debug)]
-struct Arc {
-    from: u32,
-    to: u32,
-}
-
-/// A path, by the numbers of its feed and its out.
-#[derive(Clone, Copy, Debug)]
-struct Path {
-    feed: u32,
-    out: u32,
-}
-
 /// A pooling network. Sources, pools, products and qualities are numbered from 0 in file order. The arcs are kept by
 /// kind, each kind in file order: feeds go from a source to a pool, outs from a pool to a product, directs from a source
 /// to a product. Paths are a feed and an out of one pool. Money and flow are in millionths.
@@ -99,7 +68,9 @@ pub struct Network {
 impl Model for Network {
     ghost use Rattle.pool_model.specs.Network as model;
     ghost use Rattle.std.specs.Prelude.{map, string_bytes};
-    ghost use Rattle.blend_network.specs.Shown.{shown_source, shown_pool, shown_product, shown_arc, shown_path, IsBuilt};
+    ghost use Rattle.network_parts.specs.Views.{shown_arc, shown_path};
+    ghost use Rattle.blend_network.specs.Views.{shown_source, shown_pool, shown_product};
+    ghost use Rattle.blend_network.specs.Built.{IsBuilt};
 
     ghost Value = { model.Network };
 
@@ -318,21 +289,5 @@ impl Network {
             Kind::Quality => self.qualities[n as usize].as_str(),
             Kind::Arc => unreachable!(),
         }
-    }
-}
-
-impl Path {
-    fn arcs(self) -> (u32, u32)
-        ensures { result ≡ (self.feed, self.out) }
-    {
-        (self.feed, self.out)
-    }
-}
-
-impl Arc {
-    fn ends(self) -> (u32, u32)
-        ensures { result ≡ (self.from, self.to) }
-    {
-        (self.from, self.to)
     }
 }

@@ -14,8 +14,8 @@ use Rattle.pool_model.specs.Network.{Source, Product, Network, net_of, IsLimited
 use Rattle.pool_model.specs.Rows.{Rows}
 use Rattle.network_json.specs.declared.fault.ReadNet.{ReadNet}
 use Rattle.pool_model.specs.Naming.{network_of}
-use Rattle.blend_network.specs.declared.network.Kind.TheVariants.{Quality, Arc}
-use Rattle.blend_network.specs.Faults.{IsUpTo, AreLimits, IsSourceInRange, IsProductInRange}
+use Rattle.network_parts.specs.declared.fault.Kind.TheVariants.{Quality, Arc}
+use Rattle.network_parts.specs.Faults.{IsUpTo, AreLimits, IsSourceInRange, IsProductInRange}
 use Rattle.blend_network.specs.Made.{IsMade}
 use Rattle.blend_network.specs.Canonical.{canonical_source, canonical_product, canonical_arcs, canonical_rows}
 use Rattle.blend_network.proofs.CanonicalArcs.{IsOnce, once_from}

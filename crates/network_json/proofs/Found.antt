@@ -5,7 +5,7 @@ use Rattle.std.specs.List.{list_all}
 use Rattle.std.specs.Option.{ok_or}
 use Rattle.serde_json.specs.Data.{Data, number, string, Num, unsigned}
 use Rattle.serde_json.specs.Find.{as_number, as_object, as_array, get}
-use Rattle.blend_network.specs.declared.network.build.NetFault.{NetFault}
+use Rattle.network_parts.specs.declared.fault.NetFault.{NetFault}
 use Rattle.pool_model.specs.Rows.{Rows}
 use Rattle.network_json.specs.declared.fault.Section.{Section}
 use Rattle.network_json.specs.declared.fault.Section.TheVariants.{Qualities, Sources, Pools, Products, Arcs}

@@ -6,8 +6,8 @@ use Rattle.std.proofs.lemmas.List.Elements.{All-from_recursion}
 use Rattle.serde_json.specs.Data.{Data}
 use Rattle.serde_json.specs.Find.{get}
 use Rattle.pool_model.specs.Rows.{SourceRow, ProductRow, Rows, IsRectangular}
-use Rattle.blend_network.specs.Parts.{rows_of}
-use Rattle.blend_network.specs.declared.parts.Parts.{Parts}
+use Rattle.network_parts.specs.Parts.{rows_of}
+use Rattle.network_parts.specs.declared.parts.Parts.{Parts}
 use Rattle.network_json.specs.declared.fault.Section.{Section}
 use Rattle.network_json.specs.declared.fault.Section.TheVariants.{Qualities, Sources, Pools, Products, Arcs}
 use Rattle.network_json.specs.declared.fault.Place.{Place}

@@ -1,6 +1,6 @@
 -- What a refusal of rows is as a refusal of their file.
-use Rattle.blend_network.specs.declared.network.build.NetFault.{NetFault}
-use Rattle.blend_network.specs.declared.network.build.NetFault.TheVariants as net
+use Rattle.network_parts.specs.declared.fault.NetFault.{NetFault}
+use Rattle.network_parts.specs.declared.fault.NetFault.TheVariants as net
 use Rattle.network_json.specs.declared.fault.ReadNet.{ReadNet}
 use Rattle.network_json.specs.declared.fault.ReadNet.TheVariants.{Net, Memory}
 

@@ -3,10 +3,10 @@ use Rattle.std.specs.Prelude.{◌≡◌, ◌≢◌, ℕ, List, Ok, Err, ⊤}
 use Rattle.pool_model.specs.Rows.{Rows}
 use Rattle.pool_model.specs.Network.{Network}
 use Rattle.pool_model.specs.Naming.{network_of}
-use Rattle.blend_network.specs.Faults.{IsFaultless}
-use Rattle.blend_network.specs.FirstFault.{IsFirstFault}
-use Rattle.blend_network.specs.declared.network.build.NetFault.{NetFault}
-use Rattle.blend_network.specs.declared.network.build.NetFault.TheVariants as net
+use Rattle.network_parts.specs.Faults.{IsFaultless}
+use Rattle.network_parts.specs.FirstFault.{IsFirstFault}
+use Rattle.network_parts.specs.declared.fault.NetFault.{NetFault}
+use Rattle.network_parts.specs.declared.fault.NetFault.TheVariants as net
 use Rattle.network_json.specs.declared.fault.ReadNet.{ReadNet}
 use Rattle.network_json.specs.declared.fault.ReadNet.TheVariants.{Net, Memory}
 use Rattle.network_json.specs.Format.{rows_in}

@@ -6,7 +6,7 @@ ghost use Rattle.serde_json.specs.Data.{object, string};
 ghost use Rattle.serde_json.specs.View.{view, members_view};
 ghost use Rattle.pool_model.specs.Network.{net_of, no_source, no_pool, no_product, no_arc};
 ghost use Rattle.blend_network.specs.Kinds.{names_of};
-ghost use Rattle.blend_network.specs.declared.network.Kind.TheVariants as kind;
+ghost use Rattle.network_parts.specs.declared.fault.Kind.TheVariants as kind;
 ghost use Rattle.blend_network.specs.Canonical.{canonical_arc, canonical_arcs};
 ghost use Rattle.network_json.specs.Canonical.{quantity_data, set_at, set_members, list_data, source_data, pool_data, product_data, arc_data, network_data, canonical_text};
 ghost use Rattle.network_json.specs.Reading.{ReadAs};

@@ -4,7 +4,7 @@ ghost use Rattle.std.specs.Prelude.{IfOk, IfErr};
 ghost use Rattle.std.specs.Option.{ok_or};
 ghost use Rattle.serde_json.specs.View.{view};
 ghost use Rattle.pool_model.specs.Rows.{IsRectangular};
-ghost use Rattle.blend_network.specs.Parts.{rows_of};
+ghost use Rattle.network_parts.specs.Parts.{rows_of};
 ghost use Rattle.network_json.specs.Walk.{Gives};
 ghost use Rattle.network_json.specs.Reading.{ReadAs, IsRefusal};
 ghost use Rattle.network_json.specs.Format.{rows_in, value_of as spelled_value};

@@ -1,5 +1,6 @@
 use super::*;
 use crate::read::read_rows;
+use std::alloc::{AllocError, Global};
 use std::test::Fail;
 
 const ONE_ARC: &str =
@@ -106,5 +107,35 @@ fn longest_text(rt: HostRuntime) -> Result<(), Fail> {
         read_rows(rt.alloc(), &spaces).err(),
         Some(ReadNet::TooLong)
     );
+    Ok(())
+}
+
+/// The canonical text of source A and product X with this many pools between them.
+fn pools_between(alloc: Global, count: u32) -> Result<String, AllocError> {
+    let mut feeds = String::new(alloc);
+    let mut outs = String::new(alloc);
+    let mut pools = String::new(alloc);
+    for n in 0..count {
+        feeds.push_str(&format!(in alloc; r#"["A","P{n}"],"#)?)?;
+        outs.push_str(&format!(in alloc; r#"{}["P{n}","X"]"#, comma(n))?)?;
+        pools.push_str(&format!(in alloc; r#"{}{{"max":7,"name":"P{n}"}}"#, comma(n))?)?;
+    }
+    format!(in alloc;
+        r#"{{"arcs":[{feeds}{outs}],"pools":[{pools}],"products":[{{"least":{{}},"max":7,"min":0,"most":{{}},"name":"X","price":"0.5"}}],"qualities":[],"sources":[{{"cost":0,"max":7,"name":"A","quality":{{}}}}],"version":1}}"#
+    )
+}
+
+/// A comma before all but the first.
+fn comma(n: u32) -> &'static str {
+    if n == 0 { "" } else { "," }
+}
+
+#[test]
+fn sixteen_pools_stand_in_one_canonical_text(rt: HostRuntime) -> Result<(), Fail> {
+    let alloc = rt.alloc();
+    let text = pools_between(alloc, 16)?;
+    let net = read_network(alloc, text.as_bytes())?;
+    assert_eq!(rt; net.paths(), 16);
+    assert_eq!(rt; write_canonical(alloc, &net)?.as_slice(), text.as_bytes());
     Ok(())
 }

@@ -4,16 +4,15 @@ ghost use Rattle.std.specs.Prelude.{◌≡◌, ℕ, ◌<◌, ◌≤◌, length, 
 ghost use Rattle.number_groups.specs.Groups.{groups_of};
 ghost use Rattle.pool_model.specs.Naming.{network_of};
 ghost use Rattle.pool_model.specs.Network.{Net, net_of, IsLimited};
-ghost use Rattle.blend_network.specs.Parts.{rows_of};
-ghost use Rattle.blend_network.specs.Checks.{IsChecked};
+ghost use Rattle.network_parts.specs.Parts.{rows_of};
+ghost use Rattle.network_parts.specs.Checks.{IsChecked};
 ghost use Rattle.blend_network.specs.Counts.{AreCounts};
 ghost use Rattle.blend_network.specs.Keys.{nodes_of, IsIndexOf};
 ghost use Rattle.blend_network.specs.Kept.{kept_key, kept_count, IsAlong};
 
-use super::arcs::Arcs;
 use crate::counts::Counts;
 use crate::keys::{KEYS, Key};
-use crate::parts::Parts;
+use network_parts::{Arcs, Parts};
 use number_groups::Groups;
 use std::alloc::{AllocError, Global};
 
@@ -76,41 +75,39 @@ fn grouped(alloc: Global, arcs: &Arcs, key: Key, nodes: u32) -> Result<Groups, A
     ensures { IfOk result (λ g. g ≡ groups_of (kept_key arcs.now key) (kept_count arcs.now key) nodes) }
 {
     let mut keys = Vec::new(alloc);
-    for i in 0..arcs.count(key) {
-        keys.push(arcs.node(key, i))?;
+    for i in 0..arc_count(arcs, key) {
+        keys.push(arc_node(arcs, key, i))?;
     }
     Groups::by(alloc, &keys, nodes)
 }
 
-impl Arcs {
-    /// How many arcs or paths there are.
-    fn count(&self, key: Key) -> usize
-        ensures { result ≡ kept_count self.now key }
-    {
-        match key {
-            Key::FeedsFrom | Key::FeedsInto => self.feeds.len(),
-            Key::OutsFrom | Key::OutsInto => self.outs.len(),
-            Key::DirectsFrom | Key::DirectsInto => self.directs.len(),
-            Key::PathsFrom | Key::PathsAlong | Key::PathsInto => self.paths.len(),
-        }
+/// How many arcs or paths there are.
+fn arc_count(arcs: &Arcs, key: Key) -> usize
+    ensures { result ≡ kept_count arcs.now key }
+{
+    match key {
+        Key::FeedsFrom | Key::FeedsInto => arcs.feeds.len(),
+        Key::OutsFrom | Key::OutsInto => arcs.outs.len(),
+        Key::DirectsFrom | Key::DirectsInto => arcs.directs.len(),
+        Key::PathsFrom | Key::PathsAlong | Key::PathsInto => arcs.paths.len(),
     }
+}
 
-    /// The node of an arc or a path.
-    fn node(&self, key: Key, i: usize) -> u32
-        requires along { IsAlong self.now }
-        requires there { i < kept_count self.now key }
-        ensures { result ≡ kept_key self.now key i }
-    {
-        match key {
-            Key::FeedsFrom => self.feeds[i].from,
-            Key::FeedsInto => self.feeds[i].to,
-            Key::OutsFrom => self.outs[i].from,
-            Key::OutsInto => self.outs[i].to,
-            Key::DirectsFrom => self.directs[i].from,
-            Key::DirectsInto => self.directs[i].to,
-            Key::PathsFrom => self.paths[i].feed,
-            Key::PathsAlong => self.paths[i].out,
-            Key::PathsInto => self.outs[self.paths[i].out as usize].to,
-        }
+/// The node of an arc or a path.
+fn arc_node(arcs: &Arcs, key: Key, i: usize) -> u32
+    requires along { IsAlong arcs.now }
+    requires there { i < kept_count arcs.now key }
+    ensures { result ≡ kept_key arcs.now key i }
+{
+    match key {
+        Key::FeedsFrom => arcs.feeds[i].from,
+        Key::FeedsInto => arcs.feeds[i].to,
+        Key::OutsFrom => arcs.outs[i].from,
+        Key::OutsInto => arcs.outs[i].to,
+        Key::DirectsFrom => arcs.directs[i].from,
+        Key::DirectsInto => arcs.directs[i].to,
+        Key::PathsFrom => arcs.paths[i].feed,
+        Key::PathsAlong => arcs.paths[i].out,
+        Key::PathsInto => arcs.outs[arcs.paths[i].out as usize].to,
     }
 }

@@ -5,12 +5,12 @@ ghost use Rattle.std.specs.Option.{ForSome};
 ghost use Rattle.integers.specs.Sums.{int_sum_by};
 ghost use Rattle.pool_model.specs.Network.{IsWithin};
 ghost use Rattle.pool_model.specs.Naming.{source_of, pool_of, product_of};
-ghost use Rattle.blend_network.specs.Parts.{source_row, pool_row, product_row};
-ghost use Rattle.blend_network.specs.Faults.{AreLimits, IsUpTo, IsSourceInRange, IsPoolInRange, IsProductInRange};
-ghost use Rattle.blend_network.specs.Shown.{shown_source, shown_pool, shown_product};
+ghost use Rattle.network_parts.specs.Parts.{source_row, pool_row, product_row};
+ghost use Rattle.network_parts.specs.Faults.{AreLimits, IsUpTo, IsSourceInRange, IsPoolInRange, IsProductInRange};
+ghost use Rattle.blend_network.specs.Views.{shown_source, shown_pool, shown_product};
 
 use super::{Pool, Product, Source};
-use crate::parts::{PoolRow, ProductRow, SourceRow};
+use network_parts::{PoolRow, ProductRow, SourceRow};
 use std::alloc::{AllocError, Global};
 
 /// The sum of the product maxima, in millionths. It stands for an absent maximum.

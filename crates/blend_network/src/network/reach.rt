@@ -5,7 +5,7 @@ ghost use Rattle.std.specs.Option.{ForSome};
 ghost use Rattle.pool_model.specs.Network.{net_of, IsWithin};
 ghost use Rattle.pool_model.specs.Starting.{lesser, pool_cost, reach_cost, margin, reach_bound};
 ghost use Rattle.blend_network.specs.Reach.{direct_cost, through_cost};
-ghost use Rattle.blend_network.specs.Faults.{IsUpTo};
+ghost use Rattle.network_parts.specs.Faults.{IsUpTo};
 
 use super::Network;
 

@@ -1,7 +1,7 @@
 use Rattle.std.proofs.Common.{◌≡◌, ◌++◌, map, take}
 use Rattle.serde_json.specs.View.{view}
 use Rattle.blend_network.specs.Kinds.{names_of}
-use Rattle.blend_network.specs.declared.network.Kind.TheVariants as kind
+use Rattle.network_parts.specs.declared.fault.Kind.TheVariants as kind
 use Rattle.blend_network.specs.Canonical.{canonical_arc}
 use Rattle.network_json.specs.Canonical.{arc_data}
 use Rattle.network_json.proofs.canonical.arcs_value.Given as goal

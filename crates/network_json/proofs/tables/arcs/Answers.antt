@@ -1,5 +1,5 @@
 use Rattle.serde_json.specs.View.{view}
-use Rattle.blend_network.specs.Parts.{arc_ends}
+use Rattle.network_parts.specs.Parts.{arc_ends}
 use Rattle.network_json.specs.Walk.{place, rows}
 use Rattle.network_json.specs.Format.{arc}
 use Rattle.network_json.specs.declared.fault.Section.TheVariants.{Arcs}

@@ -1,5 +1,5 @@
 use Rattle.serde_json.specs.View.{view}
-use Rattle.blend_network.specs.Parts.{pool_row}
+use Rattle.network_parts.specs.Parts.{pool_row}
 use Rattle.network_json.specs.Walk.{place, rows}
 use Rattle.network_json.specs.Format.{pool}
 use Rattle.network_json.specs.declared.fault.Section.TheVariants.{Pools}

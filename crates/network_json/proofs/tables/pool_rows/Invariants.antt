@@ -1,6 +1,6 @@
 use Rattle.std.proofs.Common.{◌≡◌, map, take, Ok}
 use Rattle.serde_json.specs.View.{view}
-use Rattle.blend_network.specs.Parts.{pool_row}
+use Rattle.network_parts.specs.Parts.{pool_row}
 use Rattle.network_json.specs.Walk.{each, place}
 use Rattle.network_json.specs.Format.{pool}
 use Rattle.network_json.specs.declared.fault.Section.TheVariants.{Pools}

@@ -1,5 +1,5 @@
 use Rattle.serde_json.specs.View.{view}
-use Rattle.blend_network.specs.Parts.{product_row}
+use Rattle.network_parts.specs.Parts.{product_row}
 use Rattle.network_json.specs.Walk.{place, texts, rows}
 use Rattle.network_json.specs.Format.{product}
 use Rattle.network_json.specs.declared.fault.Section.TheVariants.{Products}

@@ -1,6 +1,6 @@
 use Rattle.std.proofs.Common.{◌≡◌, map, take, Ok}
 use Rattle.serde_json.specs.View.{view}
-use Rattle.blend_network.specs.Parts.{source_row}
+use Rattle.network_parts.specs.Parts.{source_row}
 use Rattle.network_json.specs.Walk.{each, place, texts}
 use Rattle.network_json.specs.Format.{source}
 use Rattle.network_json.specs.declared.fault.Section.TheVariants.{Sources}

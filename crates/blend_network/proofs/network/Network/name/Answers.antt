@@ -1,6 +1,6 @@
 use Rattle.std.proofs.Common.{[], sym, ◌∙◌}
-use Rattle.blend_network.specs.Shown.{shown_source, shown_pool, shown_product}
-use Rattle.blend_network.proofs.Mapped.{read-map_map}
+use Rattle.blend_network.specs.Views.{shown_source, shown_pool, shown_product}
+use Rattle.network_parts.proofs.Mapped.{read-map_map}
 use Rattle.blend_network.proofs.network.Network.name.Goals as goal
 
 pub returns-in-Source : goal.returns-in-Source

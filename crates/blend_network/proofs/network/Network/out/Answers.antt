@@ -1,8 +1,8 @@
 use Rattle.std.proofs.Common.{ℕ, length, ap, arith}
 use Rattle.pool_model.specs.Network as model
 use Rattle.pool_model.specs.Network.{Network, net_of, no_arc}
-use Rattle.blend_network.specs.Shown.{shown_arc}
-use Rattle.blend_network.proofs.Mapped.{read-map}
+use Rattle.network_parts.specs.Views.{shown_arc}
+use Rattle.network_parts.proofs.Mapped.{read-map}
 use Rattle.blend_network.proofs.network.Network.out.Goals as goal
 
 pub returns-clause-known_pool : goal.returns-clause-known_pool

@@ -2,8 +2,8 @@ use Rattle.std.proofs.Common.{◌≡◌, ◌<◌, ℕ, length, map, get_or, sym,
 use Rattle.pool_model.specs.Network.{Network, net_of}
 use Rattle.pool_model.specs.Paths.{Path, paths_of, no_path, path_at}
 use Rattle.pool_model.proofs.Paths.{path_at-way}
-use Rattle.blend_network.specs.Shown.{shown_path}
-use Rattle.blend_network.proofs.Mapped.{read-map}
+use Rattle.network_parts.specs.Views.{shown_path}
+use Rattle.network_parts.proofs.Mapped.{read-map}
 use Rattle.blend_network.proofs.network.Network.path.Goals as goal
 
 pub returns : goal.returns

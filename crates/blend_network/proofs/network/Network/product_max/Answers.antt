@@ -1,8 +1,8 @@
 use Rattle.std.proofs.Common.{ap, arith}
 use Rattle.std.proofs.lemmas.Int.{ints}
 use Rattle.pool_model.specs.Network.{net_of, no_product}
-use Rattle.blend_network.specs.Shown.{shown_product}
-use Rattle.blend_network.proofs.Mapped.{read-map}
+use Rattle.blend_network.specs.Views.{shown_product}
+use Rattle.network_parts.proofs.Mapped.{read-map}
 use Rattle.blend_network.proofs.network.Network.product_max.Goals as goal
 
 pub overflow_cast-result : goal.overflow_cast-result

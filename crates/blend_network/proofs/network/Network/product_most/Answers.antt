@@ -1,7 +1,7 @@
 use Rattle.std.proofs.Common.{length, ap, arith}
 use Rattle.pool_model.specs.Network.{net_of, no_product}
-use Rattle.blend_network.specs.Shown.{shown_product}
-use Rattle.blend_network.proofs.Mapped.{read-map}
+use Rattle.blend_network.specs.Views.{shown_product}
+use Rattle.network_parts.proofs.Mapped.{read-map}
 use Rattle.blend_network.proofs.network.Network.product_most.Goals as goal
 
 pub bounds-as_slice-k : goal.bounds-as_slice-k

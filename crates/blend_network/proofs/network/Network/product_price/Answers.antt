@@ -3,8 +3,8 @@ use Rattle.std.proofs.lemmas.Int.{ints, to_z-of_z}
 use mir.Syntax.{w64}
 use Rattle.pool_model.specs.Network as model
 use Rattle.pool_model.specs.Network.{net_of, no_product}
-use Rattle.blend_network.specs.Shown.{shown_product}
-use Rattle.blend_network.proofs.Mapped.{read-map}
+use Rattle.blend_network.specs.Views.{shown_product}
+use Rattle.network_parts.proofs.Mapped.{read-map}
 use Rattle.blend_network.proofs.network.Network.product_price.Goals as goal
 
 pub returns-clause-size : goal.returns-clause-size

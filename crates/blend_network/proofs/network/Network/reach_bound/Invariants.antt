@@ -2,7 +2,7 @@ use Rattle.std.proofs.Common.{◌≡◌, ◌*◌, ◌^◌, pos, ◌*ℤ◌}
 use Rattle.integers.specs.Sums.{int_sum_below}
 use Rattle.pool_model.specs.Network.{net_of}
 use Rattle.pool_model.specs.Starting.{reach_cost, margin}
-use Rattle.blend_network.specs.Faults.{IsUpTo}
+use Rattle.network_parts.specs.Faults.{IsUpTo}
 use Rattle.blend_network.proofs.network.Network.reach_bound.Given as goal
 
 abbrev pub invariant-loop-j : goal.invariant-loop-j

@@ -1,16 +1,18 @@
 use Rattle.std.proofs.Common.{◌≡◌, ◌≤◌, ◌*◌, ◌^◌, ℕ, length, map, ℤ, pos, sym, ap, subst, refl, ◌∙◌, arith}
 use Rattle.std.proofs.lemmas.Int.{ints}
 use Rattle.std.proofs.lemmas.List.{length-map}
-use Rattle.blend_network.specs.declared.network.Kind.TheVariants.{Product, Quality}
+use Rattle.network_parts.specs.declared.fault.Kind.TheVariants.{Product, Quality}
 use Rattle.blend_network.specs.declared.limits.LimitSide.TheVariants.{Most, Least}
 use Rattle.pool_model.specs.Rows.{Rows, IsRectangular}
 use Rattle.pool_model.specs.Naming.{source_of, pool_of, product_of, stand_in, network_of}
-use Rattle.blend_network.specs.Parts.{rows_of, source_row, pool_row, product_row}
-use Rattle.blend_network.specs.Faults.{IsSourceInRange, IsPoolInRange, IsProductInRange, IsUpTo, no_source_row, no_pool_row, no_product_row}
-use Rattle.blend_network.specs.Shown.{shown_product, shown_path, IsBuilt}
+use Rattle.network_parts.specs.Parts.{rows_of, source_row, pool_row, product_row}
+use Rattle.network_parts.specs.Faults.{IsSourceInRange, IsPoolInRange, IsProductInRange, IsUpTo, no_source_row, no_pool_row, no_product_row}
+use Rattle.network_parts.specs.Views.{shown_path}
+use Rattle.blend_network.specs.Views.{shown_product}
+use Rattle.blend_network.specs.Built.{IsBuilt}
 use Rattle.pool_model.specs.Network.{Network, net_of, IsLimited}
-use Rattle.blend_network.specs.Checks.{IsChecked}
-use Rattle.blend_network.specs.declared.network.arcs.Arcs.{Arcs}
+use Rattle.network_parts.specs.Checks.{IsChecked}
+use Rattle.network_parts.specs.declared.arcs.Arcs.{Arcs}
 use Rattle.blend_network.proofs.Built.{all_rows, same_network, limited, built}
 use Rattle.blend_network.proofs.LimitLists.{products_wide, set_of, both_set}
 use Rattle.blend_network.proofs.network.build.assembled.Goals as goal

@@ -1,7 +1,7 @@
 use Rattle.std.proofs.Common.{get_or, ◌∙◌, arith}
 use Rattle.pool_model.specs.Naming.{network_of}
 use Rattle.pool_model.specs.Network.{net_of}
-use Rattle.blend_network.specs.Parts.{rows_of}
+use Rattle.network_parts.specs.Parts.{rows_of}
 use Rattle.blend_network.specs.Keys.{keys}
 use Rattle.blend_network.specs.declared.keys.Key.TheVariants.{FeedsFrom}
 use Rattle.blend_network.proofs.Indexed.{key_few, count_is, along, kept_known, grouped_is, index_more}

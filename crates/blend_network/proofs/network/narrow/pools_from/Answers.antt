@@ -2,10 +2,10 @@ use Rattle.std.proofs.Common.{◌≡◌, pos, ◌∷◌, sym, refl, rules}
 use Rattle.std.specs.Vec.Iter.{into_iter_items}
 use Rattle.std.proofs.lemmas.List.Elements.{All-rest, All-head, All-same}
 use Rattle.pool_model.specs.Naming.{pool_of}
-use Rattle.blend_network.specs.Parts.{pool_row}
-use Rattle.blend_network.specs.Faults.{IsPoolInRange}
-use Rattle.blend_network.specs.Shown.{shown_pool}
-use Rattle.blend_network.proofs.Mapped.{made_more}
+use Rattle.network_parts.specs.Parts.{pool_row}
+use Rattle.network_parts.specs.Faults.{IsPoolInRange}
+use Rattle.blend_network.specs.Views.{shown_pool}
+use Rattle.network_parts.proofs.Mapped.{made_more}
 use Rattle.blend_network.proofs.network.narrow.pools_from.Goals as goal
 
 pub loop-row-preserved : goal.loop-row-preserved

@@ -1,9 +1,9 @@
 use Rattle.std.proofs.Common.{◌≡◌, ◌++◌, All, map, pos}
 use Rattle.std.specs.Vec.Iter.{into_iter_items}
 use Rattle.pool_model.specs.Naming.{pool_of}
-use Rattle.blend_network.specs.Parts.{pool_row}
-use Rattle.blend_network.specs.Faults.{IsPoolInRange}
-use Rattle.blend_network.specs.Shown.{shown_pool}
+use Rattle.network_parts.specs.Parts.{pool_row}
+use Rattle.network_parts.specs.Faults.{IsPoolInRange}
+use Rattle.blend_network.specs.Views.{shown_pool}
 use Rattle.blend_network.proofs.network.narrow.pools_from.Given as goal
 
 abbrev pub invariant-loop-row : goal.invariant-loop-row

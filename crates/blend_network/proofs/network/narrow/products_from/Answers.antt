@@ -1,10 +1,10 @@
 use Rattle.std.specs.Vec.Iter.{into_iter_items}
 use Rattle.std.proofs.lemmas.List.Elements.{All-rest}
 use Rattle.pool_model.specs.Naming.{product_of}
-use Rattle.blend_network.specs.Parts.{product_row}
-use Rattle.blend_network.specs.Faults.{IsProductInRange}
-use Rattle.blend_network.specs.Shown.{shown_product}
-use Rattle.blend_network.proofs.Mapped.{made_more}
+use Rattle.network_parts.specs.Parts.{product_row}
+use Rattle.network_parts.specs.Faults.{IsProductInRange}
+use Rattle.blend_network.specs.Views.{shown_product}
+use Rattle.network_parts.proofs.Mapped.{made_more}
 use Rattle.blend_network.proofs.network.narrow.products_from.Goals as goal
 
 pub loop-row-preserved : goal.loop-row-preserved

@@ -1,9 +1,9 @@
 use Rattle.std.proofs.Common.{◌≡◌, ◌++◌, All, map}
 use Rattle.std.specs.Vec.Iter.{into_iter_items}
 use Rattle.pool_model.specs.Naming.{product_of}
-use Rattle.blend_network.specs.Parts.{product_row}
-use Rattle.blend_network.specs.Faults.{IsProductInRange}
-use Rattle.blend_network.specs.Shown.{shown_product}
+use Rattle.network_parts.specs.Parts.{product_row}
+use Rattle.network_parts.specs.Faults.{IsProductInRange}
+use Rattle.blend_network.specs.Views.{shown_product}
 use Rattle.blend_network.proofs.network.narrow.products_from.Given as goal
 
 abbrev pub invariant-loop-row : goal.invariant-loop-row

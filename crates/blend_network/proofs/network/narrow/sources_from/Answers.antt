@@ -2,10 +2,10 @@ use Rattle.std.proofs.Common.{pos}
 use Rattle.std.specs.Vec.Iter.{into_iter_items}
 use Rattle.std.proofs.lemmas.List.Elements.{All-rest}
 use Rattle.pool_model.specs.Naming.{source_of}
-use Rattle.blend_network.specs.Parts.{source_row}
-use Rattle.blend_network.specs.Faults.{IsSourceInRange}
-use Rattle.blend_network.specs.Shown.{shown_source}
-use Rattle.blend_network.proofs.Mapped.{made_more}
+use Rattle.network_parts.specs.Parts.{source_row}
+use Rattle.network_parts.specs.Faults.{IsSourceInRange}
+use Rattle.blend_network.specs.Views.{shown_source}
+use Rattle.network_parts.proofs.Mapped.{made_more}
 use Rattle.blend_network.proofs.network.narrow.sources_from.Goals as goal
 
 pub loop-row-preserved : goal.loop-row-preserved

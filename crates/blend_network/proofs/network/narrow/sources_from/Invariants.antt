@@ -1,9 +1,9 @@
 use Rattle.std.proofs.Common.{◌≡◌, ◌++◌, All, map, pos}
 use Rattle.std.specs.Vec.Iter.{into_iter_items}
 use Rattle.pool_model.specs.Naming.{source_of}
-use Rattle.blend_network.specs.Parts.{source_row}
-use Rattle.blend_network.specs.Faults.{IsSourceInRange}
-use Rattle.blend_network.specs.Shown.{shown_source}
+use Rattle.network_parts.specs.Parts.{source_row}
+use Rattle.network_parts.specs.Faults.{IsSourceInRange}
+use Rattle.blend_network.specs.Views.{shown_source}
 use Rattle.blend_network.proofs.network.narrow.sources_from.Given as goal
 
 abbrev pub invariant-loop-row : goal.invariant-loop-row

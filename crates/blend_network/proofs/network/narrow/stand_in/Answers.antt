@@ -5,9 +5,9 @@ use mir.Syntax.{w128}
 use Rattle.integers.specs.Sums.{int_sum_by}
 use Rattle.integers.proofs.ByList.{int_sum_by_more}
 use Rattle.pool_model.specs.Rows.{ProductRow}
-use Rattle.blend_network.specs.Parts.{product_row}
-use Rattle.blend_network.specs.Faults.{IsProductInRange, no_product_row}
-use Rattle.blend_network.proofs.Mapped.{read-map}
+use Rattle.network_parts.specs.Parts.{product_row}
+use Rattle.network_parts.specs.Faults.{IsProductInRange, no_product_row}
+use Rattle.network_parts.proofs.Mapped.{read-map}
 use Rattle.blend_network.proofs.network.narrow.stand_in.Goals as goal
 
 more : (f : ProductRow → ℤ) (rows : List ProductRow) (n s : ℕ) (z : ℤ) → n < length rows → pos s ≡ int_sum_by f (take n rows) → f (get_or rows n no_product_row) ≡ z → pos 0 ≤ℤ z

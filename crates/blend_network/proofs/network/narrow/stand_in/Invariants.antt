@@ -1,6 +1,6 @@
 use Rattle.std.proofs.Common.{◌≡◌, ◌≤◌, ◌*◌, ◌^◌, pos, map, take}
 use Rattle.integers.specs.Sums.{int_sum_by}
-use Rattle.blend_network.specs.Parts.{product_row}
+use Rattle.network_parts.specs.Parts.{product_row}
 use Rattle.blend_network.proofs.network.narrow.stand_in.Given as goal
 
 abbrev pub invariant-loop-row : goal.invariant-loop-row

@@ -1,7 +1,0 @@
-use Rattle.std.proofs.Common.{◌≡◌, map, take}
-use Rattle.blend_network.specs.Parts.{rows_of}
-use Rattle.blend_network.specs.Nodes.{known, nodes_of}
-use Rattle.blend_network.proofs.network.arcs.ends_of.Given as goal
-
-abbrev pub invariant-loop-n : goal.invariant-loop-n
-invariant-loop-n l = map known l.ends.items ≡ take l.n (map (nodes_of (rows_of l.parts)) (rows_of l.parts).arcs)

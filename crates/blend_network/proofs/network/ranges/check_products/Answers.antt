@@ -1,9 +1,0 @@
-use Rattle.std.proofs.Common.{below_more, rules}
-use Rattle.blend_network.specs.Parts.{product_row}
-use Rattle.blend_network.specs.Faults.{IsProductInRange, no_product_row}
-use Rattle.blend_network.proofs.Mapped.{holds_at}
-use Rattle.blend_network.proofs.network.ranges.check_products.Goals as goal
-
-pub loop-n-preserved : goal.loop-n-preserved
-loop-n-preserved c =
-    below_more _ _ c.loop-n.invariant (holds_at IsProductInRange product_row c.args.rows.now c.loop-n.n c.index-rows-n.result no_product_row c.loop-n-test.true c.index-rows-n.is (search rules))

@@ -1,0 +1,15 @@
+-- The fields of a network as the model sees them.
+use Rattle.std.specs.Prelude.{string_bytes}
+use Rattle.pool_model.specs.Network as model
+use Rattle.blend_network.specs.declared.network.Source.{Source}
+use Rattle.blend_network.specs.declared.network.Pool.{Pool}
+use Rattle.blend_network.specs.declared.network.Product.{Product}
+
+abbrev pub shown_source : Source → model.Source
+shown_source s = record { name = string_bytes s.name; cost = s.cost; max = s.max; quality = s.quality.items }
+
+abbrev pub shown_pool : Pool → model.Pool
+shown_pool p = record { name = string_bytes p.name; max = p.max }
+
+abbrev pub shown_product : Product → model.Product
+shown_product p = record { name = string_bytes p.name; price = p.price; min = p.min; max = p.max; least = p.least.items; most = p.most.items }

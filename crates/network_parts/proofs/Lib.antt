@@ -1,0 +1,9 @@
+pub mod Mapped
+pub mod NameTables
+pub mod Lookups
+pub mod Order
+pub mod Refusals
+pub mod ArcRefusals
+pub mod Joined
+pub mod Conditions
+pub mod PathLists

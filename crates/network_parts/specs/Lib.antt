@@ -1,0 +1,7 @@
+pub mod Parts
+pub mod Views
+pub mod Names
+pub mod Nodes
+pub mod Faults
+pub mod FirstFault
+pub mod Checks
