@@ -4,7 +4,8 @@ use Rattle.pool_model.specs.Rows.{Rows}
 use Rattle.pool_model.specs.Network.{Network}
 use Rattle.pool_model.specs.Naming.{network_of}
 use Rattle.network_parts.specs.Faults.{IsFaultless}
-use Rattle.network_parts.specs.FirstFault.{IsFirstFault}
+use Rattle.faults.specs.First.{IsFirst}
+use Rattle.network_parts.specs.FirstFault.{Holds, rank}
 use Rattle.network_parts.specs.declared.fault.NetFault.{NetFault}
 use Rattle.network_parts.specs.declared.fault.NetFault.TheVariants as net
 use Rattle.network_json.specs.declared.fault.ReadNet.{ReadNet}
@@ -23,7 +24,7 @@ pub record IsNetFault (bytes : List ℕ) (fault : NetFault) : Type 0 where
   pub rows : Rows
   pub read : rows_in bytes ≡ Ok rows
   pub cause : fault ≢ net.Memory
-  pub first : IsFirstFault rows fault
+  pub first : IsFirst rank (Holds rows) fault
 
 -- A file is refused for the first fault of its walk, or for the first fault of its rows; want of memory says nothing of it.
 abbrev pub IsRefusal : List ℕ → ReadNet → Type 0

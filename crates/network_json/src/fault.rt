@@ -75,6 +75,28 @@ pub enum ReadNet {
     Memory,
 }
 
+impl ReadNet {
+    ghost use Rattle.network_json.specs.NetCause.{number};
+
+    /// The number of the cause, as messages tell it: 1 for the first.
+    pub fn number(&self) -> u32
+        ensures { result ≡ number self.now }
+    {
+        match self {
+            ReadNet::TooLong => 1,
+            ReadNet::NotJson => 2,
+            ReadNet::WrongKind(_) => 3,
+            ReadNet::UnknownMember(_) => 4,
+            ReadNet::Missing(_) => 5,
+            ReadNet::WrongVersion => 6,
+            ReadNet::NotWhole(_) => 7,
+            ReadNet::BadQuantity(_) => 8,
+            ReadNet::Net(_) => 9,
+            ReadNet::Memory => 10,
+        }
+    }
+}
+
 /// Want of memory in the making of a network is want of memory here.
 impl From<NetFault> for ReadNet {
     ghost use Rattle.network_json.specs.NetCause.{cause_of};

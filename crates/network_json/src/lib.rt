@@ -6,7 +6,7 @@
 //! A network is written back as its canonical text, one text for all files of the same network: `specs/Canonical.antt` has
 //! its value. `read_network` gives the same network of it.
 //!
-//! The layer above may use `read_network` and `write_canonical`. Whether the rows of a file make a network (names, limits,
+//! The layer above may use `read_network` and `write_canonical`, and `quantity_of` of `quantity`. Whether the rows of a file make a network (names, limits,
 //! arcs) is left to `blend_network`.
 #![tactic(auto)]
 
@@ -20,6 +20,7 @@ mod walk;
 pub use canonical::{MAX_CANONICAL, write_canonical};
 pub use fault::{Place, ReadNet, Section};
 pub use laws::one_network_law;
+pub use quantity::quantity_of;
 pub use read::{MAX_TEXT, read_network};
 
 #[cfg(test)]

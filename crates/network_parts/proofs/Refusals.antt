@@ -10,7 +10,7 @@ use Rattle.network_parts.specs.declared.parts.ProductRow.{ProductRow}
 use Rattle.network_parts.specs.Parts.{source_row, pool_row, product_row}
 use Rattle.network_parts.specs.Faults.{IsName, IsBadAt, IsBadName, IsRepeatAt, IsDuplicateName, row_names, names_before}
 use Rattle.network_parts.specs.FirstFault.{Holds, IsFirstFault, LacksEarlier}
-use Rattle.network_parts.specs.Checks.{IsFirstOf}
+use Rattle.faults.specs.First.{IsFirstOf}
 use Rattle.network_parts.specs.declared.fault.Kind.{Kind}
 use Rattle.network_parts.specs.declared.fault.Kind.TheVariants.{Source, Pool, Product, Quality, Arc}
 use Rattle.network_parts.specs.declared.fault.NetFault.{NetFault}

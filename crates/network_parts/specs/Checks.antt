@@ -1,11 +1,10 @@
 -- What the checks of a file's rows find out, as the assembly of the network takes it.
-use Rattle.std.specs.Prelude.{◌≡◌, ℕ, ◌<◌, ◌≤◌, List, [], ◌++◌, length, map, take, get_or, Contains, Bool, IsTrue, Some}
+use Rattle.std.specs.Prelude.{◌≡◌, ℕ, ◌<◌, ◌≤◌, List, [], ◌++◌, length, map, take, get_or, Contains, Bool, IsTrue}
 use Rattle.pool_model.specs.Rows.{Rows}
 use Rattle.pool_model.specs.Naming.{source_names, pool_names, product_names, network_of}
 use Rattle.pool_model.specs.Network.{net_of}
 use Rattle.pool_model.specs.Paths.{paths_of}
-use Rattle.network_parts.specs.Faults.{IsFirst, IsRepeatAt, IsSourceInRange, IsPoolInRange, IsProductInRange, IsOrderly, no_source_row, no_pool_row, no_product_row, IsFaultless}
-use Rattle.network_parts.specs.declared.fault.NetFault.{NetFault}
+use Rattle.network_parts.specs.Faults.{IsRepeatAt, IsSourceInRange, IsPoolInRange, IsProductInRange, IsOrderly, no_source_row, no_pool_row, no_product_row, IsFaultless}
 use Rattle.network_parts.specs.declared.arcs.Ends.{Ends}
 use Rattle.network_parts.specs.declared.arcs.Arcs.{Arcs}
 use Rattle.network_parts.specs.declared.arcs.Node.TheVariants.{Source}
@@ -48,12 +47,6 @@ IsRepeatedEnds ends n = (n < length ends) × Contains (take n ends) (get_or ends
 -- the ends at a place pass this test
 abbrev pub IsMarked : (Ends → Bool) → List Ends → ℕ → Type 0
 IsMarked test ends n = (n < length ends) × IsTrue (test (get_or ends n no_ends))
-
--- the fault with the first number of which a fact holds
-pub record IsFirstOf (fault : ℕ → NetFault) (P : ℕ → Type 0) (told : NetFault) : Type 0 where
-  pub number : ℕ
-  pub named : told ≡ fault number
-  pub first : IsFirst P (Some number)
 
 -- these are the arcs of the rows by kind, and the paths
 pub record AreArcsOf (r : Rows) (arcs : Arcs) : Type 0 where

@@ -8,11 +8,6 @@ use Rattle.pool_model.specs.Paths.{paths_of}
 use Rattle.network_parts.specs.declared.fault.Kind.{Kind}
 use Rattle.network_parts.specs.declared.fault.Kind.TheVariants.{Source, Pool, Product, Quality, Arc}
 
--- the first number of which a fact holds, if there is one
-abbrev pub IsFirst : (ℕ → Type 0) → Option ℕ → Type 0
-IsFirst P None = (n : ℕ) → ¬ P n
-IsFirst P (Some n) = P n × ((m : ℕ) → m < n → ¬ P m)
-
 -- ---- lists
 
 abbrev pub row_count : Rows → Kind → ℕ

@@ -48,6 +48,31 @@ pub enum NetFault {
     Memory,
 }
 
+impl NetFault {
+    ghost use Rattle.network_parts.specs.FirstFault.{number};
+
+    /// The number of the cause, as messages tell it: 1 for the first.
+    pub fn number(&self) -> u32
+        ensures { result ≡ number self.now }
+    {
+        match self {
+            NetFault::TooMany(_) => 1,
+            NetFault::BadName(_, _) => 2,
+            NetFault::DuplicateName(_, _) => 3,
+            NetFault::UnknownName(_) => 4,
+            NetFault::ArcBackwards(_) => 5,
+            NetFault::PoolToPool(_) => 6,
+            NetFault::DuplicateArc(_) => 7,
+            NetFault::PoolWithoutInput(_) => 8,
+            NetFault::PoolWithoutOutput(_) => 9,
+            NetFault::TooManyPaths => 10,
+            NetFault::OutOfRange(_, _) => 11,
+            NetFault::LeastAboveMost(_) => 12,
+            NetFault::Memory => 13,
+        }
+    }
+}
+
 impl From<AllocError> for NetFault {
     ghost from_gives = { λ _ fault. fault ≡ Memory };
 

@@ -4,7 +4,7 @@ ghost use Rattle.std.specs.Prelude.{◌≡◌, ◌≢◌, ◌↔◌, ℕ, ◌<�
 ghost use Rattle.pool_model.specs.Naming.{number_of};
 ghost use Rattle.network_parts.specs.Names.{names_in, AddsName};
 ghost use Rattle.network_parts.specs.Faults.{IsName, IsBadAt, IsRepeatAt};
-ghost use Rattle.network_parts.specs.Checks.{IsFirstOf};
+ghost use Rattle.faults.specs.First.{IsFirstOf};
 
 use crate::fault::{Kind, NetFault};
 use crate::parts::{PoolRow, ProductRow, SourceRow};

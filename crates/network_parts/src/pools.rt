@@ -1,7 +1,7 @@
 //! Whether each pool of a network has a feed and an out.
 
 ghost use Rattle.std.specs.Prelude.{◌≡◌, ◌↔◌, ℕ, ◌<◌, OnOk, IfErr, IsTrue, All};
-ghost use Rattle.network_parts.specs.Checks.{IsFirstOf};
+ghost use Rattle.faults.specs.First.{IsFirstOf};
 
 use crate::arcs::Arc;
 use crate::fault::NetFault;

@@ -1,7 +1,7 @@
 use Rattle.std.proofs.Common.{map, List, subst, refl}
 use Rattle.network_parts.specs.Parts.{rows_of, source_row, pool_row, product_row}
 use Rattle.network_parts.specs.Faults.{IsSourceInRange, IsPoolInRange, IsProductInRange, IsOrderly, IsPoolOutAt, IsProductOutAt, IsDisorderlyAt, no_source_row, no_pool_row, no_product_row}
-use Rattle.network_parts.specs.Checks.{IsFirstOf}
+use Rattle.faults.specs.First.{IsFirstOf}
 use Rattle.network_parts.specs.declared.parts.PoolRow.{PoolRow}
 use Rattle.network_parts.specs.declared.parts.ProductRow.{ProductRow}
 use Rattle.network_parts.specs.declared.fault.Kind.TheVariants.{Pool, Product}
