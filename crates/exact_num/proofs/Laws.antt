@@ -1,20 +1,14 @@
--- Laws of fractions: when two are the same, their order, sums and products, lowest terms and the range.
+-- Laws of fractions: when two are the same, lowest terms and the range.
 use Rattle.std.proofs.Common.{◌≡◌, ℕ, zero, suc, ◌*◌, ◌^◌, ◌≤◌, ◌<◌, ◌∙◌, sym, ap, subst, refl, arith, ℤ, pos, ◌*ℤ◌, ◌<ℤ◌, unsigned_abs}
 use Rattle.std.specs.Int.{◌∣◌}
 use Rattle.std.proofs.Math.Nat.{dvd-mul_right, dvd-mul_left, mul_comm}
 use Rattle.std.proofs.lemmas.Nat.Gcd.{le_of_dvd}
 use Rattle.std.proofs.lemmas.Int.{ints, unsigned_abs-mul}
 use Rattle.integers.specs.Divisors.{IsCoprime}
-use Rattle.integers.proofs.Ring.{sorted, mul_comm_ℤ}
+use Rattle.integers.proofs.Ring.{sorted}
 use Rattle.integers.proofs.Order.{same-cancel}
 use Rattle.integers.proofs.Divides.{IsCoprime-swap, dvd-coprime}
 use Rattle.exact_num.specs.Fraction.{Fraction, IsSame, IsLowest, IsShort, LeavesRange}
-
-pub IsSame-refl : (x : Fraction) → IsSame x x
-IsSame-refl x = refl
-
-pub IsSame-sym : (x y : Fraction) → IsSame x y → IsSame y x
-IsSame-sym x y h = sym h
 
 positive : {n : ℕ} → 0 < n → pos 0 <ℤ pos n
 positive h = omega (arith, ints)
@@ -47,21 +41,6 @@ least_terms n d m e h p same =
     at_most zero d m e p h s = omega arith
     at_most (suc n) d zero e p h s = absurd (omega arith)
     at_most (suc n) d (suc m) e p h s = le_of_dvd (omega arith) h
-
--- there is one form in lowest terms
-pub lowest_unique : (x y : Fraction) → IsLowest x → IsLowest y → 0 < x.den → 0 < y.den → IsSame x y → (x.num ≡ y.num) × (x.den ≡ y.den)
-lowest_unique x y left right p q same =
-    let sizes : unsigned_abs x.num * y.den ≡ unsigned_abs y.num * x.den = by_sizes x.num y.num x.den y.den same in
-    let first = least_terms (unsigned_abs x.num) x.den (unsigned_abs y.num) y.den left q sizes in
-    let second = least_terms (unsigned_abs y.num) y.den (unsigned_abs x.num) x.den right p (sym sizes) in
-    let den : x.den ≡ y.den = omega (arith, first, second) in
-    (same-cancel (pos y.den) x.num y.num (positive q) (moved x.num y.num x.den y.den den same), den)
-  where
-    by_sizes : (m n : ℤ) (e d : ℕ) → m *ℤ pos d ≡ n *ℤ pos e → unsigned_abs m * d ≡ unsigned_abs n * e
-    by_sizes m n e d h = sym (unsigned_abs-mul m (pos d)) ∙ ap unsigned_abs h ∙ unsigned_abs-mul n (pos e)
-
-    moved : (m n : ℤ) (e d : ℕ) → e ≡ d → m *ℤ pos d ≡ n *ℤ pos e → pos d *ℤ m ≡ pos d *ℤ n
-    moved m n e d s h = mul_comm_ℤ (pos d) m ∙ h ∙ ap (λ k. n *ℤ pos k) s ∙ mul_comm_ℤ n (pos d)
 
 -- a fraction in lowest terms that is not in the range leaves it
 pub LeavesRange-lowest : (x : Fraction) → IsLowest x → (IsShort x.num → x.den < 2 ^ 127 → ⊥) → LeavesRange x

@@ -4,5 +4,3 @@ pub mod Laws
 pub mod Results
 pub mod Cancelling
 pub mod Adding
-pub mod Ordered
-pub mod Operations

@@ -1,11 +1,11 @@
 -- The answers of a call, carried from one form of a fraction to another.
-use Rattle.std.proofs.Common.{◌≡◌, ◌<◌, Result, Ok, Err, IfOk, IfErr, OnOk, IsOk, refl, subst, sym}
-use Rattle.exact_num.specs.Fraction.{Fraction, IsSame, IsInRange, IsLowest, LeavesRange}
+use Rattle.std.proofs.Common.{◌≡◌, ◌<◌, Result, Ok, Err, IfOk, IfErr, OnOk, refl, subst, sym}
+use Rattle.exact_num.specs.Fraction.{Fraction, IsSame, IsInRange, LeavesRange}
 use Rattle.exact_num.specs.Shown.{fraction_of}
 use Rattle.exact_num.specs.declared.frac.Frac.{Frac}
 use Rattle.exact_num.specs.declared.frac.FracFault.{FracFault}
 use Rattle.exact_num.specs.declared.frac.FracFault.TheVariants as faults
-use Rattle.exact_num.proofs.Laws.{IsSame-trans, LeavesRange-same, lowest_unique}
+use Rattle.exact_num.proofs.Laws.{IsSame-trans, LeavesRange-same}
 
 pub given_as : (r : Result Frac FracFault) (x z : Fraction) → IsSame x z → IfOk r (λ f. fraction_of f ≡ x) → IfOk r (λ f. IsSame (fraction_of f) z)
 given_as (Ok f) x z s h = subst (λ y. IsSame y z) (sym h) s
@@ -27,21 +27,3 @@ not_refused (Err e) x z s range P h = absurd (h.1 z range (subst (λ y. IsSame z
 pub on_ok : (r : Result Frac FracFault) (P : Type 0) → P → OnOk r P
 on_ok (Ok f) P h = h
 on_ok (Err e) P h = tt
-
--- ---- for callers
-
--- a `Frac` is in the range, and in lowest terms
-pub Frac-in_range : (f : Frac) → IsInRange (fraction_of f)
-Frac-in_range f = record { num = f.short_num; den = f.short_den; positive = f.positive }
-
-pub Frac-lowest : (f : Frac) → IsLowest (fraction_of f)
-Frac-lowest f = f.lowest
-
--- the same fractions have the same numbers
-pub Frac-unique : (f g : Frac) → IsSame (fraction_of f) (fraction_of g) → (f.num ≡ g.num) × (f.den ≡ g.den)
-Frac-unique f g h = lowest_unique (fraction_of f) (fraction_of g) f.lowest g.lowest f.positive g.positive h
-
--- an answer that is refused only where x leaves the range is given where some fraction in the range is the same as x
-pub answered : (r : Result Frac FracFault) (x y : Fraction) → IsInRange y → IsSame y x → IfErr r (λ e. (e ≡ faults.Wide) × LeavesRange x) → IsOk r
-answered (Ok f) x y range same h = refl
-answered (Err e) x y range same h = absurd (h.1 y range same)

@@ -1,5 +1,5 @@
 -- Fractions, in lowest terms or not: when two are the same, their order, sums and products.
-use Rattle.std.specs.Prelude.{◌≡◌, ℕ, ◌*◌, ◌/◌, ◌^◌, ◌<◌, ℤ, pos, negsuc, ◌+ℤ◌, ◌*ℤ◌, neg_ℤ, ◌<ℤ◌, ◌≤ℤ◌, unsigned_abs}
+use Rattle.std.specs.Prelude.{◌≡◌, ℕ, ◌*◌, ◌/◌, ◌^◌, ◌<◌, ℤ, pos, negsuc, ◌+ℤ◌, ◌*ℤ◌, neg_ℤ, unsigned_abs}
 use Rattle.std.specs.declared.cmp.Ordering.{Ordering}
 use Rattle.std.specs.Ordering.{int_cmp}
 use Rattle.std.specs.Int.{IsGcd}
@@ -13,14 +13,6 @@ pub record Fraction : Type 0 where
 -- the products crosswise are equal
 abbrev pub IsSame : Fraction → Fraction → Type 0
 IsSame x y = x.num *ℤ pos y.den ≡ y.num *ℤ pos x.den
-
--- of the products crosswise the first is less; this is the order of the numbers where the denominators are positive
-abbrev pub IsBelow : Fraction → Fraction → Type 0
-IsBelow x y = (x.num *ℤ pos y.den) <ℤ (y.num *ℤ pos x.den)
-
--- of the products crosswise the first is at most the second
-abbrev pub IsAtMost : Fraction → Fraction → Type 0
-IsAtMost x y = (x.num *ℤ pos y.den) ≤ℤ (y.num *ℤ pos x.den)
 
 -- the order of x and y: that of the products crosswise
 abbrev pub order_of : Fraction → Fraction → Ordering

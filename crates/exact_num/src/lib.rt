@@ -7,8 +7,8 @@
 //! - `compare_ratio`: the order of two ratios of any size.
 //! - `Weight`: a sum of products that is kept exactly up to 2^126.
 //!
-//! What it means that two fractions are the same, or that one is a sum or a product, is defined in `specs/Fraction.antt`;
-//! `proofs/Laws.antt` has the laws that a proof over fractions needs. Parsing and printing are left to the layers above.
+//! What it means that two fractions are the same, or that one is a sum or a product, is defined in `specs/Fraction.antt`.
+//! Parsing and printing are left to the layers above.
 #![tactic(auto)]
 
 mod frac;

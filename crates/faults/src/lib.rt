@@ -20,7 +20,9 @@ pub trait Ranked {
 
 /// Two first faults of those that hold have one rank: where ranks tell faults apart, there is one first fault.
 pub fn first_fault_law<F: Ranked>()
-    ensures { (holds : F → Bool) (one other : F) → IsFirst F.rank (λ f. IsTrue (holds f)) one → IsFirst F.rank (λ f. IsTrue (holds f)) other → F.rank one ≡ F.rank other }
+    ensures one_rank { (holds : F → Bool) (one other : F) → IsFirst F.rank (λ f. IsTrue (holds f)) one → IsFirst F.rank (λ f. IsTrue (holds f)) other → F.rank one ≡ F.rank other }
+    ensures unique { ((one other : F) → F.rank one ≡ F.rank other → one ≡ other)
+        → (holds : F → Bool) (one other : F) → IsFirst F.rank (λ f. IsTrue (holds f)) one → IsFirst F.rank (λ f. IsTrue (holds f)) other → one ≡ other }
 {}
 
 #[cfg(test)]

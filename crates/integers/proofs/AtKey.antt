@@ -118,13 +118,6 @@ int_sum_at-add key k f g n =
     out true x y = refl
     out false x y = refl
 
-pub sum_at-part : (key : ℕ → ℕ) (k : ℕ) (f : ℕ → ℕ) (i n : ℕ) → i < n → sum_at key k f i + f i ≤ sum_below f n
-sum_at-part key k f i n lt = omega (arith, sum_below-part f i n lt, sum_below-le (λ j. if key j == k then f j else 0) f i (λ j lj. smaller (key j == k) (f j)))
-  where
-    smaller : (b : Bool) (x : ℕ) → (if b then x else 0) ≤ x
-    smaller true x = omega arith
-    smaller false x = omega arith
-
 -- a loop's step
 pub int_sum_at-more_yes : (key : ℕ → ℕ) (k : ℕ) (f : ℕ → ℤ) (i : ℕ) → key i ≡ k → int_sum_at key k f (i + 1) ≡ int_sum_at key k f i +ℤ f i
 int_sum_at-more_yes key k f i e = rw add-one (ap (λ z. int_sum_at key k f i +ℤ z) (chosen (key i) k (f i) (pos 0) e))

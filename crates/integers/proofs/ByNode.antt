@@ -1,12 +1,12 @@
 -- Sums of which most terms are nothing, and sums over the arcs of one kind at their nodes.
 use Rattle.std.proofs.Common.{◌≡◌, ◌≢◌, ℕ, zero, suc, ◌+◌, ◌*◌, ◌<◌, ◌≤◌, ◌⊎◌, inl, inr, Bool, true, false, ◌==◌, if◌then◌else◌, ℤ, pos, unsigned_abs, ◌*ℤ◌, add-one, arith, refl, sym, ap, ◌∙◌}
 use Rattle.std.proofs.Math.IntN.{*ℤ-zero}
-use Rattle.std.proofs.Math.Nat.{mul-le-mul, mul-le-mul_left}
+use Rattle.std.proofs.Math.Nat.{mul-le-mul_left}
 use Rattle.integers.proofs.Ring.{additive}
-use Rattle.integers.specs.Sums.{int_sum_below, sum_below, int_sum_at, sum_at, product_below, product_but}
+use Rattle.integers.specs.Sums.{int_sum_below, sum_below, int_sum_at, sum_at, product_below}
 use Rattle.integers.proofs.ByIndex.{int_sum_below-same}
-use Rattle.integers.proofs.AtKey.{same_or_other, chosen, passed, sum_below-part, sum_by_keys, pos-sum_at}
-use Rattle.integers.proofs.AtKey.{sum_below-same, none_either, sum_at-none, sum_at-one, positive-product_below, abs-int_sum_below_to}
+use Rattle.integers.proofs.AtKey.{same_or_other, chosen, passed, sum_by_keys, pos-sum_at}
+use Rattle.integers.proofs.AtKey.{sum_below-same, none_either, sum_at-none, sum_at-one, abs-int_sum_below_to}
 
 -- ---- nothing
 pub sum_below-nothing : (f : ℕ → ℕ) (n : ℕ) → ((i : ℕ) → i < n → f i ≡ 0) → sum_below f n ≡ 0
@@ -81,10 +81,6 @@ one_kind c a f k m h =
     int_sum_below-same (λ i. c i *ℤ pos (sum_at a i f m)) (λ i. c i *ℤ int_sum_at a i (λ j. pos (f j)) m) k (λ i lt. ap (λ z. c i *ℤ z) (sym (pos-sum_at a i f m)))
     ∙ sum_by_keys c a (λ j. pos (f j)) k m h
 
--- ---- a loop's sum of sizes so far, and one more, is at most the whole
-pub sum_at-through : (key : ℕ → ℕ) (k : ℕ) (f : ℕ → ℕ) (i n : ℕ) → i < n → key i ≡ k → sum_at key k f i + f i ≤ sum_at key k f n
-sum_at-through key k f i n h e = omega (arith, sum_below-part (λ j. if key j == k then f j else 0) i n h, chosen (key i) k (f i) 0 e)
-
 pub sum_at-more_yes : (key : ℕ → ℕ) (k : ℕ) (f : ℕ → ℕ) (i : ℕ) → key i ≡ k → sum_at key k f (i + 1) ≡ sum_at key k f i + f i
 sum_at-more_yes key k f i e = rw add-one (ap (λ z. sum_at key k f i + z) (chosen (key i) k (f i) 0 e))
 
@@ -104,31 +100,6 @@ but-positive k f i h = elim (same_or_other i k) [
   | inl e ↦ omega (arith, chosen {X = ℕ} i k 1 (f i) e)
   | inr d ↦ omega (arith, passed {X = ℕ} i k 1 (f i) d)
 ]
-
-pub product_but-part : (k : ℕ) (f : ℕ → ℕ) (i n : ℕ) → ((j : ℕ) → 0 < f j) → i < n → i ≢ k → product_but k f i * f i ≤ product_but k f n
-product_but-part k f i n p h d =
-    omega (
-      arith,
-      product_below-part (λ j. if j == k then 1 else f j) i n (λ j. but-positive k f j (p j)) h,
-      ap (λ z. product_but k f i * z) (passed {X = ℕ} i k 1 (f i) d),
-    )
-
--- the product of all but one is at most the product of all
-pub product_but-le : (k : ℕ) (f : ℕ → ℕ) (n : ℕ) → ((j : ℕ) → 0 < f j) → product_but k f n ≤ product_below f n
-product_but-le k f zero p = omega arith
-product_but-le k f (suc n) p = mul-le-mul (product_but-le k f n p) (factor-le (same_or_other n k))
-  where
-    factor-le : (n ≡ k) ⊎ (n ≢ k) → (if n == k then 1 else f n) ≤ f n
-    factor-le (inl e) = omega (arith, chosen {X = ℕ} n k 1 (f n) e, p n)
-    factor-le (inr d) = omega (arith, passed {X = ℕ} n k 1 (f n) d)
-
-pub product_but-positive : (k : ℕ) (f : ℕ → ℕ) (n : ℕ) → ((j : ℕ) → 0 < f j) → 0 < product_but k f n
-product_but-positive k f n p = positive-product_below (λ j. if j == k then 1 else f j) n (λ j. but-positive k f j (p j))
-
--- past the end there is none to leave out
-pub product_but-past : (k : ℕ) (f : ℕ → ℕ) (n : ℕ) → n ≤ k → product_but k f n ≡ product_below f n
-product_but-past k f zero h = refl
-product_but-past k f (suc n) h = ap (λ z. z * (if n == k then 1 else f n)) (product_but-past k f n (omega arith)) ∙ ap (λ z. product_below f n * z) (passed {X = ℕ} n k 1 (f n) (omega arith))
 
 -- ---- the size of a sum at a key
 pub abs-int_sum_at : (key : ℕ → ℕ) (k : ℕ) (f : ℕ → ℤ) (g : ℕ → ℕ) (n : ℕ) → ((i : ℕ) → i < n → unsigned_abs (f i) ≤ g i) → unsigned_abs (int_sum_at key k f n) ≤ sum_at key k g n

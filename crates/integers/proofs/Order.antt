@@ -1,5 +1,5 @@
 -- Order on ℤ with products, least and greatest of products over an interval, absolute values.
-use Rattle.std.proofs.Common.{◌≡◌, ℕ, zero, suc, ◌+◌, ◌*◌, ◌≤◌, ◌<◌, ◌⊎◌, inl, inr, min, max, ap, ℤ, pos, negsuc, ◌+ℤ◌, ◌-ℤ◌, ◌*ℤ◌, neg_ℤ, ◌≤ℤ◌, ◌<ℤ◌, unsigned_abs, arith, refl}
+use Rattle.std.proofs.Common.{◌≡◌, ℕ, zero, suc, ◌*◌, ◌≤◌, ◌<◌, ◌⊎◌, inl, inr, min, max, ap, ℤ, pos, negsuc, ◌-ℤ◌, ◌*ℤ◌, neg_ℤ, ◌≤ℤ◌, ◌<ℤ◌, unsigned_abs, arith, refl}
 use Rattle.std.proofs.Math.Nat.{mul-le-mul, div-mul-le_self, lt-div-mul-add}
 use Rattle.std.proofs.lemmas.Int.{ints, clamps, by_lt_z, unsigned_abs-mul}
 use Rattle.std.specs.Int.{int_min, int_max, int_div_euclid}
@@ -28,9 +28,6 @@ le-mul r a b h k = omega (arith, additive, rw mul_out at (nonneg-mul r (b -ℤ a
 
 pub le-mul_neg : (r a b : ℤ) → r ≤ℤ pos 0 → a ≤ℤ b → (r *ℤ b) ≤ℤ (r *ℤ a)
 le-mul_neg r a b h k = omega (arith, additive, rw (neg-mul, mul_out) at (nonneg-mul (neg_ℤ r) (b -ℤ a) (omega (arith, additive)) (omega (arith, additive))))
-
-pub le-add : (a b c d : ℤ) → a ≤ℤ b → c ≤ℤ d → (a +ℤ c) ≤ℤ (b +ℤ d)
-le-add a b c d h k = omega (arith, additive)
 
 pub le_trans_ℤ : (a b c : ℤ) → a ≤ℤ b → b ≤ℤ c → a ≤ℤ c
 le_trans_ℤ a b c h k = omega (arith, additive)
@@ -75,18 +72,11 @@ min-le-mul_over d (negsuc n) low v high p h k =
     four d n low = simp sorted refl
 
 -- absolute values
-pub abs-add : (a b : ℤ) → unsigned_abs (a +ℤ b) ≤ unsigned_abs a + unsigned_abs b
-abs-add a b = omega (arith, ints)
-
 pub abs-min : (a b : ℤ) → unsigned_abs (int_min a b) ≤ max (unsigned_abs a) (unsigned_abs b)
 abs-min a b = omega (arith, ints, clamps)
 
 pub abs-mul-le : (a b : ℤ) (m n : ℕ) → unsigned_abs a ≤ m → unsigned_abs b ≤ n → unsigned_abs (a *ℤ b) ≤ m * n
 abs-mul-le a b m n h k = rw unsigned_abs-mul (mul-le-mul h k)
-
-pub le-abs : (a : ℤ) → a ≤ℤ pos (unsigned_abs a)
-le-abs (pos n) = omega (arith, additive)
-le-abs (negsuc n) = omega (arith, additive)
 
 -- rounded down: the floor times the divisor is at most the number
 pub floor-le : (z : ℤ) (k : ℕ) → 0 < k → (int_div_euclid z (pos k) *ℤ pos k) ≤ℤ z

@@ -1,5 +1,5 @@
 -- The first of the cheapest starting plans: one number more, and what is found at the end.
-use Rattle.std.proofs.Common.{◌≡◌, ℕ, zero, suc, ◌+◌, ◌-◌, ◌*◌, ◌<◌, ◌⊎◌, inl, inr, Bool, true, false, if◌then◌else◌}
+use Rattle.std.proofs.Common.{◌≡◌, ℕ, zero, suc, ◌+◌, ◌*◌, ◌<◌, ◌⊎◌, inl, inr, Bool, true, false, if◌then◌else◌}
 use Rattle.std.proofs.Common.{Option, Some, None, ℤ, pos, ◌-ℤ◌, ◌*ℤ◌, ◌≤ℤ◌, ◌<ℤ◌, arith, refl, sym, ap, subst, ◌∙◌}
 use Rattle.std.specs.Prelude.{int_lt, IfNone, IfSome}
 use Rattle.std.proofs.lemmas.Int.{ints}
@@ -93,9 +93,6 @@ small-better small best count (Some c) kept new = either (is_cheaper best c)
 
 pub start-zero : (n : Net) (k : ℕ) → k ≡ 0 → start_at n k ≡ zero_plan n
 start-zero n k e = ap (start_at n) e
-
-pub start-way : (n : Net) (k : ℕ) (way : Way) → 0 < k → way_at n (k - 1) ≡ shown_way n way → start_at n k ≡ simple_plan n (shown_way n way)
-start-way n k way positive is = ap (start_at n) (let e : k ≡ suc (k - 1) = omega arith in e) ∙ ap (simple_plan n) is
 
 pub in_range-way : (n : Net) (way : Way) → IsInRange n way → IsWay n (shown_way n way)
 in_range-way n (Through a) lt = path_at-way n a _ _ lt refl refl

@@ -28,3 +28,11 @@ all_below-all test (suc n) h = both (all_below test n) (test n) (all_below-all t
     both : (a b : Bool) → a ≡ true → b ≡ true → (a && b) ≡ true
     both true b e f = f
     both false b e f = e
+
+-- a test that fails somewhere below the count fails
+pub all_below-false : (test : ℕ → Bool) (n i : ℕ) → i < n → test i ≡ false → all_below test n ≡ false
+all_below-false test n i lt h = fails (all_below test n) refl
+  where
+    fails : (b : Bool) → all_below test n ≡ b → all_below test n ≡ false
+    fails true e = cc (all_below-each test n i e lt)
+    fails false e = e

@@ -1,7 +1,7 @@
 use Rattle.std.proofs.Common.{◌<◌, ℕ, List, get_or, sym, subst, ◌&&◌}
 use Rattle.pool_model.specs.Network.{net_of}
 use Rattle.pool_model.specs.Starting.{is_above, is_below}
-use Rattle.plan_core.proofs.Firsts.{all_below-false}
+use Rattle.pool_model.proofs.AllBelow.{all_below-false}
 use Rattle.plan_core.proofs.starting.suits.Goals as goal
 
 pub returns-then-not-suits_quality : goal.returns-then-not-suits_quality
