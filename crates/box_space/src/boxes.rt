@@ -1,8 +1,10 @@
 //! Boxes: the ends of each coordinate.
 
-ghost use Rattle.std.specs.Prelude.{◌≡◌, ◌<◌, ◌↔◌, length, get_or, pos, ◌+ℤ◌, ◌≤ℤ◌, ◌<ℤ◌, IfOk, IsTrue};
-ghost use Rattle.box_space.specs.Views.{AreHalves, AreEnds, IsView};
+ghost use Rattle.std.specs.Prelude.{◌≡◌, ◌<◌, ◌⊎◌, ◌↔◌, length, get_or, pos, ◌+ℤ◌, ◌≤ℤ◌, ◌<ℤ◌, IfOk, IsTrue};
 ghost use Rattle.pool_model.specs.Network.{Net};
+ghost use Rattle.pool_model.specs.Plan.{Plan};
+ghost use Rattle.row_model.specs.Boxes.{LiesIn};
+ghost use Rattle.box_space.specs.Views.{AreHalves, AreEnds, IsView, shown_box_ends};
 
 use edge_io::Memory;
 use std::alloc::Global;
@@ -62,7 +64,8 @@ pub fn can_cut(v: &BoxView, n: u32) -> bool
     i128::from(v.low_at(n)) + 2 <= i128::from(v.high_at(n))
 }
 
-/// The halves of a box that is cut at a coordinate: the left one ends at the cut, and the right one begins there.
+/// The halves of a box that is cut at a coordinate: the left one ends at the cut, and the right one begins there. Both are
+/// proper where the box is, and a plan in the box lies in one of them.
 pub fn halves(
     alloc: Global,
     b: &BoxEnds,
@@ -72,6 +75,16 @@ pub fn halves(
     requires low { coord < length b.now.low.items }
     requires high { coord < length b.now.high.items }
     requires inside { (get_or b.now.low.items coord (pos 0) <ℤ cut) × (cut <ℤ get_or b.now.high.items coord (pos 0)) }
+    ensures cut { IfOk result (λ h. AreHalves b.now h.0 h.1 coord cut) }
+    ensures proper { IfOk result (λ h. (n : Net) → AreEnds n b.now → AreEnds n h.0 × AreEnds n h.1) }
+    ensures covers { IfOk result (λ h. (n : Net) (p : Plan) → LiesIn n p (shown_box_ends b.now) → LiesIn n p (shown_box_ends h.0) ⊎ LiesIn n p (shown_box_ends h.1)) }
+{
+    cut_at(alloc, b, coord, cut)
+}
+
+fn cut_at(alloc: Global, b: &BoxEnds, coord: u32, cut: i64) -> Result<(BoxEnds, BoxEnds), Memory>
+    requires low { coord < length b.now.low.items }
+    requires high { coord < length b.now.high.items }
     ensures { IfOk result (λ h. AreHalves b.now h.0 h.1 coord cut) }
 {
     let mut left_high = Vec::from_slice(alloc, b.high.as_slice())?;

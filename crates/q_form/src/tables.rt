@@ -8,7 +8,7 @@ ghost use Rattle.row_model.specs.Catalogue.{q_families, row_in, proportions_row,
 ghost use Rattle.blend_network.specs.Limits.{shown_limit};
 ghost use Rattle.box_space.specs.Tables.{row_of, IsTable};
 
-use blend_network::{Key, LimitSide, Limit, Network};
+use blend_network::{Key, Limit, LimitSide, Network};
 use box_space::{Block, Factor, Rate, RowKind, RowTable, Terms};
 
 /// How many parts a proportion is counted in.

@@ -1,8 +1,8 @@
 //! The numbering of all rows.
 
-ghost use Rattle.std.specs.Prelude.{◌≡◌, ◌<◌, ◌≤◌};
-ghost use Rattle.pool_model.specs.Network.{net_of};
-ghost use Rattle.row_model.specs.Catalogue.{rows as rows_lem};
+ghost use Rattle.std.specs.Prelude.{◌≡◌, ◌<◌, ◌≤◌, ◌↔◌, IsTrue};
+ghost use Rattle.pool_model.specs.Network.{net_of, IsLimited};
+ghost use Rattle.row_model.specs.Catalogue as catalogue;
 ghost use Rattle.box_space.specs.Views.{IsView, shown_box, shown_kind};
 ghost use Rattle.box_space.specs.Written.{IsLineOf};
 ghost use Rattle.row_book.specs.Groups.{IsPlaced, takes, group_of, row_by};
@@ -23,16 +23,18 @@ pub(crate) enum Group {
 
 /// How many rows there are.
 pub fn rows(net: &Network) -> u32
-    ensures count { result ≡ rows_lem (net_of net.now) }
-    ensures limited { result ≤ 13424 }
+    ensures count { result ≡ catalogue.rows (net_of net.now) }
+    ensures few { result ≤ 13424 }
+    ensures limited { IsLimited (net_of net.now) }
 {
     network_rows::count(net) + (p_form::count(net) + (q_form::count(net) + pq_form::count(net)))
 }
 
 /// The group of a row, and its number there.
 fn place_of(net: &Network, id: u32) -> (Group, u32)
-    requires { id < rows_lem (net_of net.now) }
-    ensures { IsPlaced (net_of net.now) id result.0 result.1 }
+    requires { id < catalogue.rows (net_of net.now) }
+    ensures placed { IsPlaced (net_of net.now) id result.0 result.1 }
+    ensures limited { IsLimited (net_of net.now) }
 {
     let network = network_rows::count(net);
     if id < network {
@@ -51,13 +53,11 @@ fn place_of(net: &Network, id: u32) -> (Group, u32)
     (Group::Further, id - by_proportion)
 }
 
-/// Whether a form has the row of a number.
+/// Whether a form has the row of a number. It has none past the last row.
 pub fn in_form(net: &Network, form: Form, id: u32) -> bool
-    requires { id < rows_lem (net_of net.now) }
-    ensures { result ≡ takes form (group_of (net_of net.now) id) }
+    ensures { IsTrue result ↔ ((id < catalogue.rows (net_of net.now)) × IsTrue (takes form (group_of (net_of net.now) id))) }
 {
-    let (group, _) = place_of(net, id);
-    has(form, group)
+    id < rows(net) && has(form, place_of(net, id).0)
 }
 
 fn has(form: Form, group: Group) -> bool
@@ -76,19 +76,19 @@ fn has(form: Form, group: Group) -> bool
 /// costs what the row's terms cost: nothing that grows with the network besides.
 pub fn row_at(net: &Network, v: &BoxView, id: u32, row: &mut LinRow) -> RowKind
     requires view { IsView (net_of net.now) v.now }
-    requires known { id < rows_lem (net_of net.now) }
+    requires known { id < catalogue.rows (net_of net.now) }
     ensures kind { shown_kind result ≡ kind_at (net_of net.now) (shown_box v.now) id }
     ensures written { IsRow (net_of net.now) (shown_box v.now) id row.new }
 {
-    // The network's limits bound the coefficients.
     written(net, v, id, row)
 }
 
 /// Writes the row of a number, by its group.
 fn written(net: &Network, v: &BoxView, id: u32, row: &mut LinRow) -> RowKind
     requires view { IsView (net_of net.now) v.now }
-    requires known { id < rows_lem (net_of net.now) }
-    ensures { IsLineOf (net_of net.now) (row_by (net_of net.now) (shown_box v.now) id) row.new result }
+    requires known { id < catalogue.rows (net_of net.now) }
+    ensures line { IsLineOf (net_of net.now) (row_by (net_of net.now) (shown_box v.now) id) row.new result }
+    ensures limited { IsLimited (net_of net.now) }
 {
     let (group, n) = place_of(net, id);
     match group {

@@ -16,8 +16,6 @@ mod expected;
 mod fault;
 mod multiplying;
 mod network_rows;
-#[cfg(test)]
-mod networks;
 mod ordered;
 mod scratch;
 mod shown;

@@ -1,7 +1,7 @@
 //! The rows of the network, which every form has.
 
 ghost use Rattle.std.specs.Prelude.{◌≡◌, ◌<◌, ◌≤◌};
-ghost use Rattle.pool_model.specs.Network.{Net, net_of};
+ghost use Rattle.pool_model.specs.Network.{IsLimited, Net, net_of};
 ghost use Rattle.row_model.specs.Catalogue.{network_families, row_count, row_in, source_row, balance_row, pool_row, maximum_row, minimum_row};
 ghost use Rattle.box_space.specs.Tables.{row_of, IsTable};
 
@@ -12,6 +12,7 @@ use box_space::{Block, Factor, RowKind, RowTable, Terms};
 pub(crate) fn count(net: &Network) -> u32
     ensures count { result ≡ row_count (network_families (net_of net.now)) }
     ensures small { result ≤ 224 }
+    ensures limited { IsLimited (net_of net.now) }
 {
     let counts = net.sizes();
     counts.sources + (counts.pools + (counts.pools + (counts.products + counts.products)))

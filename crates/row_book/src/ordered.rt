@@ -1,7 +1,7 @@
 //! Whether a proof's row numbers and multipliers are in order.
 
 ghost use Rattle.std.specs.Prelude.{◌≡◌, ◌≢◌, ◌^◌, ◌<◌, ◌≤◌, ◌↔◌, All, length, pos, IsTrue, IfOk, IfErr};
-ghost use Rattle.pool_model.specs.Network.{net_of};
+ghost use Rattle.pool_model.specs.Network.{net_of, IsLimited};
 ghost use Rattle.row_model.specs.Catalogue as catalogue;
 ghost use Rattle.row_model.specs.Multipliers.{IsRising, IsSigned};
 ghost use Rattle.box_space.specs.Views.{shown_proof, shown_box, IsView};
@@ -22,14 +22,16 @@ pub(crate) fn check_parts(
     row: &mut LinRow,
 ) -> Result<(), ProofFault>
     requires { IsView (net_of net.now) v.now }
+    ensures limited { IsLimited (net_of net.now) }
     ensures ok { IfOk result (λ _. AreInOrder (net_of net.now) (shown_box v.now) (shown_proof proof.now)) }
     ensures few { IfOk result (λ _. length proof.now.parts.items ≤ 2 ^ 14) }
     ensures fault { IfErr result (IsFirstFault (net_of net.now) (shown_box v.now) (shown_proof proof.now)) }
 {
+    let count = rows(net);
     if !is_rising(proof) {
         return Err(ProofFault::Order);
     }
-    if !are_rows(net, proof) {
+    if !are_rows(proof, count) {
         return Err(ProofFault::UnknownRow);
     }
     if !are_signed(net, v, proof, row) {
@@ -54,12 +56,10 @@ fn is_rising(proof: &Proof) -> bool
     true
 }
 
-/// Whether each row number is that of a row.
-fn are_rows(net: &Network, proof: &Proof) -> bool
-    ensures limited { catalogue.rows (net_of net.now) ≤ 2 ^ 14 }
-    ensures known { IsTrue result ↔ All (λ q. q.row < catalogue.rows (net_of net.now)) (shown_proof proof.now).parts }
+/// Whether each row number is below a count.
+fn are_rows(proof: &Proof, count: u32) -> bool
+    ensures { IsTrue result ↔ All (λ q. q.row < count) (shown_proof proof.now).parts }
 {
-    let count = rows(net);
     for part in &proof.parts {
         if part.row >= count {
             return false;

@@ -13,12 +13,12 @@ use crate::expected::{
     FLOWS, FURTHER, HAVERLY, PATHS, PROPORTION_SIDES, QUALITY_SIDES, SMALLER_PROPORTION_SIDES,
     SMALLER_QUALITY_SIDES,
 };
-use crate::networks::{haverly, of_trials, two_pools};
 use blend_network::Network;
 use box_space::{BoxEnds, BoxView, Form, LinRow, RowKind, root_box};
 use edge_io::Memory;
 use std::alloc::{AllocError, Global};
 use std::test::Fail;
+use worked_networks::{AS_TRIALS, HAVERLY_1, TWO_POOLS, network};
 
 /// The rows of a box, a line each.
 fn rows_text(alloc: Global, net: &Network, v: &BoxView) -> Result<String, Memory>
@@ -111,25 +111,39 @@ fn narrow(b: &mut BoxEnds, coord: usize, low: i64, high: i64)
     b.high[coord] = high;
 }
 
+/// The rows in the root box, a line each.
+fn root_rows(alloc: Global, net: &Network) -> Result<String, Memory> {
+    let ends = root_box(alloc, net)?;
+    rows_text(alloc, net, &ends.view())
+}
+
+/// The rows in the smaller box.
+fn smaller_rows(alloc: Global, net: &Network) -> Result<String, Memory> {
+    let ends = box_between(alloc, net, &SMALLER)?;
+    rows_text(alloc, net, &ends.view())
+}
+
 #[test]
 fn rows_of_haverly(rt: HostRuntime) -> Result<(), Fail> {
-    let alloc = rt.alloc();
-    let net = Network::build(alloc, haverly(alloc)?)?;
-    let ends = root_box(alloc, &net)?;
-    let text = rows_text(alloc, &net, &ends.view())?;
+    let net = network(rt.alloc(), HAVERLY_1)?;
+    let text = root_rows(rt.alloc(), &net)?;
     assert_eq!(rt; text.as_str(), HAVERLY);
     Ok(())
 }
 
 #[test]
 fn rows_of_two_pools(rt: HostRuntime) -> Result<(), Fail> {
-    let alloc = rt.alloc();
-    let net = Network::build(alloc, two_pools(alloc)?)?;
-    let root = root_box(alloc, &net)?;
+    let net = network(rt.alloc(), TWO_POOLS)?;
+    let text = root_rows(rt.alloc(), &net)?;
     let parts = [FLOWS, QUALITY_SIDES, PATHS, PROPORTION_SIDES, FURTHER];
-    let text = rows_text(alloc, &net, &root.view())?;
     assert!(rt; is_made_of(text.as_str(), &parts), "{text}");
-    let ends = box_between(alloc, &net, &SMALLER)?;
+    Ok(())
+}
+
+#[test]
+fn rows_of_two_pools_in_a_smaller_box(rt: HostRuntime) -> Result<(), Fail> {
+    let net = network(rt.alloc(), TWO_POOLS)?;
+    let text = smaller_rows(rt.alloc(), &net)?;
     let parts = [
         FLOWS,
         SMALLER_QUALITY_SIDES,
@@ -137,15 +151,14 @@ fn rows_of_two_pools(rt: HostRuntime) -> Result<(), Fail> {
         SMALLER_PROPORTION_SIDES,
         FURTHER,
     ];
-    let text = rows_text(alloc, &net, &ends.view())?;
     assert!(rt; is_made_of(text.as_str(), &parts), "{text}");
     Ok(())
 }
 
-/// How many rows there are, and how many the forms P, Q and PQ have.
+/// How many rows there are, and how many the forms P, Q and PQ have: none of them has a row past the last.
 fn counts_of(net: &Network) -> [u32; 4] {
     let mut counts = [rows(net), 0, 0, 0];
-    for id in 0..rows(net) {
+    for id in 0..1000 {
         for (n, form) in [(1, Form::P), (2, Form::Q), (3, Form::Pq)] {
             if in_form(net, form, id) {
                 counts[n] = counts[n].saturating_add(1);
@@ -157,12 +170,13 @@ fn counts_of(net: &Network) -> [u32; 4] {
 
 #[test]
 fn rows_are_counted(rt: HostRuntime) -> Result<(), Fail> {
-    let alloc = rt.alloc();
-    let net = Network::build(alloc, haverly(alloc)?)?;
-    assert_eq!(rt; counts_of(&net), [45, 20, 30, 34]);
-    let net = Network::build(alloc, two_pools(alloc)?)?;
-    assert_eq!(rt; counts_of(&net), [77, 42, 39, 45]);
-    let net = Network::build(alloc, of_trials(alloc)?)?;
-    assert_eq!(rt; counts_of(&net), [743, 190, 543, 581]);
+    for (text, counts) in [
+        (HAVERLY_1, [45, 20, 30, 34]),
+        (TWO_POOLS, [77, 42, 39, 45]),
+        (AS_TRIALS, [743, 190, 543, 581]),
+    ] {
+        let net = network(rt.alloc(), text)?;
+        assert_eq!(rt; counts_of(&net), counts);
+    }
     Ok(())
 }

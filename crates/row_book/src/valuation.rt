@@ -1,12 +1,14 @@
 //! What a proof shows of a box, or its first fault.
 
-ghost use Rattle.std.specs.Prelude.{◌≡◌, IfOk, IfErr, pos, ◌<ℤ◌, ◌≤ℤ◌};
-ghost use Rattle.pool_model.specs.Network.{net_of};
+ghost use Rattle.std.specs.Prelude.{◌≡◌, IfOk, IfErr, ℤ, pos, ◌*ℤ◌, ◌<ℤ◌, ◌≤ℤ◌};
+ghost use Rattle.pool_model.specs.Network.{IsLimited, net_of};
+ghost use Rattle.pool_model.specs.Plan.{Obeys, Plan, cost_of};
+ghost use Rattle.row_model.specs.Boxes.{LiesIn};
 ghost use Rattle.row_model.specs.Multipliers as multipliers;
 ghost use Rattle.box_space.specs.Views.{shown_proof, shown_box, IsView};
 ghost use Rattle.row_book.specs.Faults.{IsFirstFault};
 ghost use Rattle.row_book.specs.Fitting.{Fits};
-ghost use Rattle.row_book.specs.Views as results;
+ghost use Rattle.row_book.specs.Views as views;
 
 use crate::fault::ProofFault;
 use crate::multiplying::number;
@@ -28,7 +30,26 @@ pub fn value(
 ) -> Result<Shown, ProofFault>
     requires view { IsView (net_of net.now) v.now }
     requires fits { Fits (net_of net.now) scratch.old }
-    ensures ok { IfOk result (λ s. multipliers.IsInOrder (net_of net.now) (shown_box v.now) (shown_proof proof.now) × (results.shown_value s ≡ multipliers.shown_by (net_of net.now) (shown_box v.now) (shown_proof proof.now))) }
+    ensures bound { (z : ℤ) → result ≡ Ok (Shown.Bound z) → (p : Plan) → Obeys (net_of net.now) p → LiesIn (net_of net.now) p (shown_box v.now) → (z *ℤ pos p.base) ≤ℤ cost_of (net_of net.now) p }
+    ensures no_plan { result ≡ Ok Shown.NoPlan → (p : Plan) → Obeys (net_of net.now) p → ¬ LiesIn (net_of net.now) p (shown_box v.now) }
+    ensures ok { IfOk result (λ s. multipliers.IsInOrder (net_of net.now) (shown_box v.now) (shown_proof proof.now) × (views.shown_value s ≡ multipliers.shown_by (net_of net.now) (shown_box v.now) (shown_proof proof.now))) }
+    ensures fault { IfErr result (IsFirstFault (net_of net.now) (shown_box v.now) (shown_proof proof.now)) }
+    ensures fits { Fits (net_of net.now) scratch.new }
+{
+    judged(net, v, proof, scratch)
+}
+
+/// The same, in the words of the model.
+fn judged(
+    net: &Network,
+    v: &BoxView,
+    proof: &Proof,
+    scratch: &mut Scratch,
+) -> Result<Shown, ProofFault>
+    requires view { IsView (net_of net.now) v.now }
+    requires fits { Fits (net_of net.now) scratch.old }
+    ensures limited { IsLimited (net_of net.now) }
+    ensures ok { IfOk result (λ s. multipliers.IsInOrder (net_of net.now) (shown_box v.now) (shown_proof proof.now) × (views.shown_value s ≡ multipliers.shown_by (net_of net.now) (shown_box v.now) (shown_proof proof.now))) }
     ensures fault { IfErr result (IsFirstFault (net_of net.now) (shown_box v.now) (shown_proof proof.now)) }
     ensures fits { Fits (net_of net.now) scratch.new }
 {
@@ -40,7 +61,7 @@ pub fn value(
 
 /// What a number over a scale shows; ShowsNothing, exactly where the scale is 0 and the number is at most 0.
 fn shown_by(scale: u64, number: i128) -> Result<Shown, ProofFault>
-    ensures shown { IfOk result (λ s. results.shown_value s ≡ results.shown_at scale number) }
+    ensures shown { IfOk result (λ s. views.shown_value s ≡ views.shown_at scale number) }
     ensures above { IfOk result (λ _. scale ≡ 0 → pos 0 <ℤ number) }
     ensures fault { IfErr result (λ f. f ≡ ProofFault.ShowsNothing) }
     ensures nothing { IfErr result (λ _. (scale ≡ 0) × (number ≤ℤ pos 0)) }

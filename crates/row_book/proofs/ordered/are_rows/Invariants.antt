@@ -1,7 +1,5 @@
 use Rattle.std.proofs.Common.{ℕ, ◌<◌, get_or, pos}
-use Rattle.pool_model.specs.Network.{net_of}
-use Rattle.row_model.specs.Catalogue as catalogue
 use Rattle.row_book.proofs.ordered.are_rows.Given as goal
 
 abbrev pub invariant-loop-part : goal.invariant-loop-part
-invariant-loop-part l = (k : ℕ) → k < l.part-index → (get_or l.proof.parts.items k record { row = 0; mult = pos 0 }).row < catalogue.rows (net_of l.net)
+invariant-loop-part l = (k : ℕ) → k < l.part-index → (get_or l.proof.parts.items k record { row = 0; mult = pos 0 }).row < l.count
