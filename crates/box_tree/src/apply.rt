@@ -5,7 +5,7 @@ ghost use Rattle.std.specs.Option.{ForSome};
 ghost use Rattle.pool_model.specs.Network.{net_of};
 ghost use Rattle.row_model.specs.Trees.{is_cut};
 ghost use Rattle.row_model.specs.Entries.{after, improve as improve_lem, root_proof, IsEntryInOrder};
-ghost use Rattle.plan_core.specs.Shown.{written_of};
+ghost use Rattle.plan_core.specs.Views.{shown_plan};
 ghost use Rattle.box_space.specs.Views.{shown_proof};
 ghost use Rattle.row_book.specs.Fitting.{Fits};
 ghost use Rattle.box_tree.specs.EntryFaults.{IsFirstFault};
@@ -46,8 +46,8 @@ impl Tree {
     /// Takes a plan that is cheaper than the best so far.
     fn improve(&mut self, net: &Network, plan: WrittenPlan) -> Result<(), EntryFault>
         requires { IsOf (net_of net.now) self.old }
-        ensures taken { IfOk result (λ _. IsTaken (net_of net.now) (improve_lem (written_of plan)) self.old.kept self.new.kept) }
-        ensures fault { IfErr result (λ f. f ≢ EntryFault.Memory → IsFirstFault (net_of net.now) (searched_of self.old.kept) (improve_lem (written_of plan)) f) }
+        ensures taken { IfOk result (λ _. IsTaken (net_of net.now) (improve_lem (shown_plan plan)) self.old.kept self.new.kept) }
+        ensures fault { IfErr result (λ f. f ≢ EntryFault.Memory → IsFirstFault (net_of net.now) (searched_of self.old.kept) (improve_lem (shown_plan plan)) f) }
         ensures unchanged { IfErr result (λ _. self.new.kept ≡ self.old.kept) }
         ensures scratch { self.new.scratch ≡ self.old.scratch }
     {
@@ -61,7 +61,7 @@ impl Tree {
 
     /// Keeps a plan and its cost as the best.
     fn set_best(&mut self, plan: WrittenPlan, cost: Cost)
-        ensures kept { self.new.kept ≡ improved self.old.kept (written_of plan) cost }
+        ensures kept { self.new.kept ≡ improved self.old.kept (shown_plan plan) cost }
         ensures scratch { self.new.scratch ≡ self.old.scratch }
     {
         self.best = Some(Best { plan, cost });

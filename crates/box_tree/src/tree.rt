@@ -2,7 +2,7 @@
 
 ghost use Rattle.std.specs.Prelude.{◌≡◌, ◌<◌, ℕ, map, length, get_or, Some, None, option_map, IfOk, MatchOption};
 ghost use Rattle.pool_model.specs.Network.{Net, net_of};
-ghost use Rattle.plan_core.specs.Shown.{written_of};
+ghost use Rattle.plan_core.specs.Views.{shown_plan};
 ghost use Rattle.row_model.specs.Trees as trees;
 ghost use Rattle.row_model.specs.Entries as entries;
 ghost use Rattle.box_space.specs.Views.{AreEndsOf, shown_proof, shown_split};
@@ -38,7 +38,7 @@ pub struct Tree {
 
 impl Model for Tree {
     ghost use Rattle.std.specs.Prelude.{map, length, option_map};
-    ghost use Rattle.plan_core.specs.Shown.{written_of};
+    ghost use Rattle.plan_core.specs.Views.{shown_plan};
     ghost use Rattle.box_space.specs.Views.{shown_proof};
     ghost use Rattle.box_tree.specs.Kept.{Held, AreSized};
 
@@ -49,7 +49,7 @@ impl Model for Tree {
         splits = t.splits;
         proofs = map (option_map shown_proof) t.proofs.items;
         bounds = t.bounds.items;
-        best = option_map (λ b. written_of b.plan) t.best;
+        best = option_map (λ b. shown_plan b.plan) t.best;
         cost = option_map (λ b. b.cost) t.best;
       };
       scratch = t.scratch;
@@ -75,7 +75,7 @@ impl Tree {
 
     /// The cheapest plan so far.
     pub fn best_plan(&self) -> Option<&WrittenPlan>
-        ensures { MatchOption result (self.now.kept.best ≡ None) (λ p. self.now.kept.best ≡ Some (written_of p.now)) }
+        ensures { MatchOption result (self.now.kept.best ≡ None) (λ p. self.now.kept.best ≡ Some (shown_plan p.now)) }
     {
         match &self.best {
             None => None,
