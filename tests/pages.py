@@ -1,18 +1,22 @@
 #!/usr/bin/env python3
 """Whether the pages are true where a script can tell: `pages.py`
 
-Each link and each path that README.md, docs/ and examples/README.md name is there; each crate stands in the table of
-docs/ARCHITECTURE.md; and each command of theirs that begins with ./pool or tools/ runs as written,
-in a folder where the repository's own files are linked, with the status that stands behind it as `# ends with N`, else 0.
+Of README.md, docs/ and examples/README.md: each link and each path that they name is there; each certificate that they
+show is one of examples/, and each network that they show is one; docs/ARCHITECTURE.md has a row for each crate; and each
+command that begins with ./pool or tools/ in a line of its own runs as written, in a folder where the repository's own
+files are linked, with the status that stands behind it as `# ends with N`, else 0.
 """
 
 import re
 import subprocess
 import sys
 import tempfile
+from importlib.machinery import SourceFileLoader
 from pathlib import Path
 
+sys.dont_write_bytecode = True
 TOP = Path(__file__).resolve().parent.parent
+checker = SourceFileLoader("second_checker", str(TOP / "tools" / "second_checker.py")).load_module()
 PAGES = [TOP / "README.md", TOP / "examples" / "README.md", *sorted((TOP / "docs").glob("*.md"))]
 LINK = re.compile(r"\]\(([^)\s]+)\)")
 PATH = re.compile(r"(?<![\w./*-])((?:docs|examples|tests|tools|crates|\.ci)/[\w./-]*[\w/])(?![\w*])")
@@ -38,6 +42,19 @@ def missing_paths(page):
     for path in sorted(set(PATH.findall(page.read_text()))):
         if not (TOP / path).exists():
             yield f"there is no {path}"
+
+
+def shown_files(page):
+    """Certificates that a page shows and that are no example, and networks that are none."""
+    examples = {cert.read_text() for cert in (TOP / "examples").glob("*.cert")}
+    for block in re.findall(r"(?ms)^```\w*\n(.*?)^```$", page.read_text()):
+        if block.startswith("poolcert") and block not in examples:
+            yield "a certificate is none of the examples"
+        if block.startswith("{"):
+            try:
+                checker.judge_rows(checker.walk(checker.parse_json(block.encode())))
+            except checker.Refused as cause:
+                yield f"a network is refused: {cause}"
 
 
 def crates_left_out(page):
@@ -68,7 +85,7 @@ def failed_commands(page):
 def main():
     found, tried = [], 0
     for page in PAGES:
-        judges = [dead_links, missing_paths, failed_commands]
+        judges = [dead_links, missing_paths, shown_files, failed_commands]
         if page.name == "ARCHITECTURE.md":
             judges.append(crates_left_out)
         tried += len(list(commands(page)))
