@@ -2,7 +2,8 @@
 """Whether the pages are true where a script can tell: `pages.py`
 
 Of README.md, docs/ and examples/README.md: each link and each path that they name is there; each certificate that they
-show is one of examples/, and each network that they show is one; docs/ARCHITECTURE.md has a row for each crate; and each
+show is one of examples/, each network that they show is one, and each line on a certificate is that of the second
+checker; docs/ARCHITECTURE.md has a row for each crate; and each
 command that begins with ./pool or tools/ in a line of its own runs as written, in a folder where the repository's own
 files are linked, with the status that stands behind it as `# ends with N`, else 0.
 """
@@ -57,6 +58,14 @@ def shown_files(page):
                 yield f"a network is refused: {cause}"
 
 
+def other_lines(page):
+    """Rows of a table of a network, a certificate and a line, where the second checker says another line."""
+    for net, cert, line in re.findall(r"(?m)^\| `(\S+\.json)` \| `(\S+\.cert)` \| `(.+)` \|$", page.read_text()):
+        said = checker.run([str(page.parent / net), str(page.parent / cert)])[1]
+        if said != line:
+            yield f"of {cert} for {net} it is said: {said}"
+
+
 def crates_left_out(page):
     """Crates that the tables of a page lack."""
     crates = {path.name for path in (TOP / "crates").iterdir() if (path / "src").is_dir()}
@@ -85,7 +94,7 @@ def failed_commands(page):
 def main():
     found, tried = [], 0
     for page in PAGES:
-        judges = [dead_links, missing_paths, shown_files, failed_commands]
+        judges = [dead_links, missing_paths, shown_files, other_lines, failed_commands]
         if page.name == "ARCHITECTURE.md":
             judges.append(crates_left_out)
         tried += len(list(commands(page)))

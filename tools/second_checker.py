@@ -1,9 +1,8 @@
 #!/usr/bin/env python3
 """A second checker of certificates for the pooling problem: `second_checker.py NET CERT` prints the line that
 `pool check NET CERT` prints, and ends with its status. It was written from docs/FORMATS.md alone, without a look at the
-program. It computes in whole numbers only. Its parts follow that page, and single letters are those of its formulas."""
+program, in whole numbers and plain Python 3.9. Its parts follow that page; single letters are those of its formulas."""
 import collections, io, itertools, json, os, re, sys, types
-
 G, UNIT, NETWORK_BYTES, CERTIFICATE_BYTES = 1_048_576, 1_000_000, 4_194_304, 1_073_741_824
 U32, U64, I64, I128 = (0, 2**32 - 1), (0, 2**64 - 1), (-2**63, 2**63 - 1), (-2**127, 2**127 - 1)
 Number = collections.namedtuple("Number", "text")           # a JSON number as it is written
@@ -33,22 +32,22 @@ def parse_json(data):
     except (ValueError, RecursionError): raise Refused(2)   # ValueError: of decode, of json, and of int("NaN")
 # THE NETWORK FILE: the walk, in the order of the page. Quantities become millionths.
 def typed(value, kind):
-    refuse(not isinstance(value, kind), 3)
+    refuse(not isinstance(value, kind), 3)                                      # the kind of JSON value
     return value
 def members(value, needed, optional=()):
-    refuse(any(name not in needed and name not in optional for name in typed(value, dict)), 4)
-    refuse(any(name not in value for name in needed), 5)
+    refuse(any(name not in needed and name not in optional for name in typed(value, dict)), 4)  # one too many
+    refuse(any(name not in value for name in needed), 5)                        # one is absent
     return value
 def quantity(value):
     if isinstance(typed(value, (Number, str)), Number):
         refuse(not re.fullmatch("(?!-0)-?[0-9]{1,20}", value.text) or not I64[0] <= int(value.text) <= U64[1], 7)
         return int(value.text) * UNIT
     parts = re.fullmatch(r"(-?[0-9]{1,15})(?:\.([0-9]{1,6}))?", value)
-    refuse(not parts, 8)
+    refuse(not parts, 8)                                                        # the form of a text
     return int(parts[1] + (parts[2] or "").ljust(6, "0"))
 def walk(value):
     top = members(value, ["version", "sources", "products", "arcs"], ["title", "qualities", "pools"])
-    refuse(typed(top["version"], Number).text != "1", 6)
+    refuse(typed(top["version"], Number).text != "1", 6)                        # the version
     typed(top.get("title", ""), str)
     qualities = [typed(name, str) for name in typed(top.get("qualities", []), list)]
     place = {name: k for k, name in enumerate(qualities)}
@@ -67,30 +66,29 @@ def walk(value):
     refuse(any(len(arc) != 2 for arc in arcs), 3)
     return types.SimpleNamespace(qualities=qualities, sources=sources, pools=pools, products=products, arcs=arcs)
 # THE NETWORK FILE: its rows, judged and numbered.
-def outside(low, high, *numbers):
-    return any(n is not None and not low * UNIT <= n <= high * UNIT for n in itertools.chain(*numbers))
+def outside(low, high, *lists): return not all(low * UNIT <= n <= high * UNIT for n in itertools.chain(*lists))
 def judge_rows(net):
     sources, pools, products, arcs, qualities = net.sources, net.pools, net.products, net.arcs, net.qualities
     refuse(len(sources) > 64 or len(pools) > 16 or len(products) > 64 or len(qualities) > 8 or len(arcs) > 256, "9 1")
     names = [node.name for node in sources + pools + products]
-    refuse(not all(re.fullmatch("[ -~]{1,40}", name) for name in names + qualities), "9 2")
-    refuse(len(set(names)) < len(names) or len(set(qualities)) < len(qualities), "9 3")
+    refuse(not all(re.fullmatch("[ -~]{1,40}", name) for name in names + qualities), "9 2")  # 1 to 40 signs
+    refuse(len(set(names)) < len(names) or len(set(qualities)) < len(qualities), "9 3")                     # unique
     source, pool, product = ({node.name: i for i, node in enumerate(nodes)} for nodes in (sources, pools, products))
-    refuse(any(end not in names for arc in arcs for end in arc), "9 4")
-    refuse(any(start in product or end in source for start, end in arcs), "9 5")
-    refuse(any(start in pool and end in pool for start, end in arcs), "9 6")
-    refuse(len(set(arcs)) < len(arcs), "9 7")
+    refuse(any(end not in names for arc in arcs for end in arc), "9 4")                   # every end is a node
+    refuse(any(start in product or end in source for start, end in arcs), "9 5")          # ways that no arc goes
+    refuse(any(start in pool and end in pool for start, end in arcs), "9 6")              # from pool to pool
+    refuse(len(set(arcs)) < len(arcs), "9 7")                                             # an arc twice
     net.feeds = [(source[start], pool[end]) for start, end in arcs if end in pool]
     net.outs = [(pool[start], product[end]) for start, end in arcs if start in pool]
     net.directs = [(source[start], product[end]) for start, end in arcs if start in source and end in product]
     net.paths = [(e, o) for l in range(len(pools)) for e, (_, end) in enumerate(net.feeds) if end == l
                  for o, (start, _) in enumerate(net.outs) if start == l]
-    refuse(len({l for _, l in net.feeds}) < len(pools), "9 8")
-    refuse(len({l for l, _ in net.outs}) < len(pools), "9 9")
-    refuse(len(net.paths) > 512, "9 10")
+    refuse(len({l for _, l in net.feeds}) < len(pools), "9 8")                            # a pool that nothing enters
+    refuse(len({l for l, _ in net.outs}) < len(pools), "9 9")                             # a pool that nothing leaves
+    refuse(len(net.paths) > 512, "9 10")                                                  # too many paths
     refuse(outside(-1_000_000, 1_000_000, [s.cost for s in sources], [p.price for p in products])
            or outside(0, 1_000_000, [p.max for p in products], [p.min for p in products])
-           or outside(0, 100_000_000, [node.max for node in sources + pools])
+           or outside(0, 100_000_000, [node.max or 0 for node in sources + pools])      # None where absent
            or outside(-100_000, 100_000, *[s.quality.values() for s in sources],
                       *[limits.values() for p in products for limits in (p.least, p.most)]), "9 11")
     refuse(any(p.min > p.max or any(p.least[k] > p.most.get(k, p.least[k]) for k in p.least) for p in products), "9 12")
@@ -110,7 +108,7 @@ def read_certificate(data):
         line, ranges = stream.readline(), itertools.chain(ranges, itertools.cycle(ranges[-2:]))
         try: numbers = [int(field[:41]) for field in line[len(words):].split()]     # 41 bytes are too many
         except ValueError: numbers = []
-        refuse_text(line != words + b"".join(b" %d" % number for number in numbers) + b"\n")    # the one way to write it
+        refuse_text(line != words + b"".join(b" %d" % number for number in numbers) + b"\n")     # their one writing
         if words == b"proof": count = 3 + 2 * sum(numbers[2:3])     # the third number tells how many pairs follow
         refuse_text(len(numbers) != count or not all(low <= n <= high for n, (low, high) in zip(numbers, ranges)))
         return numbers
@@ -131,21 +129,21 @@ def read_certificate(data):
     taken += 1                                              # the rest, which must be empty
     refuse_text(stream.read(1))
     return cert
-# THE WRITTEN PLAN: the rules in order, then its cost and its base.
-def pick(values, pairs, side, number):                      # the values of those pairs with this number on this side
-    return [value for value, pair in zip(values, pairs) if pair[side] == number]
+
+# THE WRITTEN PLAN: rules, cost, base. `pick` takes the values of those pairs of numbers that have a number on a side.
+def pick(values, pairs, side, number): return [value for value, pair in zip(values, pairs) if pair[side] == number]
 def plan_cost(net, plan):
     R, d, r, y, z, feeds, outs, directs = plan.R, plan.d, plan.r, plan.y, plan.z, net.feeds, net.outs, net.directs
-    refuse(not 1 <= R <= G or not 1 <= d <= 65_536, "plan 1")
-    refuse(any(sum(pick(r, feeds, 1, l)) != R for l in range(len(net.pools))), "plan 2")
+    refuse(not 1 <= R <= G or not 1 <= d <= 65_536, "plan 1")                             # the bases
+    refuse(any(sum(pick(r, feeds, 1, l)) != R for l in range(len(net.pools))), "plan 2")  # weights sum to R
     T = [sum(pick(y, outs, 0, l)) for l in range(len(net.pools))]
     x = [weight * T[l] for weight, (_, l) in zip(r, feeds)]
     drawn = [sum(pick(x, feeds, 0, s)) + R * sum(pick(z, directs, 0, s)) for s in range(len(net.sources))]
     taken = [sum(pick(y, outs, 1, j)) + sum(pick(z, directs, 1, j)) for j in range(len(net.products))]
-    refuse(any(flow > d * R * source.max for flow, source in zip(drawn, net.sources)), "plan 3")
-    refuse(any(flow > d * pool.max for flow, pool in zip(T, net.pools)), "plan 4")
-    refuse(any(flow > d * product.max for flow, product in zip(taken, net.products)), "plan 5")
-    refuse(any(flow < d * product.min for flow, product in zip(taken, net.products)), "plan 6")
+    refuse(any(flow > d * R * source.max for flow, source in zip(drawn, net.sources)), "plan 3")    # source
+    refuse(any(flow > d * pool.max for flow, pool in zip(T, net.pools)), "plan 4")                  # pool
+    refuse(any(flow > d * product.max for flow, product in zip(taken, net.products)), "plan 5")     # maximum
+    refuse(any(flow < d * product.min for flow, product in zip(taken, net.products)), "plan 6")     # minimum
     for sign, j, k, limit in net.limits:                    # rule 7 for all mosts, then rule 8 for all leasts
         q = [source.quality[k] for source in net.sources]
         M = [sum(weight * q[s] for weight, (s, end) in zip(r, feeds) if end == l) for l in range(len(net.pools))]
@@ -216,31 +214,33 @@ def grow_tree(net, splits):                                 # low and high ends 
     for t, (leaf, coord, cut) in enumerate(splits):
         refuse(t > 19_999 or leaf > 2 * t or leaf in cut_nodes or coord >= net.coordinates, f"split {t}")
         low, high = lows[leaf], highs[leaf]
-        refuse(not low[coord] < cut < high[coord], f"split {t}")
+        refuse(not low[coord] < cut < high[coord], f"split {t}")                                    # cuts the box
         lows += [low, low[:coord] + [cut] + low[coord + 1:]]
         highs += [high[:coord] + [cut] + high[coord + 1:], high]
         cut_nodes.add(leaf)
     return lows, highs, cut_nodes
 def proof_number(net, proof, low, high):
     node, scale, rows, multipliers = proof[0], proof[1], proof[3::2], proof[4::2]
-    refuse(any(a >= b for a, b in zip(rows, rows[1:])), f"proof {node} 1")
-    refuse(any(row >= len(net.rows) for row in rows), f"proof {node} 2")
-    refuse(any(m < 0 and net.rows[row][0] for row, m in zip(rows, multipliers)), f"proof {node} 3")
-    refuse(0 in multipliers, f"proof {node} 4")
-    rest = collections.Counter({variable: scale * cost for variable, cost in net.costs.items()})
-    size = collections.Counter({variable: scale * abs(cost) for variable, cost in net.costs.items()})
+    refuse(any(a >= b for a, b in zip(rows, rows[1:])), f"proof {node} 1")                          # rows rise strictly
+    refuse(any(row >= len(net.rows) for row in rows), f"proof {node} 2")                            # rows exist
+    refuse(any(m < 0 and net.rows[row][0] for row, m in zip(rows, multipliers)), f"proof {node} 3")  # at least
+    refuse(0 in multipliers, f"proof {node} 4")                                                     # none is 0
+    rest = collections.defaultdict(int, {variable: scale * cost for variable, cost in net.costs.items()})
+    size = collections.defaultdict(int, {variable: scale * abs(cost) for variable, cost in net.costs.items()})
     number = weight = 0
     for row, m in zip(rows, multipliers):
         b, coefficients = row_in_box(*net.rows[row][1:], low, high)
-        number, weight = number - m * b, weight + abs(m * b)
+        number -= m * b
+        weight += abs(m * b)
         for variable, a in coefficients.items():
-            rest[variable], size[variable] = rest[variable] - m * a, size[variable] + abs(m * a)
+            rest[variable] -= m * a
+            size[variable] += abs(m * a)
     for variable in size:                                   # all other variables count 0 in both sums
         lo, hi = ends(variable, low, high)
         number += min(rest[variable] * lo, rest[variable] * hi)
         weight += size[variable] * max(abs(lo), abs(hi))
-    refuse(weight > 2**126, f"proof {node} 5")
-    refuse(scale == 0 and number <= 0, f"proof {node} 6")
+    refuse(weight > 2**126, f"proof {node} 5")                                                      # too wide
+    refuse(scale == 0 and number <= 0, f"proof {node} 6")                                           # shows nothing
     return number
 def reach_bound(net):
     margins = [(j, net.products[j].price - net.sources[s].cost)
@@ -272,8 +272,9 @@ def check(net, data):
     refuse(cert.kind == "gap" and cert.gap != cost[0] - bound * cost[1], "gap")
     if cert.kind == "gap": return f"accepted gap cost {cost[0]} base {cost[1]} bound {bound} gap {cert.gap}"
     return "accepted none" if cert.kind == "none" else f"accepted bound {bound}"
-def read_file(name, most):
-    with open(name, "rb") as file: return file.read(most + 1)       # a byte more shows that it is too long
+def read_file(name, most):                                  # by pieces; of a file that is too long one piece too many
+    with open(name, "rb") as file:
+        return b"".join(itertools.islice(iter(lambda: file.read(2**20), b""), most // 2**20 + 1))
 def run(words):                                             # the status, and the line to write
     if len(words) != 2 or any(word[:1] in ("", "-") for word in words):
         return 2, "pool: usage: solve NET, check NET CERT, report NET CERT, formulate NET, make N or trial N"
