@@ -39,7 +39,8 @@ each-fault r n i front a l total lt e h =
     sym h ∙ one
 
 -- an item of a list stops
-pub each-stops : {X : Type 0} (r : ℕ → At → Result (X × At) ℕ) (n i : ℕ) (front : List X) (a : At) (e : Stop) (broken : Bool) (total : Result (List X × At) ℕ) → i < n → Stops e broken (r (n - (i + 1)) a)
+pub each-stops : {X : Type 0} (r : ℕ → At → Result (X × At) ℕ) (n i : ℕ) (front : List X) (a : At) (e : Stop) (broken : Bool)
+    (total : Result (List X × At) ℕ) → i < n → Stops e broken (r (n - (i + 1)) a)
     → with_front front (each_at r (n - i) a) ≡ total → Stops e broken total
 each-stops r n i front a (Text f) broken total lt h k = each-fault r n i front a f.line total lt h k
 each-stops r n i front a Source broken total lt h k = h
@@ -53,7 +54,8 @@ each-end {X} r n i front a total le h =
     sym h ∙ one
 
 -- one more item, as the format shows it
-pub each-push : {X Y : Type 0} (view : X → Y) (r : ℕ → At → Result (Y × At) ℕ) (n i : ℕ) (xs ys : List X) (a b : At) (x : X) (total : Result (List Y × At) ℕ) → ys ≡ xs ++ x ∷ [] → i < n → r (n - (i + 1)) a ≡ Ok (view x, b)
+pub each-push : {X Y : Type 0} (view : X → Y) (r : ℕ → At → Result (Y × At) ℕ) (n i : ℕ) (xs ys : List X) (a b : At) (x : X)
+    (total : Result (List Y × At) ℕ) → ys ≡ xs ++ x ∷ [] → i < n → r (n - (i + 1)) a ≡ Ok (view x, b)
     → with_front (map view xs) (each_at r (n - i) a) ≡ total → with_front (map view ys) (each_at r (n - (i + 1)) b) ≡ total
 each-push {X} {Y} view r n i xs ys a b x total more lt e h =
     let items : map view ys ≡ map view xs ++ view x ∷ [] = ap (map view) more ∙ map-append view xs (x ∷ []) in

@@ -93,7 +93,12 @@ first_faults X Z I s K t front a n goes_on fixes f =
       bad = f.bad;
       parts = f.parts;
       number = f.number;
-      begins = (z.0, more ++ t x z.0, subst (λ (y : X). I y × K y z.0) (sym e) (f.begins.2, z.1), subst (λ (y : X). s y ++ t y z.0 ≡ f.good ++ (more ++ t x z.0)) (sym e) (ap (λ (w : List ℕ). w ++ t x z.0) f.begins.3 ∙ append_assoc f.good more (t x z.0)));
+      begins = (
+        z.0,
+        more ++ t x z.0,
+        subst (λ (y : X). I y × K y z.0) (sym e) (f.begins.2, z.1),
+        subst (λ (y : X). s y ++ t y z.0 ≡ f.good ++ (more ++ t x z.0)) (sym e) (ap (λ (w : List ℕ). w ++ t x z.0) f.begins.3 ∙ append_assoc f.good more (t x z.0)),
+      );
       none = λ z tail other h same e. f.none (front z) (t (front z) z ++ tail) other h.0 same (sym (append_assoc (s (front z)) (t (front z) z) tail) ∙ e);
     }
 
@@ -109,9 +114,15 @@ second_faults X Z I s r K t front a b x n reads fixes f g =
       bad = g.bad;
       parts = f.parts ∙ ap (λ (w : List ℕ). s x ++ w) g.parts ∙ sym (append_assoc (s x) g.good g.bad);
       number = omega (arith, f.line, g.number, line_feeds-append (s x) g.good);
-      begins = (z, more, subst (λ (y : X). I y × K y z) (sym e) (f.is, g.begins.2), subst (λ (y : X). s y ++ t y z ≡ (s x ++ g.good) ++ more) (sym e) (ap (λ (w : List ℕ). s x ++ w) g.begins.3 ∙ sym (append_assoc (s x) g.good more)));
+      begins = (
+        z,
+        more,
+        subst (λ (y : X). I y × K y z) (sym e) (f.is, g.begins.2),
+        subst (λ (y : X). s y ++ t y z ≡ (s x ++ g.good) ++ more) (sym e) (ap (λ (w : List ℕ). s x ++ w) g.begins.3 ∙ sym (append_assoc (s x) g.good more)),
+      );
       none = λ z tail other h same e.
-          let u = one_spelling X I s r reads (front z) x (t (front z) z ++ tail) (g.good ++ other) h.0 f.is (sym (append_assoc (s (front z)) (t (front z) z) tail) ∙ e ∙ append_assoc (s x) g.good other) in
+          let u = one_spelling X I s r reads (front z) x (t (front z) z ++ tail) (g.good ++ other) h.0 f.is
+          (sym (append_assoc (s (front z)) (t (front z) z) tail) ∙ e ∙ append_assoc (s x) g.good other) in
           g.none z tail other (subst (λ (y : X). K y z) u.0 h.1) same (subst (λ (y : X). t y z ++ tail ≡ g.good ++ other) u.0 u.1);
     }
 
@@ -130,7 +141,9 @@ bind_reads X Z I s r K t q front one two fixes = record {
       let x = front z in
       let b : At = record { line = a.line + line_feeds (s x); rest = t x z ++ c.rest } in
       let f : r a ≡ Ok (x, b) = one.again a b x (record { is = h.is.0; parts = h.parts ∙ append_assoc (s x) (t x z) c.rest; line = refl }) in
-      let g : q x b ≡ Ok (z, c) = (two x h.is.0).again b c z (record { is = h.is.1; parts = refl; line = h.line ∙ ap (λ n. a.line + n) (line_feeds-append (s x) (t x z)) ∙ sym (add_assoc a.line (line_feeds (s x)) (line_feeds (t x z))) }) in
+      let g : q x b ≡ Ok (z, c) =
+      (two x h.is.0).again b c z
+      (record { is = h.is.1; parts = refl; line = h.line ∙ ap (λ n. a.line + n) (line_feeds-append (s x) (t x z)) ∙ sym (add_assoc a.line (line_feeds (s x)) (line_feeds (t x z))) }) in
       rw f g;
   faults = λ a n e. elim (bind_err (r a) (λ p. q p.0 p.1) n e) [
     | inl m ↦ first_faults X Z I s K t front a n (λ x i. (two x i).some) fixes (one.faults a n m)
@@ -148,7 +161,8 @@ at_same a b e f = ap (λ (n : ℕ). at_of n a.rest) e ∙ ap (λ (r : List ℕ).
 -- the end of a chain: nothing more is read
 pub done_reads : (X : Type 0) (x : X) → Reads X (λ z. z ≡ x) (λ _. []) (λ a. Ok (x, a))
 done_reads X x = record {
-  takes = λ a z b e. let same = ok_is (x, a) (z, b) e in record { is = sym (ap (λ (p : X × At). p.0) same); parts = ap (λ (p : X × At). p.1.rest) same; line = sym (ap (λ (p : X × At). p.1.line) same) ∙ sym (add-zero a.line) };
+  takes = λ a z b e. let same = ok_is (x, a) (z, b) e in
+      record { is = sym (ap (λ (p : X × At). p.0) same); parts = ap (λ (p : X × At). p.1.rest) same; line = sym (ap (λ (p : X × At). p.1.line) same) ∙ sym (add-zero a.line) };
   again = λ a b z h. let at : a ≡ b = at_same a b (omega (arith, h.line)) h.parts in let is = h.is in cc;
   faults = λ a n e. absurd cc;
   some = (x, refl);
@@ -158,8 +172,20 @@ done_reads X x = record {
 pub reworded : (X : Type 0) (I J : X → Type 0) (s t : X → List ℕ) (r : At → Result (X × At) ℕ)
     → Reads X I s r → ((x : X) → I x → J x) → ((x : X) → J x → I x) → ((x : X) → J x → s x ≡ t x) → Reads X J t r
 reworded X I J s t r reads to from same = record {
-  takes = λ a x b e. let h = reads.takes a x b e in record { is = to x h.is; parts = subst (λ (w : List ℕ). a.rest ≡ w ++ b.rest) (same x (to x h.is)) h.parts; line = subst (λ (w : List ℕ). b.line ≡ a.line + line_feeds w) (same x (to x h.is)) h.line };
-  again = λ a b x h. reads.again a b x (record { is = from x h.is; parts = subst (λ (w : List ℕ). a.rest ≡ w ++ b.rest) (sym (same x h.is)) h.parts; line = subst (λ (w : List ℕ). b.line ≡ a.line + line_feeds w) (sym (same x h.is)) h.line });
+  takes = λ a x b e. let h = reads.takes a x b e in
+      record {
+        is = to x h.is;
+        parts = subst (λ (w : List ℕ). a.rest ≡ w ++ b.rest) (same x (to x h.is)) h.parts;
+        line =
+            subst (λ (w : List ℕ). b.line ≡ a.line + line_feeds w) (same x (to x h.is)) h.line;
+      };
+  again = λ a b x h. reads.again a b x
+      (record {
+        is = from x h.is;
+        parts = subst (λ (w : List ℕ). a.rest ≡ w ++ b.rest) (sym (same x h.is)) h.parts;
+        line =
+            subst (λ (w : List ℕ). b.line ≡ a.line + line_feeds w) (sym (same x h.is)) h.line;
+      });
   faults = λ a n e. let f = reads.faults a n e in record {
     good = f.good;
     bad = f.bad;
@@ -193,7 +219,8 @@ tail_of (x ∷ xs) = xs
 abbrev pub AreItems : {X : Type 0} → (X → Type 0) → ℕ → List X → Type 0
 AreItems Is n xs = (length xs ≡ n) × AllByRecursion Is xs
 
-pub each_reads : (X : Type 0) (I : X → Type 0) (s : ℕ → X → List ℕ) (r : ℕ → At → Result (X × At) ℕ) → ((k : ℕ) → Reads X I (s k) (r k)) → (n : ℕ) → Reads (List X) (AreItems I n) (each_spelling s) (each_at r n)
+pub each_reads : (X : Type 0) (I : X → Type 0) (s : ℕ → X → List ℕ) (r : ℕ → At → Result (X × At) ℕ) → ((k : ℕ) → Reads X I (s k) (r k)) → (n : ℕ)
+    → Reads (List X) (AreItems I n) (each_spelling s) (each_at r n)
 unfolding each_at head_or tail_of
 each_reads X I s r one zero = reworded (List X) (λ z. z ≡ []) (AreItems I 0) (λ _. []) (each_spelling s) (λ a. Ok ([], a)) (done_reads (List X) [])
     (λ xs e. subst (AreItems I 0) (sym e) (refl, tt)) (λ xs h. nil_from_length xs h.0) (λ xs h. sym (ap (each_spelling s) (nil_from_length xs h.0)))
@@ -204,7 +231,8 @@ each_reads X I s r one (suc n) =
     let t : X → List X → List ℕ = λ x z. each_spelling s (tail_of z) ++ [] in
     reworded (List X) (λ z. I (head_or d z) × K (head_or d z) z) (AreItems I (suc n)) (λ z. s n (head_or d z) ++ t (head_or d z) z) (each_spelling s) _
     (bind_reads X (List X) I (s n) (r n) K t (λ x a. each_at r n a >>= λ xs. Ok (x ∷ xs.0, xs.1)) (head_or d) (one n)
-    (λ x i. bind_reads (List X) (List X) (AreItems I n) (each_spelling s) (each_at r n) (λ xs z. z ≡ x ∷ xs) (λ _ _. []) (λ xs a. Ok (x ∷ xs, a)) tail_of rest (λ xs h. done_reads (List X) (x ∷ xs)) (λ xs z e. ap tail_of e))
+    (λ x i. bind_reads (List X) (List X) (AreItems I n) (each_spelling s) (each_at r n) (λ xs z. z ≡ x ∷ xs) (λ _ _. [])
+    (λ xs a. Ok (x ∷ xs, a)) tail_of rest (λ xs h. done_reads (List X) (x ∷ xs)) (λ xs z e. ap tail_of e))
     (λ x z h. ap (head_or d) h.1))
     to from same
   where
@@ -230,8 +258,13 @@ faulty_line X Is spell bytes good bad n parts number begins none =
     let feeds : line_feeds bytes ≡ line_feeds good + line_feeds bad = ap line_feeds parts ∙ line_feeds-append good bad in
     record {
       before = λ k lt.
-          let m = first_lines-front k good bad (omega arith) in
-          (begins.0, m.0 ++ begins.1, begins.2, begins.3 ∙ ap (λ (w : List ℕ). w ++ begins.1) m.1 ∙ append_assoc (first_lines k (good ++ bad)) m.0 begins.1 ∙ ap (λ (w : List ℕ). first_lines k w ++ (m.0 ++ begins.1)) (sym parts));
+          let m = first_lines-front k good bad (omega arith) in (
+            begins.0,
+            m.0 ++ begins.1,
+            begins.2,
+            begins.3 ∙ ap (λ (w : List ℕ). w ++ begins.1) m.1
+                ∙ append_assoc (first_lines k (good ++ bad)) m.0 begins.1 ∙ ap (λ (w : List ℕ). first_lines k w ++ (m.0 ++ begins.1)) (sym parts),
+          );
       here = λ le b.
           let lines : first_lines n bytes ≡ good ++ first_line bad = ap (λ (k : ℕ). first_lines k bytes) number ∙ ap (first_lines (suc (line_feeds good))) parts ∙ first_lines-past good bad in
           none b.0 (first_line bad ++ b.1) b.2 (first_line-again bad b.1 (omega arith)) (b.3 ∙ ap (λ (w : List ℕ). w ++ b.1) lines ∙ append_assoc good (first_line bad) b.1);
@@ -249,7 +282,8 @@ whole_found X Is spell read reads bytes x e =
 pub whole_again : (X : Type 0) (Is : X → Type 0) (spell : X → List ℕ) (read : At → Result (X × At) ℕ) (reads : Reads X Is spell read) (bytes : List ℕ) (x : X)
     → Is x → bytes ≡ spell x → whole read bytes ≡ Ok x
 whole_again X Is spell read reads bytes x is e =
-    let f : read (start bytes) ≡ Ok (x, record { line = 1 + line_feeds (spell x); rest = [] }) = reads.again (start bytes) (record { line = 1 + line_feeds (spell x); rest = [] }) x (record { is = is; parts = e ∙ sym (append-nil (spell x)); line = refl }) in
+    let f : read (start bytes) ≡ Ok (x, record { line = 1 + line_feeds (spell x); rest = [] }) =
+    reads.again (start bytes) (record { line = 1 + line_feeds (spell x); rest = [] }) x (record { is = is; parts = e ∙ sym (append-nil (spell x)); line = refl }) in
     rw f refl
 
 pub whole_fault : (X : Type 0) (Is : X → Type 0) (spell : X → List ℕ) (read : At → Result (X × At) ℕ) (reads : Reads X Is spell read) (bytes : List ℕ) (n : ℕ)

@@ -23,7 +23,8 @@ pub first_lines-past : (good rest : List ℕ) → first_lines (suc (line_feeds g
 first_lines-past [] rest = first_lines-one rest
 first_lines-past (c ∷ cs) rest = cons_same c _ _ (by_end (eqb c 10) (first_lines-past cs rest))
   where
-    by_end : (b : Bool) → first_lines (suc (line_feeds cs)) (cs ++ rest) ≡ cs ++ first_line rest → first_lines (cond b (cond b 1 0 + line_feeds cs) (suc (cond b 1 0 + line_feeds cs))) (cs ++ rest) ≡ cs ++ first_line rest
+    by_end : (b : Bool) → first_lines (suc (line_feeds cs)) (cs ++ rest) ≡ cs ++ first_line rest
+        → first_lines (cond b (cond b 1 0 + line_feeds cs) (suc (cond b 1 0 + line_feeds cs))) (cs ++ rest) ≡ cs ++ first_line rest
     by_end true h = rw (add_comm 1 (line_feeds cs), add-one) h
     by_end false h = rw zero-add h
 
@@ -45,7 +46,8 @@ pub first_line-again : (rest more : List ℕ) → 0 < line_feeds rest → first_
 first_line-again [] more lt = absurd (omega arith)
 first_line-again (c ∷ cs) more lt = cons_same c _ _ (by_end (eqb c 10) lt (first_line-again cs more))
   where
-    by_end : (b : Bool) → 0 < cond b 1 0 + line_feeds cs → (0 < line_feeds cs → first_line (first_line cs ++ more) ≡ first_line cs) → cond b [] (first_line (cond b [] (first_line cs) ++ more)) ≡ cond b [] (first_line cs)
+    by_end : (b : Bool) → 0 < cond b 1 0 + line_feeds cs → (0 < line_feeds cs → first_line (first_line cs ++ more) ≡ first_line cs)
+        → cond b [] (first_line (cond b [] (first_line cs) ++ more)) ≡ cond b [] (first_line cs)
     by_end true lt2 h = refl
     by_end false lt2 h = h (omega arith)
 

@@ -1,5 +1,6 @@
 -- Pieces that stand within a line: words and numbers.
-use Rattle.std.proofs.Common.{◌≡◌, ◌⊎◌, ℕ, zero, suc, ◌+◌, ◌-◌, ◌*◌, ◌/◌, ◌%◌, ◌^◌, ◌<◌, ◌≤◌, Bool, true, false, cond, eqb, List, [], ◌∷◌, ◌++◌, Option, Some, None, Ok, Err, refl, sym, ap, subst, ◌∙◌, append_assoc, add-zero, arith, inl, inr}
+use Rattle.std.proofs.Common.{◌≡◌, ◌⊎◌, ℕ, zero, suc, ◌+◌, ◌-◌, ◌*◌, ◌/◌, ◌%◌, ◌^◌, ◌<◌, ◌≤◌, Bool, true, false, cond, eqb}
+use Rattle.std.proofs.Common.{List, [], ◌∷◌, ◌++◌, Option, Some, None, Ok, Err, refl, sym, ap, subst, ◌∙◌, append_assoc, add-zero, arith, inl, inr}
 use Rattle.std.proofs.lemmas.Bool.{eqb-true, eq-eqb, ne_eqb}
 use Rattle.std.proofs.lemmas.Bool.Decides.{nat_tests}
 use Rattle.std.proofs.lemmas.Fmt.{decimal_digit, decimal_step_wide, decimal_by_steps_wide}
@@ -7,7 +8,8 @@ use Rattle.std.specs.Char.{is_ascii_digit}
 use Rattle.std.specs.Prelude.{ℤ, pos, negsuc}
 use Rattle.std.specs.Fmt.{decimal}
 use Rattle.cert_text.specs.Lines.{line_feeds, first_line}
-use Rattle.cert_text.specs.Reading.{At, found_at, piece_at, after_word, with_unit, word_at, is_next_digit, digits_from, number_from, number_spelling, number_at, IsWithin, int_spelling, counted, below_zero, negated, int_from, int_at, kept}
+use Rattle.cert_text.specs.Reading.{At, found_at, piece_at, after_word, with_unit, word_at, is_next_digit, digits_from, number_from}
+use Rattle.cert_text.specs.Reading.{number_spelling, number_at, IsWithin, int_spelling, counted, below_zero, negated, int_from, int_at, kept}
 use Rattle.cert_text.proofs.Laws.{Reads, ok_is}
 
 abbrev pub value_of : {X : Type 0} → Option (X × List ℕ) → Option X
@@ -106,7 +108,8 @@ after_word-again (w ∷ ws) r = rw (eq-eqb w w refl) (after_word-again ws r)
 pub after_word-within : (w b : List ℕ) → one_line w ≡ true → value_of (with_unit (after_word w b)) ≡ value_of (with_unit (after_word w (first_line b)))
 after_word-within [] b o = refl
 after_word-within (w ∷ ws) [] o = refl
-after_word-within (w ∷ []) (c ∷ cs) o = elim (eqb w c) as (λ t. value_of (with_unit (cond t (Some cs) None)) ≡ value_of (with_unit (cond t (Some (cond (eqb c 10) [] (first_line cs))) None))) [ true ↦ refl | false ↦ refl ]
+after_word-within (w ∷ []) (c ∷ cs) o =
+    elim (eqb w c) as (λ t. value_of (with_unit (cond t (Some cs) None)) ≡ value_of (with_unit (cond t (Some (cond (eqb c 10) [] (first_line cs))) None))) [ true ↦ refl | false ↦ refl ]
 after_word-within (w ∷ v ∷ ws) (c ∷ cs) o = by_same (eqb w c) (eqb-true w c) (eqb w 10) (eqb c 10) (λ e. ap (λ (x : ℕ). eqb x 10) e) o (after_word-within (v ∷ ws) cs)
   where
     by_same : (t : Bool) → (t ≡ true → w ≡ c) → (m n : Bool) → (w ≡ c → m ≡ n) → cond m false (one_line (v ∷ ws)) ≡ true
@@ -151,9 +154,11 @@ decimal_more n k above lt small =
     decimal_step_wide (n * 10 + k) (omega arith) small ∙ rw (q, m) refl
 
 -- the digits so far and what is read are the digits of the number
-digits_take : (most : ℕ) (end : ℕ → ℕ) (n : ℕ) (b : List ℕ) (x : ℕ) (r : List ℕ) → most < 10 ^ 64 → n ≤ most → digits_from most end n b ≡ Some (x, r) → (x ≤ most) × (decimal n ++ b ≡ number_spelling end x ++ r)
+digits_take : (most : ℕ) (end : ℕ → ℕ) (n : ℕ) (b : List ℕ) (x : ℕ) (r : List ℕ) → most < 10 ^ 64 → n ≤ most → digits_from most end n b ≡ Some (x, r)
+    → (x ≤ most) × (decimal n ++ b ≡ number_spelling end x ++ r)
 digits_take most end n [] x r small le e = absurd cc
-digits_take most end n (c ∷ cs) x r small le e = by_case (eqb c (end n)) (eqb-true c (end n)) (is_next_digit most n c) (next_digit most n c) e (λ h. digits_take most end (n * 10 + (c - 48)) cs x r small h)
+digits_take most end n (c ∷ cs) x r small le e =
+    by_case (eqb c (end n)) (eqb-true c (end n)) (is_next_digit most n c) (next_digit most n c) e (λ h. digits_take most end (n * 10 + (c - 48)) cs x r small h)
   where
     by_case : (t : Bool) → (t ≡ true → c ≡ end n) → (u : Bool) → (u ≡ true → (0 < n) × (48 ≤ c) × (c ≤ 57) × (n * 10 + (c - 48) ≤ most))
         → cond t (Some (n, cs)) (cond u (digits_from most end (n * 10 + (c - 48)) cs) None) ≡ Some (x, r)
@@ -168,7 +173,8 @@ digits_take most end n (c ∷ cs) x r small le e = by_case (eqb c (end n)) (eqb-
         let f = k refl in
         let i = g f.3 e2 in
         let digit : 48 + (c - 48) ≡ c = omega arith in
-        let more : decimal (n * 10 + (c - 48)) ++ cs ≡ decimal n ++ c ∷ cs = ap (λ (d : List ℕ). d ++ cs) (decimal_more n (c - 48) f.0 (omega arith) (omega arith)) ∙ append_assoc (decimal n) ((48 + (c - 48)) ∷ []) cs ∙ ap (λ (d : ℕ). decimal n ++ d ∷ cs) digit in
+        let more : decimal (n * 10 + (c - 48)) ++ cs ≡ decimal n ++ c ∷ cs =
+        ap (λ (d : List ℕ). d ++ cs) (decimal_more n (c - 48) f.0 (omega arith) (omega arith)) ∙ append_assoc (decimal n) ((48 + (c - 48)) ∷ []) cs ∙ ap (λ (d : ℕ). decimal n ++ d ∷ cs) digit in
         (i.0, sym more ∙ i.1)
     by_case false h false k e2 g = absurd cc
 
@@ -201,7 +207,8 @@ digits_again most end ends small = decimal_by_steps_wide (λ n ds. n ≤ most �
     no_end : (n k : ℕ) → k < 10 → (end n ≡ 32) ⊎ (end n ≡ 10) → eqb (48 + k) (end n) ≡ false
     no_end n k lt e = elim e [ inl h ↦ ne_eqb (48 + k) (end n) (λ g. omega arith) | inr h ↦ ne_eqb (48 + k) (end n) (λ g. omega arith) ]
 
-    more : (n : ℕ) (ds : List ℕ) → 10 ≤ n → (n / 10 ≤ most → (b : List ℕ) → number_from most end (ds ++ b) ≡ digits_from most end (n / 10) b) → n ≤ most → (b : List ℕ) → number_from most end ((ds ++ ((48 + n % 10) ∷ [])) ++ b) ≡ digits_from most end n b
+    more : (n : ℕ) (ds : List ℕ) → 10 ≤ n → (n / 10 ≤ most → (b : List ℕ) → number_from most end (ds ++ b) ≡ digits_from most end (n / 10) b)
+        → n ≤ most → (b : List ℕ) → number_from most end ((ds ++ ((48 + n % 10) ∷ [])) ++ b) ≡ digits_from most end n b
     more n ds ten h le b =
         let lt : n % 10 < 10 = omega arith in
         let next : is_next_digit most (n / 10) (48 + n % 10) ≡ true = is_next most (n / 10) (48 + n % 10) (omega arith) (omega arith) (omega arith) (omega arith) in
@@ -214,7 +221,8 @@ digits_within most end n (c ∷ cs) = by_case (eqb c (end n)) (eqb c 10) (eqb-tr
   where
     by_case : (t m : Bool) → (m ≡ true → c ≡ 10) → (u : Bool) → (u ≡ true → (0 < n) × (48 ≤ c) × (c ≤ 57) × (n * 10 + (c - 48) ≤ most))
         → value_of (digits_from most end (n * 10 + (c - 48)) cs) ≡ value_of (digits_from most end (n * 10 + (c - 48)) (first_line cs))
-        → value_of (cond t (Some (n, cs)) (cond u (digits_from most end (n * 10 + (c - 48)) cs) None)) ≡ value_of (cond t (Some (n, cond m [] (first_line cs))) (cond u (digits_from most end (n * 10 + (c - 48)) (cond m [] (first_line cs))) None))
+        → value_of (cond t (Some (n, cs)) (cond u (digits_from most end (n * 10 + (c - 48)) cs) None)) ≡ value_of
+        (cond t (Some (n, cond m [] (first_line cs))) (cond u (digits_from most end (n * 10 + (c - 48)) (cond m [] (first_line cs))) None))
     by_case true m h u k g = refl
     by_case false m h false k g = refl
     by_case false true h true k g = absurd (let e = h refl in let f = k refl in omega arith)
@@ -265,7 +273,8 @@ int_take : (most : ℕ) (end : ℕ → ℕ) (b : List ℕ) (z : ℤ) (r : List �
 int_take most end [] z r small nine e = absurd cc
 int_take most end (c ∷ cs) z r small nine e = by_sign (eqb c 45) (eqb-true c 45) e
   where
-    by_sign : (t : Bool) → (t ≡ true → c ≡ 45) → cond t (negated (number_from (most + 1) end cs)) (counted (number_from most end (c ∷ cs))) ≡ some_int z r → IsWithin most z × (c ∷ cs ≡ int_spelling end z ++ r)
+    by_sign : (t : Bool) → (t ≡ true → c ≡ 45)
+        → cond t (negated (number_from (most + 1) end cs)) (counted (number_from most end (c ∷ cs))) ≡ some_int z r → IsWithin most z × (c ∷ cs ≡ int_spelling end z ++ r)
     by_sign true h e2 =
         let n = negated_is (number_from (most + 1) end cs) z r e2 in
         let t = number_take (most + 1) end cs (suc n.0) r small (omega arith) n.1 in
@@ -312,7 +321,8 @@ int_within most end [] = refl
 int_within most end (c ∷ cs) = by_sign (eqb c 45) (eqb c 10) (eqb-true c 45) (eqb-true c 10) (number_within most end (c ∷ cs))
   where
     by_sign : (t m : Bool) → (t ≡ true → c ≡ 45) → (m ≡ true → c ≡ 10) → value_of (number_from most end (c ∷ cs)) ≡ value_of (number_from most end (c ∷ cond m [] (first_line cs)))
-        → value_of (cond t (negated (number_from (most + 1) end cs)) (counted (number_from most end (c ∷ cs)))) ≡ value_of (cond t (negated (number_from (most + 1) end (cond m [] (first_line cs)))) (counted (number_from most end (c ∷ cond m [] (first_line cs)))))
+        → value_of (cond t (negated (number_from (most + 1) end cs)) (counted (number_from most end (c ∷ cs)))) ≡ value_of
+        (cond t (negated (number_from (most + 1) end (cond m [] (first_line cs)))) (counted (number_from most end (c ∷ cond m [] (first_line cs)))))
     by_sign true true h k g = absurd (let e = h refl in let f = k refl in omega arith)
     by_sign true false h k g = negated-within (number_from (most + 1) end cs) (number_from (most + 1) end (first_line cs)) (number_within (most + 1) end cs)
     by_sign false m h k g = counted-within (number_from most end (c ∷ cs)) (number_from most end (c ∷ cond m [] (first_line cs))) g

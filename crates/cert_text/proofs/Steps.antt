@@ -1,5 +1,6 @@
 -- The loops of the readers, one byte at a time.
-use Rattle.std.proofs.Common.{◌≡◌, ◌≢◌, ℕ, ◌+◌, ◌-◌, ◌*◌, ◌%◌, ◌^◌, ◌<◌, ◌≤◌, Bool, true, false, cond, eqb, not, List, [], ◌∷◌, length, drop, get_or, Option, Some, None, Ok, Err, refl, sym, ap, subst, ◌∙◌, add-zero, zero-add, add-one, arith, drop-cons}
+use Rattle.std.proofs.Common.{◌≡◌, ◌≢◌, ℕ, ◌+◌, ◌-◌, ◌*◌, ◌%◌, ◌^◌, ◌<◌, ◌≤◌, Bool, true, false, cond, eqb, not, List, []}
+use Rattle.std.proofs.Common.{◌∷◌, length, drop, get_or, Option, Some, None, Ok, Err, refl, sym, ap, subst, ◌∙◌, add-zero, zero-add, add-one, arith, drop-cons}
 use Rattle.std.proofs.lemmas.Bool.{eqb-true, eqb-false, eq-eqb, ne_eqb}
 use Rattle.std.proofs.Math.ListN.{drop_of_length-le}
 use Rattle.std.specs.Option.{option_eq}
@@ -35,7 +36,8 @@ one_byte w ws line (c ∷ cs) e = by_same (eqb c w) (eqb-true c w) e
 
     by_same : (t : Bool) → (t ≡ true → c ≡ w) → not t ≡ false
         → (after_word ws cs ≡ cond (eqb w c) (after_word ws cs) None) × (cond (eqb c 10) (line + 1) line + line_feeds ws ≡ line + (cond (eqb w 10) 1 0 + line_feeds ws))
-    by_same true h f = let e2 = h refl in (rw (eq-eqb w c (sym e2)) refl, subst (λ (v : ℕ). cond (eqb c 10) (line + 1) line + line_feeds ws ≡ line + (cond (eqb v 10) 1 0 + line_feeds ws)) e2 (feeds (eqb c 10)))
+    by_same true h f = let e2 = h refl in
+        (rw (eq-eqb w c (sym e2)) refl, subst (λ (v : ℕ). cond (eqb c 10) (line + 1) line + line_feeds ws ≡ line + (cond (eqb v 10) 1 0 + line_feeds ws)) e2 (feeds (eqb c 10)))
     by_same false h f = absurd cc
 
 other_byte : (w : ℕ) (ws rest : List ℕ) → differs (first_byte rest) w ≡ true → after_word (w ∷ ws) rest ≡ None
@@ -96,7 +98,8 @@ no_feed c line le = rw (ne_eqb c 10 (λ e. omega arith)) refl
 pub counts-init : (most : ℕ) (end : ℕ → ℕ) (m : ℕ) (start : At) → m ≤ most → Counts most end m start m start
 counts-init most end m start le = record { rest = refl; line = refl; small = le }
 
-pub counts-step : (most : ℕ) (end : ℕ → ℕ) (m : ℕ) (start : At) (n : ℕ) (a : At) (c : ℕ) → first_of a ≡ Some c → c ≢ end n → is_next_digit most n c ≡ true → Counts most end m start n a → Counts most end m start (n * 10 + (c - 48)) (behind a)
+pub counts-step : (most : ℕ) (end : ℕ → ℕ) (m : ℕ) (start : At) (n : ℕ) (a : At) (c : ℕ) → first_of a ≡ Some c → c ≢ end n
+    → is_next_digit most n c ≡ true → Counts most end m start n a → Counts most end m start (n * 10 + (c - 48)) (behind a)
 counts-step most end m start n a c e other next h =
     let f = first_is a c e in
     let t = next_digit most n c next in
@@ -107,7 +110,8 @@ counts-step most end m start n a c e other next h =
     }
 
 pub line_feeds-decimal : (n : ℕ) → n < 10 ^ 64 → line_feeds (decimal n) ≡ 0
-line_feeds-decimal = decimal_by_steps_wide (λ n ds. line_feeds ds ≡ 0) (λ n lt. one n lt) (λ n ds ten h. line_feeds-append ds ((48 + n % 10) ∷ []) ∙ rw (h) (ap (λ (k : ℕ). 0 + k) (one (n % 10) (omega arith))))
+line_feeds-decimal = decimal_by_steps_wide (λ n ds. line_feeds ds ≡ 0) (λ n lt. one n lt)
+    (λ n ds ten h. line_feeds-append ds ((48 + n % 10) ∷ []) ∙ rw (h) (ap (λ (k : ℕ). 0 + k) (one (n % 10) (omega arith))))
   where
     one : (n : ℕ) → n < 10 → line_feeds ((48 + n) ∷ []) ≡ 0
     one n lt = rw (ne_eqb (48 + n) 10 (λ e. omega arith)) refl
@@ -116,12 +120,15 @@ one_more : (line : ℕ) (b : Bool) → line + cond b 1 0 ≡ cond b (line + 1) l
 one_more line true = refl
 one_more line false = add-zero line
 
-pub counts-end : (most : ℕ) (end : ℕ → ℕ) (m : ℕ) (start : At) (n : ℕ) (a : At) (c : ℕ) → most < 10 ^ 64 → first_of a ≡ Some c → c ≡ end n → Counts most end m start n a → digits_at most end m start ≡ Ok (n, behind a)
+pub counts-end : (most : ℕ) (end : ℕ → ℕ) (m : ℕ) (start : At) (n : ℕ) (a : At) (c : ℕ) → most < 10 ^ 64 → first_of a ≡ Some c → c ≡ end n
+    → Counts most end m start n a → digits_at most end m start ≡ Ok (n, behind a)
 counts-end most end m start n a c small e same h =
     let f = first_is a c e in
     let found : digits_from most end m start.rest ≡ Some (n, (behind a).rest) = sym h.rest ∙ ap (digits_from most end n) f.0 ∙ rw (eq-eqb c (end n) same) refl in
-    let feeds : line_feeds (number_spelling end n) ≡ cond (eqb c 10) 1 0 = line_feeds-append (decimal n) (end n ∷ []) ∙ rw (line_feeds-decimal n (omega (arith, h.small)), ← same) (zero-add (cond (eqb c 10) 1 0 + 0) ∙ add-zero (cond (eqb c 10) 1 0)) in
-    let line : start.line + line_feeds (number_spelling end n) ≡ (behind a).line = ap (λ (k : ℕ). start.line + k) feeds ∙ ap (λ (k : ℕ). k + cond (eqb c 10) 1 0) (sym h.line) ∙ one_more a.line (eqb c 10) ∙ sym f.1 in
+    let feeds : line_feeds (number_spelling end n) ≡ cond (eqb c 10) 1 0 = line_feeds-append (decimal n) (end n ∷ [])
+    ∙ rw (line_feeds-decimal n (omega (arith, h.small)), ← same) (zero-add (cond (eqb c 10) 1 0 + 0) ∙ add-zero (cond (eqb c 10) 1 0)) in
+    let line : start.line + line_feeds (number_spelling end n) ≡ (behind a).line = ap (λ (k : ℕ). start.line + k) feeds
+    ∙ ap (λ (k : ℕ). k + cond (eqb c 10) 1 0) (sym h.line) ∙ one_more a.line (eqb c 10) ∙ sym f.1 in
     rw found (rw line refl)
 
 pub counts-none : (most : ℕ) (end : ℕ → ℕ) (m : ℕ) (start : At) (n : ℕ) (a : At) → first_of a ≡ None → Counts most end m start n a → digits_at most end m start ≡ Err start.line
@@ -129,7 +136,8 @@ counts-none most end m start n a e h =
     let none : digits_from most end m start.rest ≡ None = sym h.rest ∙ ap (digits_from most end n) (nothing_is a e) in
     rw none refl
 
-pub counts-fault : (most : ℕ) (end : ℕ → ℕ) (m : ℕ) (start : At) (n : ℕ) (a : At) (c : ℕ) → first_of a ≡ Some c → c ≢ end n → is_next_digit most n c ≡ false → Counts most end m start n a → digits_at most end m start ≡ Err start.line
+pub counts-fault : (most : ℕ) (end : ℕ → ℕ) (m : ℕ) (start : At) (n : ℕ) (a : At) (c : ℕ) → first_of a ≡ Some c → c ≢ end n
+    → is_next_digit most n c ≡ false → Counts most end m start n a → digits_at most end m start ≡ Err start.line
 counts-fault most end m start n a c e other next h =
     let f = first_is a c e in
     let none : digits_from most end m start.rest ≡ None = sym h.rest ∙ ap (digits_from most end n) f.0 ∙ rw (ne_eqb c (end n) other, next) refl in

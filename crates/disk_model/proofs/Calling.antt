@@ -47,21 +47,28 @@ pub among-all : (old since P : List ℕ → Type 0) → Among old since → ((c 
 among-all old since P crash here c left = here c (crash c left)
 
 -- each image that comes by a step from one that has Q
-pub follows-all : (step : List ℕ → List ℕ → Type 0) (old since Q P : List ℕ → Type 0) → Follows step old since → ((c : List ℕ) → old c → Q c) → ((i c : List ℕ) → Q i → step i c → P c) → (c : List ℕ) → since c → P c
+pub follows-all : (step : List ℕ → List ℕ → Type 0) (old since Q P : List ℕ → Type 0) → Follows step old since → ((c : List ℕ) → old c → Q c)
+    → ((i c : List ℕ) → Q i → step i c → P c) → (c : List ℕ) → since c → P c
 follows-all step old since Q P crash had here c left = let from = crash c left in here from.0 c (had from.0 from.1) from.2
 
 -- each image that comes by a step from the only one
-pub only-all : (step : List ℕ → List ℕ → Type 0) (old since P : List ℕ → Type 0) (file : List ℕ) → Follows step old since → Only file old → ((c : List ℕ) → step file c → P c) → (c : List ℕ) → since c → P c
+pub only-all : (step : List ℕ → List ℕ → Type 0) (old since P : List ℕ → Type 0) (file : List ℕ) → Follows step old since → Only file old
+    → ((c : List ℕ) → step file c → P c) → (c : List ℕ) → since c → P c
 only-all step old since P file crash only here = follows-all step old since (λ i. i ≡ file) P crash only (λ i c is by. here c (subst (λ (w : List ℕ). step w c) is by))
 
-pub behind-all : (old since P : List ℕ → Type 0) (file : List ℕ) (at n : ℕ) → Follows (Torn at n) old since → Only file old → at ≡ length file → ((rest : List ℕ) → length rest ≤ n → P (file ++ rest)) → (c : List ℕ) → since c → P c
-behind-all old since P file at n crash only is here = only-all (Torn at n) old since P file crash only (λ c torn. let parts = torn_behind at n file c is torn in subst P (sym parts.2) (here parts.0 parts.1))
+pub behind-all : (old since P : List ℕ → Type 0) (file : List ℕ) (at n : ℕ) → Follows (Torn at n) old since → Only file old → at ≡ length file
+    → ((rest : List ℕ) → length rest ≤ n → P (file ++ rest)) → (c : List ℕ) → since c → P c
+behind-all old since P file at n crash only is here =
+    only-all (Torn at n) old since P file crash only (λ c torn. let parts = torn_behind at n file c is torn in subst P (sym parts.2) (here parts.0 parts.1))
 
-pub byte-all : (old since P : List ℕ → Type 0) (file : List ℕ) (at : ℕ) → Follows (Torn at 1) old since → Only file old → at + 1 ≤ length file → ((byte : ℕ) → P (take at file ++ byte ∷ drop (at + 1) file)) → (c : List ℕ) → since c → P c
+pub byte-all : (old since P : List ℕ → Type 0) (file : List ℕ) (at : ℕ) → Follows (Torn at 1) old since → Only file old → at + 1 ≤ length file
+    → ((byte : ℕ) → P (take at file ++ byte ∷ drop (at + 1) file)) → (c : List ℕ) → since c → P c
 byte-all old since P file at crash only within here = only-all (Torn at 1) old since P file crash only (λ c torn. let parts = torn_byte at file c within torn in subst P (sym parts.1) (here parts.0))
 
-pub cut-all : (old since P : List ℕ → Type 0) (file : List ℕ) (to : ℕ) → Follows (Shortened to) old since → Only file old → to ≤ length file → ((n : ℕ) → to ≤ n → n ≤ length file → P (take n file)) → (c : List ℕ) → since c → P c
-cut-all old since P file to crash only within here = only-all (Shortened to) old since P file crash only (λ c cut. let parts = cut_front to file c within cut in subst P (sym parts.3) (here parts.0 parts.1 parts.2))
+pub cut-all : (old since P : List ℕ → Type 0) (file : List ℕ) (to : ℕ) → Follows (Shortened to) old since → Only file old → to ≤ length file
+    → ((n : ℕ) → to ≤ n → n ≤ length file → P (take n file)) → (c : List ℕ) → since c → P c
+cut-all old since P file to crash only within here =
+    only-all (Shortened to) old since P file crash only (λ c cut. let parts = cut_front to file c within cut in subst P (sym parts.3) (here parts.0 parts.1 parts.2))
 
 -- ---- what a read gives
 

@@ -22,7 +22,8 @@ more-of steps xs n k s same lt is =
     take_more steps k s within ∙ ap (λ (x : Step). take k steps ++ x ∷ []) (ap (λ (l : List Step). get_or l k s) (sym same) ∙ sym (get_or-take n xs k s small) ∙ sym is)
 
 -- the step is a sync
-pub replayed-sync : (start : List ℕ) (steps : List Step) (choice k : ℕ) (s : Step) (file image next landed : List ℕ) → take (k + 1) steps ≡ take k steps ++ s ∷ [] → s ≡ Sync → Replayed start steps choice k file image → next ≡ file → landed ≡ file → Replayed start steps choice (k + 1) next landed
+pub replayed-sync : (start : List ℕ) (steps : List Step) (choice k : ℕ) (s : Step) (file image next landed : List ℕ)
+    → take (k + 1) steps ≡ take k steps ++ s ∷ [] → s ≡ Sync → Replayed start steps choice k file image → next ≡ file → landed ≡ file → Replayed start steps choice (k + 1) next landed
 replayed-sync start steps choice k s file image next landed more is r same put = record {
   file_is = same ∙ r.file_is ∙ sym (ap (λ (w : List Step). file_after w start) e ∙ file_after-push ss Sync start);
   leaves = subst (λ (w : List Step). MayLeave start w landed) (sym e) (image-push ss Sync start (λ i. i ≡ start) landed (put ∙ r.file_is));
@@ -47,12 +48,16 @@ leaves-other (Cut to) file images i c other here lands = (i, here, lands)
 leaves-other Sync file images i c other here lands = absurd (other refl)
 
 -- the step is a write or a cut, and the image lands in this way
-pub replayed-other : (start : List ℕ) (steps : List Step) (choice k way : ℕ) (s : Step) (file image next landed : List ℕ) → take (k + 1) steps ≡ take k steps ++ s ∷ [] → ¬ (s ≡ Sync) → Replayed start steps choice k file image
-    → (choice ≡ 0 → way ≡ 0) → (choice ≡ 1 → way ≡ 1) → Lands s image landed → (way ≡ 0 → landed ≡ image) → (way ≡ 1 → landed ≡ after_step s image) → next ≡ after_step s file → Replayed start steps choice (k + 1) next landed
+pub replayed-other : (start : List ℕ) (steps : List Step) (choice k way : ℕ) (s : Step) (file image next landed : List ℕ)
+    → take (k + 1) steps ≡ take k steps ++ s ∷ [] → ¬ (s ≡ Sync) → Replayed start steps choice k file image
+    → (choice ≡ 0 → way ≡ 0) → (choice ≡ 1 → way ≡ 1) → Lands s image landed → (way ≡ 0 → landed ≡ image) → (way ≡ 1 → landed ≡ after_step s image)
+    → next ≡ after_step s file → Replayed start steps choice (k + 1) next landed
 replayed-other start steps choice k way s file image next landed more other r none one lands not_at_all wholly goes = record {
   file_is = goes ∙ ap (after_step s) r.file_is ∙ sym (ap (λ (w : List Step). file_after w start) more ∙ file_after-push ss s start);
-  leaves = subst (λ (w : List Step). MayLeave start w landed) (sym more) (image-push ss s start (λ i. i ≡ start) landed (leaves-other s (file_after ss start) (MayLeave start ss) image landed other r.leaves lands));
-  synced = λ z. not_at_all (none z) ∙ r.synced z ∙ sym (ap (λ (w : List Step). synced_after w start start) more ∙ synced_after-push ss s start start ∙ not-synced s (file_after ss start) (synced_after ss start start) other);
+  leaves = subst (λ (w : List Step). MayLeave start w landed) (sym more)
+      (image-push ss s start (λ i. i ≡ start) landed (leaves-other s (file_after ss start) (MayLeave start ss) image landed other r.leaves lands));
+  synced = λ z. not_at_all (none z) ∙ r.synced z
+      ∙ sym (ap (λ (w : List Step). synced_after w start start) more ∙ synced_after-push ss s start start ∙ not-synced s (file_after ss start) (synced_after ss start start) other);
   written = λ z. wholly (one z) ∙ ap (after_step s) (r.written z) ∙ sym goes;
 }
   where

@@ -60,7 +60,8 @@ lands-whole Sync file = refl
 -- the file after the steps is one of the images
 pub file-image : (steps : List Step) (file : List ℕ) (images : List ℕ → Type 0) → images file → IsImage steps file images (file_after steps file)
 file-image [] file images here = here
-file-image (Write at bytes ∷ ss) file images here = file-image ss (written file at bytes.items) (Leaves (Write at bytes) file images) (file, here, torn-written at (length bytes.items) file bytes.items (omega arith))
+file-image (Write at bytes ∷ ss) file images here =
+    file-image ss (written file at bytes.items) (Leaves (Write at bytes) file images) (file, here, torn-written at (length bytes.items) file bytes.items (omega arith))
 file-image (Cut to ∷ ss) file images here = file-image ss (take to file) (Leaves (Cut to) file images) (file, here, shortened-take to to file (omega arith))
 file-image (Sync ∷ ss) file images here = file-image ss file (Leaves Sync file images) refl
 
@@ -84,7 +85,8 @@ pub reads-image : (start : List ℕ) (steps : List Step) (file : List ℕ) → f
 reads-image start steps file is = subst (MayLeave start steps) is (file-image steps start (λ i. i ≡ start) refl)
 
 -- so is what a read gives, where that is known
-pub reads-held : (attached : Bool) (bytes start : List ℕ) (steps : List Step) (file : List ℕ) → bytes ≡ file_after steps start → (if attached then Some bytes else None) ≡ Some file → MayLeave start steps file
+pub reads-held : (attached : Bool) (bytes start : List ℕ) (steps : List Step) (file : List ℕ) → bytes ≡ file_after steps start
+    → (if attached then Some bytes else None) ≡ Some file → MayLeave start steps file
 reads-held true bytes start steps file follows is = let same : bytes ≡ file = cc in reads-image start steps file (sym follows ∙ same)
 reads-held false bytes start steps file follows is = absurd (cc)
 

@@ -1,5 +1,6 @@
 -- What a proof shows of a box rests on the ends of its coordinates alone: boxes that agree have the same rows and the same ends of variables.
-use Rattle.std.proofs.Common.{◌≡◌, ℕ, ◌+◌, ◌-◌, ◌*◌, ◌/◌, ◌%◌, ◌<◌, ◌≤◌, inl, inr, max, nat_lt, ◌==◌, ◌^◌, Bool, true, false, if◌then◌else◌, List, [], ◌∷◌, ◌++◌, All, length, get_or, ℤ, pos, ◌-ℤ◌, ◌*ℤ◌, ◌≤ℤ◌, ◌<ℤ◌, unsigned_abs, arith, refl, sym, ap, subst, ◌∙◌}
+use Rattle.std.proofs.Common.{◌≡◌, ℕ, ◌+◌, ◌-◌, ◌*◌, ◌/◌, ◌%◌, ◌<◌, ◌≤◌, inl, inr, max, nat_lt, ◌==◌, ◌^◌, Bool, true, false, if◌then◌else◌}
+use Rattle.std.proofs.Common.{List, [], ◌∷◌, ◌++◌, All, length, get_or, ℤ, pos, ◌-ℤ◌, ◌*ℤ◌, ◌≤ℤ◌, ◌<ℤ◌, unsigned_abs, arith, refl, sym, ap, subst, ◌∙◌}
 use Rattle.std.proofs.Math.Path.{fun_ext}
 use Rattle.std.specs.List.{sum_by}
 use Rattle.std.specs.Int.{int_min, int_div_euclid}
@@ -14,7 +15,8 @@ use Rattle.row_model.specs.Boxes.{Box, Agree, IsProper, root, coords, prop_numbe
 use Rattle.row_model.specs.Variables.{none, variables, by_number, path_count, path_feed, path_out, least_product, greatest_product, lows, highs, costs}
 use Rattle.row_model.specs.Envelopes.{Ends, side}
 use Rattle.pool_model.specs.Limits.{most_limits, least_limits, no_limit}
-use Rattle.row_model.specs.Catalogue.{at_least, when, Row, Family, mixing_row, mixed_most_row, mixed_least_row, quality_envelope_row, proportions_row, feed_row, path_most_row, path_least_row, proportion_envelope_row, network_families, pq_families, p_families, q_families, row_in, row_at}
+use Rattle.row_model.specs.Catalogue.{at_least, when, Row, Family, mixing_row, mixed_most_row, mixed_least_row, quality_envelope_row, proportions_row}
+use Rattle.row_model.specs.Catalogue.{feed_row, path_most_row, path_least_row, proportion_envelope_row, network_families, pq_families, p_families, q_families, row_in, row_at}
 use Rattle.row_model.specs.Multipliers.{Proof, rest, number, weight, rest_weight, IsSigned, IsInOrder, no_plan, bound, shown_by}
 use Rattle.row_model.proofs.Numbering.{HoldsByKind, by_number-each}
 use Rattle.row_model.proofs.PathSums.{path_feed-below, path_out-below}
@@ -134,11 +136,13 @@ proportion_row n p number e =
 
 quality-same : (n : Net) (b c : Box) (o k number : ℕ) → IsLimited n → Agree n b c → o < n.outs → k < n.qualities → quality_envelope_row n b o k number ≡ quality_envelope_row n c o k number
 quality-same n b c o k number lim a h j =
-    four (λ al ah bl bh. quality_row n o k number (ends_of_four al ah bl bh)) b c (qual_number n (n.out_pool o) k) (flow_number n o) (same-qual n b c (n.out_pool o) k a (lim.out_pools o h) j) (same-flow n b c o a h)
+    four (λ al ah bl bh. quality_row n o k number (ends_of_four al ah bl bh)) b c (qual_number n (n.out_pool o) k) (flow_number n o)
+    (same-qual n b c (n.out_pool o) k a (lim.out_pools o h) j) (same-flow n b c o a h)
 
 proportion-same : (n : Net) (b c : Box) (p number : ℕ) → Agree n b c → p < path_count n → proportion_envelope_row n b p number ≡ proportion_envelope_row n c p number
 proportion-same n b c p number a h =
-    four (λ al ah bl bh. proportion_row n p number (ends_of_four al ah bl bh)) b c (prop_number n (path_feed n p)) (flow_number n (path_out n p)) (same-prop n b c (path_feed n p) a (path_feed-below n p h)) (same-flow n b c (path_out n p) a (path_out-below n p h))
+    four (λ al ah bl bh. proportion_row n p number (ends_of_four al ah bl bh)) b c (prop_number n (path_feed n p)) (flow_number n (path_out n p))
+    (same-prop n b c (path_feed n p) a (path_feed-below n p h)) (same-flow n b c (path_out n p) a (path_out-below n p h))
 
 same_rest : (fs : List Family) (j : ℕ) → row_in fs j ≡ row_in fs j
 same_rest fs j = refl

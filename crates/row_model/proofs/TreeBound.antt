@@ -122,7 +122,8 @@ module _ (n : Net) (tree : Tree) (limited : IsLimited n) (is : IsTree n tree) wh
       elim (which_node t node k) [
         | inl e ↦ subst (λ m. IsProper n (box_after n tree.splits (suc t) m)) (sym e) (subst (IsProper n) (sym (left_box n tree.splits t)) (left-proper n b s.coord s.cut parent order.low order.high))
         | inr r ↦ elim r [
-          | inl e ↦ subst (λ m. IsProper n (box_after n tree.splits (suc t) m)) (sym e) (subst (IsProper n) (sym (right_box n tree.splits t)) (right-proper n b s.coord s.cut parent order.low order.high))
+          | inl e ↦ subst (λ m. IsProper n (box_after n tree.splits (suc t) m)) (sym e)
+              (subst (IsProper n) (sym (right_box n tree.splits t)) (right-proper n b s.coord s.cut parent order.low order.high))
           | inr l ↦ subst (IsProper n) (sym (box_kept n tree.splits t node l)) (box-proper t node (omega arith) l)
         ]
       ]
@@ -179,7 +180,8 @@ module _ (n : Net) (tree : Tree) (limited : IsLimited n) (is : IsTree n tree) wh
         let f = found-leaf in
         let at = leaf-reaches (node_bound n tree f.0) (bound-allows (length tree.splits) f.0 (omega arith) f.1.there f.2) in
         let leaf : leaf_bound n tree f.0 ≡ Some at.0 = cc (f.1.uncut, at.1) in
-        least-allows (tree_bound n tree) at.0 (Reaches-least_below (leaf_bound n tree) (nodes tree.splits) f.0 at.0 f.1.there (subst (λ (o : Option ℤ). Reaches o at.0) (sym leaf) (omega (arith, additive)))) at.2
+        least-allows (tree_bound n tree) at.0
+        (Reaches-least_below (leaf_bound n tree) (nodes tree.splits) f.0 at.0 f.1.there (subst (λ (o : Option ℤ). Reaches o at.0) (sym leaf) (omega (arith, additive)))) at.2
       where
         least-allows : (o : Option ℤ) (b : ℤ) → Reaches o b → (b *ℤ pos p.base) ≤ℤ cost_of n p → Allows n p o
         least-allows None b r h = r

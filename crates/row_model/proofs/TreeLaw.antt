@@ -1,5 +1,6 @@
 -- Every plan that obeys lies in the box of some leaf of a tree, and costs at least that leaf's bound.
-use Rattle.std.proofs.Common.{◌≡◌, ◌≢◌, ℕ, zero, suc, ◌+◌, ◌-◌, ◌*◌, ◌<◌, ◌≤◌, ◌⊎◌, inl, inr, ◌==◌, ◌||◌, if◌then◌else◌, List, length, take, Bool, true, false, ℤ, arith, refl, sym, ap, subst, ◌∙◌, add-one}
+use Rattle.std.proofs.Common.{◌≡◌, ◌≢◌, ℕ, zero, suc, ◌+◌, ◌-◌, ◌*◌, ◌<◌, ◌≤◌, ◌⊎◌, inl, inr, ◌==◌, ◌||◌}
+use Rattle.std.proofs.Common.{if◌then◌else◌, List, length, take, Bool, true, false, ℤ, arith, refl, sym, ap, subst, ◌∙◌, add-one}
 use Rattle.std.proofs.lemmas.List.{take_all, length-take-le}
 use Rattle.std.proofs.lemmas.List.Folds.{list_any_more}
 use Rattle.std.proofs.lemmas.Bool.Decides.{nat_tests}
@@ -52,15 +53,18 @@ box_kept n splits t node h =
     (if node == right_node t then right_of (box_after n splits t (split_at splits t).leaf) (split_at splits t).coord (split_at splits t).cut else box_after n splits t node) (omega arith)
     ∙ passed node (right_node t) (right_of (box_after n splits t (split_at splits t).leaf) (split_at splits t).coord (split_at splits t).cut) (box_after n splits t node) (omega arith)
 
-pub left_box : (n : Net) (splits : List Split) (t : ℕ) → box_after n splits (suc t) (left_node t) ≡ left_of (box_after n splits t (split_at splits t).leaf) (split_at splits t).coord (split_at splits t).cut
+pub left_box : (n : Net) (splits : List Split) (t : ℕ)
+    → box_after n splits (suc t) (left_node t) ≡ left_of (box_after n splits t (split_at splits t).leaf) (split_at splits t).coord (split_at splits t).cut
 left_box n splits t =
     chosen (left_node t) (left_node t) (left_of (box_after n splits t (split_at splits t).leaf) (split_at splits t).coord (split_at splits t).cut)
     (if left_node t == right_node t then right_of (box_after n splits t (split_at splits t).leaf) (split_at splits t).coord (split_at splits t).cut else box_after n splits t (left_node t)) refl
 
-pub right_box : (n : Net) (splits : List Split) (t : ℕ) → box_after n splits (suc t) (right_node t) ≡ right_of (box_after n splits t (split_at splits t).leaf) (split_at splits t).coord (split_at splits t).cut
+pub right_box : (n : Net) (splits : List Split) (t : ℕ)
+    → box_after n splits (suc t) (right_node t) ≡ right_of (box_after n splits t (split_at splits t).leaf) (split_at splits t).coord (split_at splits t).cut
 right_box n splits t =
     passed (right_node t) (left_node t) (left_of (box_after n splits t (split_at splits t).leaf) (split_at splits t).coord (split_at splits t).cut)
-    (if right_node t == right_node t then right_of (box_after n splits t (split_at splits t).leaf) (split_at splits t).coord (split_at splits t).cut else box_after n splits t (right_node t)) (omega arith)
+    (if right_node t == right_node t then right_of (box_after n splits t (split_at splits t).leaf) (split_at splits t).coord
+    (split_at splits t).cut else box_after n splits t (right_node t)) (omega arith)
     ∙ chosen (right_node t) (right_node t) (right_of (box_after n splits t (split_at splits t).leaf) (split_at splits t).coord (split_at splits t).cut) (box_after n splits t (right_node t)) refl
 
 -- the same over any number of later splits
@@ -90,8 +94,11 @@ record Found (n : Net) (In : Box → Type 0) (splits : List Split) (t : ℕ) : T
   pub lies : In (box_after n splits t node)
 
 -- What lies in the root box, and with each box in one of its halves, lies in the box of a leaf.
-module _ (n : Net) (In : Box → Type 0) (halves : (b : Box) (coord : ℕ) (cut : ℤ) → In b → In (left_of b coord cut) ⊎ In (right_of b coord cut)) (splits : List Split) (order : (t : ℕ) → t < length splits → IsSplitInOrder n splits t) where
-  found_half : (t : ℕ) → t < length splits → In (left_of (box_after n splits t (split_at splits t).leaf) (split_at splits t).coord (split_at splits t).cut) ⊎ In (right_of (box_after n splits t (split_at splits t).leaf) (split_at splits t).coord (split_at splits t).cut)
+module _ (n : Net) (In : Box → Type 0) (halves : (b : Box) (coord : ℕ) (cut : ℤ) → In b → In (left_of b coord cut) ⊎ In (right_of b coord cut))
+    (splits : List Split) (order : (t : ℕ) → t < length splits → IsSplitInOrder n splits t) where
+  found_half : (t : ℕ) → t < length splits
+      → In (left_of (box_after n splits t (split_at splits t).leaf) (split_at splits t).coord (split_at splits t).cut)
+      ⊎ In (right_of (box_after n splits t (split_at splits t).leaf) (split_at splits t).coord (split_at splits t).cut)
       → Found n In splits (suc t)
   found_half t h (inl lies) = record {
     node = left_node t;

@@ -141,8 +141,11 @@ mixed-low n p b o k lim h lo hk =
     let hl = lim.out_pools o lo in
     let quality = lies-qual n p b l k h hl hk in
     let flow = lies-flow n p b o h lo in
-    joint-low p.base (product_but l (factor n p) n.pools) (factor n p l) (product_below (factor n p) n.pools) ((lows n b).mixed o k) (mix n p l k *ℤ pos (p.out o)) (product_but_is l (factor n p) n.pools hl)
-    (rw (← quality-out n p o k lo) (four_products-over (pos (factor n p l)) (pos p.base) (b.low (qual_number n l k)) (place n p (qual l k)) (b.high (qual_number n l k)) (b.low (flow_number n o)) (pos (p.out o)) (b.high (flow_number n o))
+    joint-low p.base (product_but l (factor n p) n.pools) (factor n p l) (product_below (factor n p) n.pools) ((lows n b).mixed o k)
+    (mix n p l k *ℤ pos (p.out o)) (product_but_is l (factor n p) n.pools hl)
+    (rw (← quality-out n p o k lo)
+    (four_products-over (pos (factor n p l)) (pos p.base) (b.low (qual_number n l k)) (place n p (qual l k)) (b.high (qual_number n l k))
+    (b.low (flow_number n o)) (pos (p.out o)) (b.high (flow_number n o))
     (omega (arith, additive)) (omega (arith, additive)) quality.low quality.high flow.low flow.high))
 
 mixed-high : (n : Net) (p : Plan) (b : Box) (o k : ℕ) → IsLimited n → LiesIn n p b → o < n.outs → k < n.qualities
@@ -152,8 +155,11 @@ mixed-high n p b o k lim h lo hk =
     let hl = lim.out_pools o lo in
     let quality = lies-qual n p b l k h hl hk in
     let flow = lies-flow n p b o h lo in
-    joint-high p.base (product_but l (factor n p) n.pools) (factor n p l) (product_below (factor n p) n.pools) ((highs n b).mixed o k) (mix n p l k *ℤ pos (p.out o)) (product_but_is l (factor n p) n.pools hl)
-    (rw (← quality-out n p o k lo) (four_products-over_high (pos (factor n p l)) (pos p.base) (b.low (qual_number n l k)) (place n p (qual l k)) (b.high (qual_number n l k)) (b.low (flow_number n o)) (pos (p.out o)) (b.high (flow_number n o))
+    joint-high p.base (product_but l (factor n p) n.pools) (factor n p l) (product_below (factor n p) n.pools) ((highs n b).mixed o k)
+    (mix n p l k *ℤ pos (p.out o)) (product_but_is l (factor n p) n.pools hl)
+    (rw (← quality-out n p o k lo)
+    (four_products-over_high (pos (factor n p l)) (pos p.base) (b.low (qual_number n l k)) (place n p (qual l k)) (b.high (qual_number n l k))
+    (b.low (flow_number n o)) (pos (p.out o)) (b.high (flow_number n o))
     (omega (arith, additive)) (omega (arith, additive)) quality.low quality.high flow.low flow.high))
 
 -- ---- each variable
@@ -167,7 +173,8 @@ lows-hold n p b lim ob h =
       y = λ o lo. scaled-low all p.base (b.low (flow_number n o)) (pos (p.out o)) (lies-flow n p b o h lo).low;
       z = λ e le. omega (arith, additive);
       w = λ q lq. omega (arith, additive);
-      proportion = λ e le. pooled-low p.base (but (n.feed_pool e)) (factor n p (n.feed_pool e)) all (b.low (prop_number n e)) (place n p (prop e)) (whole (n.feed_pool e) (lim.feed_pools e le)) (lies-prop n p b e h le).low;
+      proportion = λ e le. pooled-low p.base (but (n.feed_pool e)) (factor n p (n.feed_pool e)) all (b.low (prop_number n e)) (place n p (prop e))
+          (whole (n.feed_pool e) (lim.feed_pools e le)) (lies-prop n p b e h le).low;
       quality = λ l k hl hk. pooled-low p.base (but l) (factor n p l) all (b.low (qual_number n l k)) (place n p (qual l k)) (whole l hl) (lies-qual n p b l k h hl hk).low;
       mixed = λ o k lo hk. mixed-low n p b o k lim h lo hk;
     }
@@ -182,7 +189,8 @@ highs-hold n p b lim ob h =
       y = λ o lo. scaled-high all p.base (b.high (flow_number n o)) (pos (p.out o)) (lies-flow n p b o h lo).high;
       z = λ e le. scaled-most all (p.direct e) p.base (min (n.source_max (n.direct_source e)) (n.product_max (n.direct_product e))) (direct-high n p e lim ob.carries le);
       w = λ q lq. path-high n p b q lim ob.carries h lq;
-      proportion = λ e le. pooled-high p.base (but (n.feed_pool e)) (factor n p (n.feed_pool e)) all (b.high (prop_number n e)) (place n p (prop e)) (whole (n.feed_pool e) (lim.feed_pools e le)) (lies-prop n p b e h le).high;
+      proportion = λ e le. pooled-high p.base (but (n.feed_pool e)) (factor n p (n.feed_pool e)) all (b.high (prop_number n e)) (place n p (prop e))
+          (whole (n.feed_pool e) (lim.feed_pools e le)) (lies-prop n p b e h le).high;
       quality = λ l k hl hk. pooled-high p.base (but l) (factor n p l) all (b.high (qual_number n l k)) (place n p (qual l k)) (whole l hl) (lies-qual n p b l k h hl hk).high;
       mixed = λ o k lo hk. mixed-high n p b o k lim h lo hk;
     }
