@@ -9,12 +9,12 @@ use Rattle.pool_cli.specs.declared.status.Status.TheVariants as statuses
 
 abbrev pub code_of : Status → ℕ
 code_of statuses.Closed = 0
-code_of statuses.Stopped = 10
 code_of statuses.Accepted = 0
 code_of (statuses.Refused refusal) = 1
 code_of statuses.Usage = 2
 code_of (statuses.NetworkRefused cause) = 3
 code_of statuses.CertTooLong = 5
+code_of statuses.Stopped = 10
 code_of statuses.ReadFault = 20
 code_of statuses.WriteFault = 21
 code_of statuses.OutOfMemory = 23
@@ -41,12 +41,12 @@ reason_of cause = signed_decimal (pos (cause_number cause))
 -- the line on standard error
 abbrev pub message_of : Status → List ℕ
 message_of statuses.Closed = []
-message_of statuses.Stopped = []
 message_of statuses.Accepted = []
 message_of (statuses.Refused refusal) = []
 message_of statuses.Usage = codes "pool: usage: solve NET, check NET CERT, report NET CERT, formulate NET, make N or trial N\n"
 message_of (statuses.NetworkRefused cause) = codes "pool: network refused: " ++ (reason_of cause ++ codes "\n")
 message_of statuses.CertTooLong = codes "pool: certificate too long\n"
+message_of statuses.Stopped = []
 message_of statuses.ReadFault = codes "pool: read fault\n"
 message_of statuses.WriteFault = codes "pool: write fault\n"
 message_of statuses.OutOfMemory = codes "pool: out of memory\n"

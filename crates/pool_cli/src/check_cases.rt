@@ -368,5 +368,9 @@ fn a_failed_read_of_the_certificate_is_a_read_fault(rt: HostRuntime) -> Result<(
     let status = checked(alloc, ONE_PRODUCT, Vec::new(alloc), 1, &mut sink)?;
     assert_eq!(rt; status.code(), 20);
     assert_eq!(rt; sink.taken(), b"".as_slice());
+
+    // Where the network is refused, the certificate is not asked for.
+    let status = checked(alloc, "no network", Vec::new(alloc), 1, &mut sink)?;
+    assert_eq!(rt; status.code(), 3);
     Ok(())
 }

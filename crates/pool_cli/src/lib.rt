@@ -5,15 +5,17 @@
 //! whose plan obeys the network of the named file exactly, whose bound holds for every plan of any denominator, and whose
 //! gap is their exact difference. Of `check`, it is the line of a valid certificate, of which all that is claimed follows,
 //! or the line of the first cause to refuse it. And it says when each other status comes. The words of that contract are
-//! in `specs/Running.antt`, `specs/Solution.antt` and `specs/Checking.antt`.
+//! in `specs/Ends.antt`, which has a line for each command, and beside it `specs/SolveEnds.antt` and `specs/CheckEnds.antt`.
 //!
 //! The layer above may use `run`, `Status::code` and `write_message`; it brings the real files and streams. What a file
 //! says is left to `network_json`, and the text of a certificate to `cert_format`.
 #![tactic(auto)]
 
-mod checking;
+mod check;
 mod command;
+mod reading;
 mod solution;
+mod solve;
 mod starting;
 mod status;
 mod verdict;

@@ -1,16 +1,14 @@
 //! The certificate of a network: its cheapest starting plan, the reach bound, and the gap between the two.
 
-ghost use Rattle.std.specs.Prelude.{◌≡◌, ◌≤◌, ◌^◌, ◌*◌, IfOk, IfErr, unsigned_abs};
+ghost use Rattle.std.specs.Prelude.{◌≡◌, ◌≤◌, ◌^◌, ◌*◌, IfOk, unsigned_abs};
 ghost use Rattle.pool_model.specs.Network.{net_of};
 ghost use Rattle.pool_model.specs.Starting.{HasNoMinima};
 ghost use Rattle.plan_core.specs.Shown.{written_of};
 ghost use Rattle.cert_format.specs.Cert.{IsCert};
 ghost use Rattle.cert_format.specs.Shown.{view};
 ghost use Rattle.pool_cli.specs.Solution.{IsSolution, IsCheapest};
-ghost use Rattle.pool_cli.specs.Running.{IsUnsolved};
 
-use crate::starting::{cheapest_way, has_minimum, way_cost};
-use crate::status::Status;
+use crate::starting::{cheapest_way, way_cost};
 use blend_network::Network;
 use cert_format::{Certificate, Claim, cert_law};
 use edge_io::Memory;
@@ -35,19 +33,13 @@ struct Start {
 }
 
 /// The certificate of the network's cheapest starting plan.
-pub(crate) fn solution_of(alloc: Global, net: &Network) -> Result<Solution, Status>
+pub(crate) fn solution_of(alloc: Global, net: &Network) -> Result<Solution, Memory>
+    requires { HasNoMinima (net_of net.now) }
     ensures solved { IfOk result (λ s. IsSolution (net_of net.now) s.closed (view s.certificate)) }
     ensures certificate { IfOk result (λ s. IsCert (view s.certificate)) }
-    ensures minima { IfOk result (λ _. HasNoMinima (net_of net.now)) }
-    ensures unsolved { IfErr result (IsUnsolved (net_of net.now)) }
 {
-    if has_minimum(net) {
-        return Err(Status::MinimumNotYet);
-    }
-    match cheapest_start(alloc, net) {
-        Ok(start) => Ok(claimed(alloc, net, start)),
-        Err(Memory) => Err(Status::OutOfMemory),
-    }
+    let start = cheapest_start(alloc, net)?;
+    Ok(claimed(alloc, net, start))
 }
 
 /// The cheapest of the starting plans; at a tie the zero plan, then the first path, and then the first direct.

@@ -17,8 +17,6 @@ use network_json::ReadNet;
 pub enum Status {
     /// A plan was printed, and its gap is at most the asked one.
     Closed,
-    /// A plan was printed, and its gap is above the asked one.
-    Stopped,
     /// The certificate is valid for the network.
     Accepted,
     /// The certificate is refused.
@@ -29,6 +27,8 @@ pub enum Status {
     NetworkRefused(ReadNet),
     /// The certificate is longer than may be.
     CertTooLong,
+    /// A plan was printed, and its gap is above the asked one.
+    Stopped,
     /// The shelf failed.
     ReadFault,
     /// The sink failed.
@@ -47,10 +47,10 @@ impl Status {
         match self {
             Status::Closed | Status::Accepted => 0,
             Status::Refused(_) => 1,
-            Status::Stopped => 10,
             Status::Usage => 2,
             Status::NetworkRefused(_) => 3,
             Status::CertTooLong => 5,
+            Status::Stopped => 10,
             Status::ReadFault => 20,
             Status::WriteFault => 21,
             Status::OutOfMemory => 23,

@@ -71,6 +71,46 @@ const REFUSED: [(&str, u8, &str); 4] = [
     ),
 ];
 
+/// Words, parted at each space, and the code that they end with over one file of the name `net`.
+const WORDS: &str = "\
+solve net 0
+solve --nodes=1000 net --form pq --rule widest --gap 0.01 0
+solve net --form p 2
+solve net --nodes 20001 2
+solve net --journal j 2
+report net cert 2
+formulate net 2
+make 7 2
+trial 7 2
+help 2
+solve other 20
+check net other 20
+check other net 20
+";
+
+#[test]
+fn serves_what_it_can(rt: HostRuntime) -> Result<(), Fail> {
+    let alloc = rt.alloc();
+    for line in WORDS.lines() {
+        let (asked, code) = line.rsplit_once(' ').ok_or("a code")?;
+        let mut words = Vec::new(alloc);
+        for word in asked.split(' ') {
+            words.push(String::from_str(alloc, word)?)?;
+        }
+        let mut files = Vec::new(alloc);
+        files.push((
+            String::from_str(alloc, "net")?,
+            Vec::from_slice(alloc, ONE_PRODUCT.as_bytes())?,
+        ))?;
+        let mut shelf = MemShelf::new(files, Vec::new(alloc));
+        let mut sink = MemSink::new(alloc, Vec::new(alloc));
+        let status = run(alloc, &words, &mut shelf, &mut sink);
+        let ended = format!(in alloc; "{}", status.code())?;
+        assert_eq!(rt; ended.as_str(), code, "{asked}");
+    }
+    Ok(())
+}
+
 /// The status of `solve net` over one file of the name `net`, where the shelf's call of the number `failing` fails.
 fn solved(
     alloc: Global,

@@ -1,68 +1,65 @@
-//! What the words of the command line ask.
+//! What the words of the command line ask of the program.
 
-ghost use Rattle.std.specs.Prelude.{◌≡◌, length, map, string_bytes, IfSome, IfNone};
-ghost use Rattle.pool_cli.specs.Requests.{IsRequest};
-ghost use Rattle.pool_cli.specs.Words.{AskNothing, is_positional};
+ghost use Rattle.std.specs.Prelude.{◌≡◌, IfOk, Err, IfSome, IfNone, map, string_bytes};
+ghost use Rattle.cli_words.specs.Asks.{Asks};
+ghost use Rattle.cli_words.specs.Requests.{Asked};
+ghost use Rattle.cli_words.specs.Views.{shown_request};
+ghost use Rattle.pool_cli.specs.Ends.{IsServed, asked_of};
 
-/// Whether a word is a positional: it isn't empty and doesn't begin with a dash.
-fn is_positional(word: &str) -> bool
-    ensures { result ≡ is_positional word.now }
+use box_space::Form;
+use cli_words::{Request, RuleName, SolveWords, WordsFault, read_words};
+use std::alloc::Global;
+
+/// What the program does.
+#[derive(Debug, Drop)]
+pub(crate) enum Command {
+    /// To solve the network in the file of this name.
+    Solve(String),
+    /// To check a certificate: the names of the network's file and of the certificate's.
+    Check(String, String),
+}
+
+/// The command that the words ask.
+pub(crate) fn command_of(alloc: Global, words: &[String]) -> Result<Command, WordsFault>
+    ensures asks { IfOk result (λ c. Asks (map string_bytes words.now) (asked_of c)) }
+    ensures only { IfOk result (λ c. (asked : Asked) → Asks (map string_bytes words.now) asked → asked ≡ asked_of c) }
+    ensures usage { result ≡ Err WordsFault.Usage → (asked : Asked) → Asks (map string_bytes words.now) asked → ¬ IsServed asked }
 {
-    match word.as_bytes() {
-        [] => false,
-        [first, ..] => *first != b'-',
+    match read_words(alloc, words) {
+        Ok(request) => match served(request) {
+            Some(command) => Ok(command),
+            None => Err(WordsFault::Usage),
+        },
+        Err(fault) => Err(fault),
     }
 }
 
-/// What the words ask.
-pub(crate) enum Request<'a> {
-    /// To solve the network of this name.
-    Solve(&'a str),
-    /// To check a certificate: the name of the network, and that of the certificate.
-    Check(&'a str, &'a str),
-}
-
-/// What the words ask, where they ask something.
-pub(crate) fn asked(words: &[String]) -> Option<Request<'_>>
-    ensures asked { IfSome result (IsRequest (map string_bytes words.now)) }
-    ensures nothing { IfNone result (AskNothing (map string_bytes words.now)) }
+/// What of a request the program does today: `solve` by its defaults, and `check`.
+fn served(request: Request) -> Option<Command>
+    ensures some { IfSome result (λ c. shown_request request ≡ asked_of c) }
+    ensures none { IfNone result (¬ IsServed (shown_request request)) }
 {
-    if words.len() == 2 {
-        solve_asked(words)
-    } else if words.len() == 3 {
-        check_asked(words)
-    } else {
-        None
+    match request {
+        Request::Solve(words) => plain_solve(words),
+        Request::Check(net, cert) => Some(Command::Check(net, cert)),
+        _ => None,
     }
 }
 
-/// The name of the network that two words ask to solve, where they ask that.
-fn solve_asked(words: &[String]) -> Option<Request<'_>>
-    requires { length words.now ≡ 2 }
-    ensures asked { IfSome result (IsRequest (map string_bytes words.now)) }
-    ensures nothing { IfNone result (AskNothing (map string_bytes words.now)) }
+/// `solve`, where each option has its default: no search makes use of another yet.
+fn plain_solve(words: SolveWords) -> Option<Command>
+    ensures some { IfSome result (λ c. shown_request (Request.Solve words) ≡ asked_of c) }
+    ensures none { IfNone result (¬ IsServed (shown_request (Request.Solve words))) }
 {
-    let command = words[0].as_str();
-    let name = words[1].as_str();
-    if command == "solve" && is_positional(name) {
-        Some(Request::Solve(name))
-    } else {
-        None
-    }
-}
-
-/// The names of the network and the certificate that three words ask to check, where they ask that.
-fn check_asked(words: &[String]) -> Option<Request<'_>>
-    requires { length words.now ≡ 3 }
-    ensures asked { IfSome result (IsRequest (map string_bytes words.now)) }
-    ensures nothing { IfNone result (AskNothing (map string_bytes words.now)) }
-{
-    let command = words[0].as_str();
-    let net = words[1].as_str();
-    let cert = words[2].as_str();
-    if command == "check" && is_positional(net) && is_positional(cert) {
-        Some(Request::Check(net, cert))
-    } else {
-        None
+    match words {
+        SolveWords {
+            net,
+            form: Form::Pq,
+            nodes: 1000,
+            gap: 10_000_000_000,
+            journal: None,
+            rule: RuleName::Widest,
+        } => Some(Command::Solve(net)),
+        _ => None,
     }
 }
