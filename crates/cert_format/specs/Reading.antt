@@ -2,7 +2,7 @@
 use Rattle.std.specs.Prelude.{ℕ, ◌-◌, ◌^◌, List, [], ◌∷◌, get_or, Option, Some, None, Result, Ok, ◌==◌, if◌then◌else◌, codes, ℤ}
 use Rattle.pool_model.specs.Plan.{Written}
 use Rattle.pool_model.specs.Claim.{Claimed, with_gap, with_bound, no_plan}
-use Rattle.plan_core.specs.Shown.{written_of}
+use Rattle.plan_core.specs.Views.{shown_plan}
 use Rattle.row_model.specs.Multipliers.{Part}
 use Rattle.row_model.specs.Trees.{Split}
 use Rattle.cert_text.specs.declared.pieces.Ends.TheVariants.{Space, Line, LineIfZero}
@@ -105,7 +105,7 @@ pub data Opened : Type 0 where
 
 -- the same of the code
 abbrev pub opened : declared.Opening → Opened
-opened (openings.Gap plan) = with_plan (written_of plan)
+opened (openings.Gap plan) = with_plan (shown_plan plan)
 opened openings.Bound = bound_alone
 opened openings.NoPlan = none
 

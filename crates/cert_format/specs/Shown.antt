@@ -1,7 +1,7 @@
 -- A certificate, without where it lies in memory.
 use Rattle.std.specs.Prelude.{map}
 use Rattle.pool_model.specs.Claim.{Claimed, with_gap, with_bound, no_plan}
-use Rattle.plan_core.specs.Shown.{written_of}
+use Rattle.plan_core.specs.Views.{shown_plan}
 use Rattle.box_space.specs.Views.{shown_split, shown_proof}
 use Rattle.cert_format.specs.declared.certificate as declared
 use Rattle.cert_format.specs.declared.certificate.Claim.{Claim}
@@ -11,7 +11,7 @@ use Rattle.cert_format.specs.Cert.{Cert, NodeProof}
 
 -- what is claimed
 abbrev pub claimed : Claim → Claimed
-claimed (claims.Gap plan cost base bound gap) = with_gap (written_of plan) cost base bound gap
+claimed (claims.Gap plan cost base bound gap) = with_gap (shown_plan plan) cost base bound gap
 claimed (claims.Bound bound) = with_bound bound
 claimed claims.NoPlan = no_plan
 

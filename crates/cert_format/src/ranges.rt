@@ -2,7 +2,7 @@
 //! else.
 
 ghost use Rattle.std.specs.Prelude.{◌<◌, ◌^◌, All};
-ghost use Rattle.plan_core.specs.Shown.{written_of};
+ghost use Rattle.plan_core.specs.Views.{shown_plan};
 ghost use Rattle.box_space.specs.Views.{shown_part, shown_split};
 ghost use Rattle.cert_format.specs.Cert.{IsShaped, IsPlanInRange, IsClaimInRange, IsSplitInRange, IsPartInRange, IsProofInRange, IsCert};
 ghost use Rattle.cert_format.specs.Shown.{claimed, shown_node_proof, view};
@@ -48,7 +48,7 @@ fn claim(claim: &Claim)
 }
 
 fn plan(plan: &WrittenPlan)
-    ensures { IsPlanInRange (written_of plan.now) }
+    ensures { IsPlanInRange (shown_plan plan.now) }
 {
     let _base = plan.base;
     let _flow_base = plan.flow_base;

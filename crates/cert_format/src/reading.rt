@@ -2,7 +2,7 @@
 
 ghost use Rattle.std.specs.Prelude.{◌≡◌, ◌-◌, ◌^◌, length, get_or, codes, map, IfOk, IfErr, List, ℕ};
 ghost use Rattle.box_space.specs.Views.{shown_part, shown_split};
-ghost use Rattle.plan_core.specs.Shown.{written_of};
+ghost use Rattle.plan_core.specs.Views.{shown_plan};
 ghost use Rattle.cert_text.specs.Reading.{Gives, finished, whole, each_at};
 ghost use Rattle.cert_format.specs.Answers.{IsReadAs, IsTextFault, Yields, Closes, Comes};
 ghost use Rattle.cert_format.specs.Cert.{Cert, IsCert};
@@ -136,7 +136,7 @@ fn flows<S: Source>(alloc: Global, src: &mut S, name: &[u8], n: u32) -> Result<V
 /// The lines of a plan of this shape.
 #[tactic(auto, unfolding(crate::specs::Reading::plan_at))]
 fn plan<S: Source>(alloc: Global, src: &mut S, shape: &[u32; 7]) -> Result<WrittenPlan, Halt>
-    ensures { Yields written_of result (S.at src.new) (S.broken src.new) (plan_at shape.now (S.at src.old)) }
+    ensures { Yields shown_plan result (S.at src.new) (S.broken src.new) (plan_at shape.now (S.at src.old)) }
 {
     word(src, b"plan ")?;
     let base = u32_then(src, Ends::Space)?;
@@ -277,7 +277,7 @@ fn bound<S: Source>(src: &mut S) -> Result<i128, Stop>
 /// The lines of a cost, a bound and their gap, which has the base of the cost.
 #[tactic(auto, unfolding(crate::specs::Reading::gap_at))]
 fn gap<S: Source>(src: &mut S, plan: WrittenPlan) -> Result<Claim, Stop>
-    ensures { Gives claimed result (S.at src.new) (S.broken src.new) (gap_at (written_of plan) (S.at src.old)) }
+    ensures { Gives claimed result (S.at src.new) (S.broken src.new) (gap_at (shown_plan plan) (S.at src.old)) }
 {
     word(src, b"cost ")?;
     let cost = i128_then(src, Ends::Space)?;

@@ -5,7 +5,7 @@ ghost use Rattle.std.specs.List.{flat_map};
 ghost use Rattle.box_space.specs.Views.{shown_part, shown_split};
 ghost use Rattle.edge_io.specs.Counts.{Grows, Rose};
 ghost use Rattle.edge_io.specs.Writing.{Wrote};
-ghost use Rattle.plan_core.specs.Shown.{written_of};
+ghost use Rattle.plan_core.specs.Views.{shown_plan};
 ghost use Rattle.cert_format.specs.Cert.{IsShaped};
 ghost use Rattle.cert_format.specs.Shown.{claimed, shown_node_proof, view};
 ghost use Rattle.cert_format.specs.Text.{field, line, kind_of, head_lines, plan_lines, claimed_plan_lines, part_fields, split_line, split_lines, proof_line, proof_lines, gap_lines, number_lines, rest_lines, text_of};
@@ -80,7 +80,7 @@ fn write_head<K: Sink>(out: &mut K, cert: &Certificate) -> Result<(), WriteFault
 
 /// The lines of a plan.
 fn write_plan<K: Sink>(out: &mut K, plan: &WrittenPlan) -> Result<(), WriteFault>
-    ensures wrote { Wrote result (K.taken out.old) (plan_lines (written_of plan.now)) (K.taken out.new) }
+    ensures wrote { Wrote result (K.taken out.old) (plan_lines (shown_plan plan.now)) (K.taken out.new) }
     ensures failed { OnErr result (Rose (K.faults out.old) (K.faults out.new)) }
     ensures faults_grow { Grows (K.faults out.old) (K.faults out.new) }
 {

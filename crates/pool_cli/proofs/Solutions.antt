@@ -12,7 +12,7 @@ use Rattle.pool_model.proofs.Reach.{reach_bound-holds}
 use Rattle.pool_model.proofs.Paths.{path_at-way, path_at-every}
 use Rattle.pool_model.proofs.Starts.{zero-obeys, zero-cost, zero-written, direct-obeys, direct-written, direct-cost}
 use Rattle.pool_model.proofs.PathStarts.{path-obeys, path-written, path-cost}
-use Rattle.plan_core.specs.Shown.{way_of}
+use Rattle.plan_core.specs.Views.{shown_way}
 use Rattle.plan_core.specs.declared.plan.Way as plans
 use Rattle.plan_core.specs.declared.plan.Way.TheVariants.{Through, Direct}
 use Rattle.row_model.specs.Trees.{Split, IsTree}
@@ -100,7 +100,7 @@ direct_cheapest n e limited minima least = record {
 }
 
 -- the simple plan of the way that earns most
-pub way_cheapest : (n : Net) (w : Written) (way : plans.Way) (cost : ℤ) → IsLimited n → HasNoMinima n → IsLeastWay n (Some way) → w ≡ simple_plan n (way_of n way) → cost ≡ way_cost n way → IsCheapest n w cost
+pub way_cheapest : (n : Net) (w : Written) (way : plans.Way) (cost : ℤ) → IsLimited n → HasNoMinima n → IsLeastWay n (Some way) → w ≡ simple_plan n (shown_way n way) → cost ≡ way_cost n way → IsCheapest n w cost
 way_cheapest n w (Through a) cost limited minima least is costs =
     subst (λ (c : ℤ). IsCheapest n w c) (sym costs) (subst (λ (v : Written). IsCheapest n v (path_cost n a)) (sym is) (path_cheapest n a limited minima least))
 way_cheapest n w (Direct e) cost limited minima least is costs =

@@ -3,7 +3,7 @@
 ghost use Rattle.std.specs.Prelude.{◌≡◌, ◌≤◌, ◌^◌, ◌*◌, IfOk, unsigned_abs};
 ghost use Rattle.pool_model.specs.Network.{net_of};
 ghost use Rattle.pool_model.specs.Starting.{HasNoMinima};
-ghost use Rattle.plan_core.specs.Shown.{written_of};
+ghost use Rattle.plan_core.specs.Views.{shown_plan};
 ghost use Rattle.cert_format.specs.Cert.{IsCert};
 ghost use Rattle.cert_format.specs.Shown.{view};
 ghost use Rattle.pool_cli.specs.Solution.{IsSolution, IsCheapest};
@@ -45,7 +45,7 @@ pub(crate) fn solution_of(alloc: Global, net: &Network) -> Result<Solution, Memo
 /// The cheapest of the starting plans; at a tie the zero plan, then the first path, and then the first direct.
 fn cheapest_start(alloc: Global, net: &Network) -> Result<Start, Memory>
     requires { HasNoMinima (net_of net.now) }
-    ensures cheapest { IfOk result (λ s. IsCheapest (net_of net.now) (written_of s.plan) s.cost) }
+    ensures cheapest { IfOk result (λ s. IsCheapest (net_of net.now) (shown_plan s.plan) s.cost) }
     ensures size { IfOk result (λ s. unsigned_abs s.cost ≤ 2 * 10 ^ 24) }
 {
     match cheapest_way(net) {
@@ -62,7 +62,7 @@ fn cheapest_start(alloc: Global, net: &Network) -> Result<Start, Memory>
 
 /// The certificate that claims a start, beside the reach bound.
 fn claimed(alloc: Global, net: &Network, start: Start) -> Solution
-    requires cheapest { IsCheapest (net_of net.now) (written_of start.plan) start.cost }
+    requires cheapest { IsCheapest (net_of net.now) (shown_plan start.plan) start.cost }
     requires size { unsigned_abs start.cost ≤ 2 * 10 ^ 24 }
     ensures solved { IsSolution (net_of net.now) result.closed (view result.certificate) }
     ensures certificate { IsCert (view result.certificate) }

@@ -4,7 +4,7 @@ ghost use Rattle.std.specs.Prelude.{◌≡◌, ℕ, ◌<◌, ◌≤◌, ◌^◌,
 ghost use Rattle.pool_model.specs.Network.{net_of, IsLimited};
 ghost use Rattle.pool_model.specs.Paths.{paths_of};
 ghost use Rattle.pool_model.specs.Starting.{HasNoMinima};
-ghost use Rattle.plan_core.specs.Shown.{IsInRange};
+ghost use Rattle.plan_core.specs.Views.{IsInRange};
 ghost use Rattle.pool_cli.specs.Cheapest.{direct_cost as direct_cost_lem, path_cost as path_cost_lem, way_cost as way_cost_lem, IsLeastBelow, IsLeastWay};
 ghost use Rattle.pool_cli.specs.Solution.{HasMinimum};
 

@@ -7,7 +7,7 @@ use Rattle.std.proofs.lemmas.Int.{ints, to_z-of_z}
 use mir.Syntax.{w128}
 use mir.Val.{to_z, of_z}
 use Rattle.pool_model.specs.Network.{net_of}
-use Rattle.plan_core.specs.Shown.{written_of}
+use Rattle.plan_core.specs.Views.{shown_plan}
 use Rattle.pool_cli.proofs.Solutions.{claimed_solves}
 use Rattle.pool_cli.proofs.solution.claimed.Goals as goal
 
@@ -20,7 +20,7 @@ returns-clause-solved c =
     let gap : to_z w128 (of_z w128 (a -ℤ b)) ≡ a -ℤ b = omega (arith, ints, c.requires.size, c.reach_bound-bound.ensures.size) in
     let uncut : c.new.result.items ≡ [] = search rules in
     let unproved : c.new-2.result.items ≡ [] = search rules in
-    claimed_solves (net_of c.args.net.now) (written_of c.args.start.plan) c.args.start.cost c.reach_bound-bound.result a b (to_z w128 (of_z w128 (a -ℤ b))) c.counts.result (map shown_split c.new.result.items) (map shown_node_proof c.new-2.result.items)
+    claimed_solves (net_of c.args.net.now) (shown_plan c.args.start.plan) c.args.start.cost c.reach_bound-bound.result a b (to_z w128 (of_z w128 (a -ℤ b))) c.counts.result (map shown_split c.new.result.items) (map shown_node_proof c.new-2.result.items)
     c.counts.ensures.limited c.requires.cheapest c.reach_bound-bound.ensures.bound (to_z-of_z w128 c.args.start.cost cost) (to_z-of_z w128 c.reach_bound-bound.result bound) gap c.counts.ensures.counts (ap (map shown_split) uncut) (ap (map shown_node_proof) unproved)
 
 pub cert_law-requires : goal.cert_law-requires
