@@ -1,4 +1,3 @@
-mod Least
 mod Networks
 mod Outcomes
 mod Solutions

@@ -6,10 +6,10 @@ use Rattle.pool_model.specs.Rows.{Rows}
 use Rattle.pool_model.specs.Naming.{network_of}
 use Rattle.pool_model.specs.Network.{Network, net_of}
 use Rattle.pool_model.specs.Starting.{HasNoMinima}
-use Rattle.blend_network.specs.Faults.{IsFaultless}
-use Rattle.blend_network.specs.FirstFault.{Holds}
-use Rattle.blend_network.specs.declared.network.build.NetFault.{NetFault}
-use Rattle.blend_network.specs.declared.network.build.NetFault.TheVariants as faults
+use Rattle.network_parts.specs.Faults.{IsFaultless}
+use Rattle.network_parts.specs.FirstFault.{Holds}
+use Rattle.network_parts.specs.declared.fault.NetFault.{NetFault}
+use Rattle.network_parts.specs.declared.fault.NetFault.TheVariants as faults
 use Rattle.network_json.specs.declared.fault.ReadNet.{ReadNet}
 use Rattle.network_json.specs.declared.fault.ReadNet.TheVariants as causes
 use Rattle.network_json.specs.Reading.{IsRefusal}

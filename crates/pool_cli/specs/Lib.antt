@@ -1,4 +1,3 @@
-pub mod Cheapest
 pub mod CheckEnds
 pub mod Ends
 pub mod Messages

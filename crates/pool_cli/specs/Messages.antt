@@ -1,7 +1,7 @@
 -- The code of each status, and its line on standard error.
 use Rattle.std.specs.Prelude.{ℕ, List, [], ◌++◌, codes, pos}
 use Rattle.std.specs.Fmt.{signed_decimal}
-use Rattle.blend_network.specs.FirstFault as faults
+use Rattle.network_parts.specs.FirstFault as faults
 use Rattle.network_json.specs.declared.fault.ReadNet.{ReadNet}
 use Rattle.network_json.specs.declared.fault.ReadNet.TheVariants as causes
 use Rattle.pool_cli.specs.declared.status.Status.{Status}
@@ -35,7 +35,7 @@ cause_number causes.Memory = 10
 
 -- what a line says of a reason: its number, and where rows are refused the number of their fault behind it
 abbrev pub reason_of : ReadNet → List ℕ
-reason_of (causes.Net fault) = codes "9 " ++ signed_decimal (pos (faults.cause_number fault))
+reason_of (causes.Net fault) = codes "9 " ++ signed_decimal (pos (faults.number fault))
 reason_of cause = signed_decimal (pos (cause_number cause))
 
 -- the line on standard error

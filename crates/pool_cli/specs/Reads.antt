@@ -2,7 +2,7 @@
 use Rattle.std.specs.Prelude.{◌≡◌, ◌≢◌, ℕ, List, Option, Some}
 use Rattle.edge_io.specs.Files.{file_of, HasFile, IsTooLong}
 use Rattle.pool_model.specs.Network.{Network}
-use Rattle.blend_network.specs.declared.network.build.NetFault.TheVariants as faults
+use Rattle.network_parts.specs.declared.fault.NetFault.TheVariants as faults
 use Rattle.network_json.specs.declared.fault.ReadNet.{ReadNet}
 use Rattle.network_json.specs.declared.fault.ReadNet.TheVariants as causes
 use Rattle.network_json.specs.Reading.{IsRefusal, ReadAs}

@@ -16,7 +16,6 @@ mod command;
 mod reading;
 mod solution;
 mod solve;
-mod starting;
 mod status;
 mod verdict;
 mod words;

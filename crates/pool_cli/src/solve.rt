@@ -10,8 +10,7 @@ ghost use Rattle.pool_cli.specs.SolveEnds.{AnswersUnder, IsPrinted, SolveEnds, S
 ghost use Rattle.pool_cli.specs.Took.{Took};
 
 use crate::reading::{Unread, network_under};
-use crate::solution::{Solution, solution_of};
-use crate::starting::has_minimum;
+use crate::solution::{Solution, has_minimum, solution_of};
 use crate::status::Status;
 use blend_network::Network;
 use cert_format::write_cert;

@@ -4,7 +4,7 @@ ghost use Rattle.std.specs.Prelude.{◌≡◌, ◌++◌, codes, pos, OnErr};
 ghost use Rattle.std.specs.Fmt.{signed_decimal};
 ghost use Rattle.edge_io.specs.Counts.{Grows, Rose};
 ghost use Rattle.edge_io.specs.Writing.{Wrote};
-ghost use Rattle.blend_network.specs.FirstFault as faults;
+ghost use Rattle.network_parts.specs.FirstFault as faults;
 ghost use Rattle.pool_cli.specs.Messages.{cause_number, code_of, message_of, reason_of};
 
 use blend_network::NetFault;
@@ -107,7 +107,7 @@ fn write_reason<K: Sink>(cause: &ReadNet, err: &mut K) -> Result<(), WriteFault>
 
 /// Writes the number of that cause, and behind it the number of the rows' fault.
 fn write_rows_fault<K: Sink>(fault: &NetFault, err: &mut K) -> Result<(), WriteFault>
-    ensures wrote { Wrote result (K.taken err.old) (codes "9 " ++ signed_decimal (pos (faults.cause_number fault.now))) (K.taken err.new) }
+    ensures wrote { Wrote result (K.taken err.old) (codes "9 " ++ signed_decimal (pos (faults.number fault.now))) (K.taken err.new) }
     ensures failed { OnErr result (Rose (K.faults err.old) (K.faults err.new)) }
     ensures faults_grow { Grows (K.faults err.old) (K.faults err.new) }
 {
@@ -135,7 +135,7 @@ fn number_of(cause: &ReadNet) -> i128
 
 /// The number of a fault of rows.
 fn fault_number(fault: &NetFault) -> i128
-    ensures { result ≡ pos (faults.cause_number fault.now) }
+    ensures { result ≡ pos (faults.number fault.now) }
 {
     match fault {
         NetFault::TooMany(_) => 1,
