@@ -1,6 +1,6 @@
 //! A shelf in memory.
 
-ghost use Rattle.std.specs.Prelude.{◌≡◌, ◌+◌, ◌-◌, ◌^◌, ◌≤◌, ◌⊎◌, Some, None, true, min, vec_len, Contains, IfOk};
+ghost use Rattle.std.specs.Prelude.{◌≡◌, ◌+◌, ◌-◌, ◌^◌, ◌≤◌, ◌⊎◌, Some, None, true, min, vec_len, Contains, IfOk, OnErr};
 ghost use Rattle.std.specs.Option.{option_copied};
 ghost use Rattle.edge_io.specs.Counts.{Grows, Rose};
 ghost use Rattle.edge_io.specs.Files.{file_of, HasMore};
@@ -82,6 +82,10 @@ impl Shelf for MemShelf {
             Contains (failing_of self.old) (calls_of self.old) ⊎ (file_of (contents_of self.old) name.now ≡ None) }
         ensures next { calls_of self.new ≡ min (calls_of self.old + 1) (2 ^ 64 - 1) }
         ensures same { failing_of self.new ≡ failing_of self.old }
+
+        // The bytes of a file that is given are counted.
+        ensures counted { IfOk result (λ v. taken_of self.new ≡ min (taken_of self.old + vec_len v) (2 ^ 64 - 1)) }
+        ensures uncounted { OnErr result (taken_of self.new ≡ taken_of self.old) }
     {
         let call = self.calls;
         self.calls = call.saturating_add(1);
