@@ -23,7 +23,8 @@ pub all_rows : {X Y : Type 0} (P : Y → Type 0) (f : X → Y) (d : Y) (xs : Lis
 all_rows P f d xs h k e within = subst P (get_or-map f xs k e d within) (h k (omega (arith, length-map xs f, within)))
 
 -- two networks of the same lists are one
-pub same_network : (a b : Network) → a.qualities ≡ b.qualities → a.sources ≡ b.sources → a.pools ≡ b.pools → a.products ≡ b.products → a.feeds ≡ b.feeds → a.outs ≡ b.outs → a.directs ≡ b.directs → a ≡ b
+pub same_network : (a b : Network) → a.qualities ≡ b.qualities → a.sources ≡ b.sources → a.pools ≡ b.pools
+    → a.products ≡ b.products → a.feeds ≡ b.feeds → a.outs ≡ b.outs → a.directs ≡ b.directs → a ≡ b
 same_network a b q s l p f o d = λ i. record { qualities = q i; sources = s i; pools = l i; products = p i; feeds = f i; outs = o i; directs = d i }
 
 supply_within : (max : Option ℤ) (st : ℤ) → ForSome max (IsUpTo (10 ^ 14)) → IsUpTo (10 ^ 14) st → unsigned_abs (unwrap_or max st) ≤ 10 ^ 14
@@ -85,7 +86,9 @@ limited r arcs rect checked up =
       product_maxima = λ j h. subst (λ (p : Product). p.max ≤ 10 ^ 12) (at_p j h) (amount_within (10 ^ 12) (get_or r.products j no_product_row).max (p_in j h).max);
       least_limits = λ j k u h m is. (p_in j h).least k None (omega (arith, rect.least j no_product_row (here_p j h), m)) u (ap (λ (p : Product). get_or p.least k None) (at_p j h) ∙ is);
       most_limits = λ j k u h m is. (p_in j h).most k None (omega (arith, rect.most j no_product_row (here_p j h), m)) u (ap (λ (p : Product). get_or p.most k None) (at_p j h) ∙ is);
-      limits_in_order = λ j k a b h m low high. (checked.ranges.orderly j (here_p j h)).limits k a b (ap (λ (p : Product). get_or p.least k None) (at_p j h) ∙ low) (ap (λ (p : Product). get_or p.most k None) (at_p j h) ∙ high);
+      limits_in_order = λ j k a b h m low high. (checked.ranges.orderly j (here_p j h)).limits k a b
+          (ap (λ (p : Product). get_or p.least k None) (at_p j h) ∙ low)
+          (ap (λ (p : Product). get_or p.most k None) (at_p j h) ∙ high);
       fed = λ l h. one_of (λ a. a.to) l (network_of r).feeds (λ all. checked.faultless.inputs l (here_l l h, all));
       drained = λ l h. one_of (λ a. a.from) l (network_of r).outs (λ all. checked.faultless.outputs l (here_l l h, all));
     }

@@ -17,7 +17,8 @@ found_again : (froms tos : List (List ℕ)) (a : Arc) → IsFresh [] froms → I
 found_again froms tos a f t is = rw (own_number froms a.from f is.from, own_number tos a.to t is.to) refl
 
 -- the arcs of a kind are found again
-pub kind_again : (froms tos : List (List ℕ)) (arcs : List Arc) → IsFresh [] froms → IsFresh [] tos → All (IsBetween froms tos) arcs → filter_map (arc_between froms tos) (map (canonical_arc froms tos) arcs) ≡ arcs
+pub kind_again : (froms tos : List (List ℕ)) (arcs : List Arc) → IsFresh [] froms → IsFresh [] tos
+    → All (IsBetween froms tos) arcs → filter_map (arc_between froms tos) (map (canonical_arc froms tos) arcs) ≡ arcs
 kind_again froms tos [] f t all = refl
 kind_again froms tos (a ∷ arcs) f t all =
     rw (found_again froms tos a f t (All-head (IsBetween froms tos) a arcs all), kind_again froms tos arcs f t (All-tail (IsBetween froms tos) a arcs all)) refl
@@ -42,12 +43,14 @@ none_kept f g P [] all h = refl
 none_kept f g P (a ∷ arcs) all h = rw (h a (All-head P a arcs all), none_kept f g P arcs (All-tail P a arcs all) h) refl
 
 -- arcs that start elsewhere, and arcs that end elsewhere
-pub other_starts : (froms tos froms' tos' : List (List ℕ)) (arcs : List Arc) → AreDisjoint froms' froms → All (IsBetween froms' tos') arcs → filter_map (arc_between froms tos) (map (canonical_arc froms' tos') arcs) ≡ []
+pub other_starts : (froms tos froms' tos' : List (List ℕ)) (arcs : List Arc) → AreDisjoint froms' froms
+    → All (IsBetween froms' tos') arcs → filter_map (arc_between froms tos) (map (canonical_arc froms' tos') arcs) ≡ []
 other_starts froms tos froms' tos' arcs apart all =
     none_kept (arc_between froms tos) (canonical_arc froms' tos') (IsBetween froms' tos') arcs all
     (λ a is. other_start froms tos (canonical_arc froms' tos' a) (apart (get_or froms' a.from []) (Contains-get_or froms' a.from [] is.from)))
 
-pub other_ends : (froms tos froms' tos' : List (List ℕ)) (arcs : List Arc) → AreDisjoint tos' tos → All (IsBetween froms' tos') arcs → filter_map (arc_between froms tos) (map (canonical_arc froms' tos') arcs) ≡ []
+pub other_ends : (froms tos froms' tos' : List (List ℕ)) (arcs : List Arc) → AreDisjoint tos' tos
+    → All (IsBetween froms' tos') arcs → filter_map (arc_between froms tos) (map (canonical_arc froms' tos') arcs) ≡ []
 other_ends froms tos froms' tos' arcs apart all =
     none_kept (arc_between froms tos) (canonical_arc froms' tos') (IsBetween froms' tos') arcs all
     (λ a is. other_end froms tos (canonical_arc froms' tos' a) (apart (get_or tos' a.to []) (Contains-get_or tos' a.to [] is.to)))
@@ -153,7 +156,9 @@ module _ (s p d : List (List ℕ)) (feeds outs directs : List Arc) (are : AreJoi
   apart : (xs ys : List (List ℕ)) → AreDisjoint xs ys → AreDisjoint ys xs
   apart xs ys h name a b = h name b a
 
-  parts : (f : List ℕ × List ℕ → Option Arc) → filter_map f (all_named s p d feeds outs directs) ≡ filter_map f (map (canonical_arc s p) feeds) ++ filter_map f (map (canonical_arc p d) outs) ++ filter_map f (map (canonical_arc s d) directs)
+  parts : (f : List ℕ × List ℕ → Option Arc)
+      → filter_map f (all_named s p d feeds outs directs) ≡ filter_map f (map (canonical_arc s p) feeds) ++ filter_map f
+      (map (canonical_arc p d) outs) ++ filter_map f (map (canonical_arc s d) directs)
   parts f =
       filter_map-append f (map (canonical_arc s p) feeds ++ map (canonical_arc p d) outs) (map (canonical_arc s d) directs)
       ∙ ap (λ xs. xs ++ filter_map f (map (canonical_arc s d) directs)) (filter_map-append f (map (canonical_arc s p) feeds) (map (canonical_arc p d) outs))
@@ -188,12 +193,16 @@ module _ (s p d : List (List ℕ)) (feeds outs directs : List Arc) (are : AreJoi
   starts_in : (froms tos : List (List ℕ)) (arcs : List Arc) → All (IsBetween froms tos) arcs → (z : List ℕ × List ℕ) → Contains (map (canonical_arc froms tos) arcs) z → Contains froms z.0
   starts_in froms tos arcs all z there =
       All-contains (λ x. Contains froms x.0) (map (canonical_arc froms tos) arcs) z
-      (All-map (λ x. Contains froms x.0) (canonical_arc froms tos) arcs (All-weaker (IsBetween froms tos) (λ a. Contains froms (get_or froms a.from [])) (λ a is. Contains-get_or froms a.from [] is.from) arcs all)) there
+      (All-map (λ x. Contains froms x.0) (canonical_arc froms tos) arcs
+      (All-weaker (IsBetween froms tos) (λ a. Contains froms (get_or froms a.from []))
+      (λ a is. Contains-get_or froms a.from [] is.from) arcs all)) there
 
   ends_in : (froms tos : List (List ℕ)) (arcs : List Arc) → All (IsBetween froms tos) arcs → (z : List ℕ × List ℕ) → Contains (map (canonical_arc froms tos) arcs) z → Contains tos z.1
   ends_in froms tos arcs all z there =
       All-contains (λ x. Contains tos x.1) (map (canonical_arc froms tos) arcs) z
-      (All-map (λ x. Contains tos x.1) (canonical_arc froms tos) arcs (All-weaker (IsBetween froms tos) (λ a. Contains tos (get_or tos a.to [])) (λ a is. Contains-get_or tos a.to [] is.to) arcs all)) there
+      (All-map (λ x. Contains tos x.1) (canonical_arc froms tos) arcs
+      (All-weaker (IsBetween froms tos) (λ a. Contains tos (get_or tos a.to []))
+      (λ a is. Contains-get_or tos a.to [] is.to) arcs all)) there
 
   pub all_once : IsOnce (map (canonical_arc s p) feeds) → IsOnce (map (canonical_arc p d) outs) → IsOnce (map (canonical_arc s d) directs) → IsOnce (all_named s p d feeds outs directs)
   all_once f o x =

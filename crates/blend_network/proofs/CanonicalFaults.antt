@@ -178,7 +178,8 @@ module _ (r : Rows) (ok : IsFaultless r) where
       ]
 
   -- what holds of the ends of no arc of the file holds of none here
-  none_here : (P : List ℕ × List ℕ → Type 0) → ((m : ℕ) → m < length r.arcs → ¬ P (ends_of r m)) → (i : ℕ) → i < length (canonical_arcs (network_of r)) → ¬ P (ends_of (canonical_rows (network_of r)) i)
+  none_here : (P : List ℕ × List ℕ → Type 0) → ((m : ℕ) → m < length r.arcs → ¬ P (ends_of r m)) → (i : ℕ)
+      → i < length (canonical_arcs (network_of r)) → ¬ P (ends_of (canonical_rows (network_of r)) i)
   none_here P none i h bad =
       let x = ends_of (canonical_rows (network_of r)) i in
       let at = from_file x (Contains-get_or (canonical_arcs (network_of r)) i ([], []) h) in
@@ -193,7 +194,9 @@ module _ (r : Rows) (ok : IsFaultless r) where
   not_backwards i bad =
       none_here (λ e. Contains (product_names r) e.0 ⊎ Contains (source_names r) e.1) (λ m h b. ok.forward m (h, b)) i bad.0
       (subst (λ names. Contains names (ends_of (canonical_rows (network_of r)) i).0 ⊎ Contains (source_names r) (ends_of (canonical_rows (network_of r)) i).1) (products_same r ok)
-      (subst (λ names. Contains (product_names (canonical_rows (network_of r))) (ends_of (canonical_rows (network_of r)) i).0 ⊎ Contains names (ends_of (canonical_rows (network_of r)) i).1) (sources_same r ok) bad.1))
+      (subst (λ names. Contains (product_names (canonical_rows (network_of r)))
+      (ends_of (canonical_rows (network_of r)) i).0 ⊎ Contains names (ends_of (canonical_rows (network_of r)) i).1)
+      (sources_same r ok) bad.1))
 
   not_between_pools : (i : ℕ) → ¬ IsPoolToPool (canonical_rows (network_of r)) i
   not_between_pools i bad =

@@ -15,7 +15,15 @@ IsFresh before names = (n : ℕ) → ¬ IsRepeatAt before names n
 
 not_again : (names : List (List ℕ)) (i j : ℕ) → IsFresh [] names → i < j → j < length names → get_or names i [] ≡ get_or names j [] → ⊥
 not_again names i j fresh lt within e =
-    fresh j (within, (i, omega (arith, lt, length-take-le j names (omega (arith, within))), get_or-take j names i (get_or names j []) lt ∙ get_or_default names i (get_or names j []) [] (omega (arith, lt, within)) ∙ e))
+    fresh j (
+      within,
+      (
+        i,
+        omega (arith, lt, length-take-le j names (omega (arith, within))),
+        get_or-take j names i
+            (get_or names j []) lt ∙ get_or_default names i (get_or names j []) [] (omega (arith, lt, within)) ∙ e,
+      ),
+    )
 
 one_place : (names : List (List ℕ)) (i j : ℕ) → IsFresh [] names → i < length names → j < length names → get_or names i [] ≡ get_or names j [] → i ≡ j
 one_place names i j fresh hi hj e =

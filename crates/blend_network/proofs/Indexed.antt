@@ -128,7 +128,9 @@ kept_known r arcs found limited key nodes is i lt =
     omega (arith, key_is r arcs found key i lt, key_known (net_of (network_of r)) limited key i there, is)
 
 -- the groups of one key more
-pub index_more : (n : Net) (was now : List (List (List ℕ))) (i : ℕ) (groups : List (List ℕ)) → was ≡ map (groups_by n) (take i keys) → i < 9 → groups ≡ groups_by n (get_or keys i FeedsFrom) → now ≡ was ++ groups ∷ []
+pub index_more : (n : Net) (was now : List (List (List ℕ))) (i : ℕ) (groups : List (List ℕ))
+    → was ≡ map (groups_by n) (take i keys) → i < 9 → groups ≡ groups_by n (get_or keys i FeedsFrom)
+    → now ≡ was ++ groups ∷ []
     → now ≡ map (groups_by n) (take (i + 1) keys)
 index_more n was now i groups is lt here more =
     more

@@ -19,7 +19,8 @@ use Rattle.blend_network.specs.declared.network.Product.{Product}
 use Rattle.blend_network.specs.declared.network.limits.Limits.{Limits}
 
 -- one limit more
-pub limit_more : (values : List (Option ℤ)) (j k : ℕ) (z : ℤ) (was now : List Limit) (old : List limits.Limit) → map shown_limit was ≡ old ++ product_limits (λ _ q. get_or values q None) k j → get_or values k None ≡ Some z
+pub limit_more : (values : List (Option ℤ)) (j k : ℕ) (z : ℤ) (was now : List Limit) (old : List limits.Limit)
+    → map shown_limit was ≡ old ++ product_limits (λ _ q. get_or values q None) k j → get_or values k None ≡ Some z
     → now ≡ was ++ record { product = j; quality = k; limit = z } ∷ [] → map shown_limit now ≡ old ++ product_limits (λ _ q. get_or values q None) (k + 1) j
 limit_more values j k z was now old is set pushed =
     let u : Limit = record { product = j; quality = k; limit = z } in
@@ -29,12 +30,14 @@ limit_more values j k z was now old is set pushed =
     ∙ append_assoc old (product_limits (λ _ q. get_or values q None) k j) (shown_limit u ∷ [])
     ∙ ap (λ us. old ++ us) (sym (product_limits-some (λ _ q. get_or values q None) j k z set))
 
-pub limit_none : (values : List (Option ℤ)) (j k : ℕ) (was : List Limit) (old : List limits.Limit) → map shown_limit was ≡ old ++ product_limits (λ _ q. get_or values q None) k j → get_or values k None ≡ None
+pub limit_none : (values : List (Option ℤ)) (j k : ℕ) (was : List Limit) (old : List limits.Limit)
+    → map shown_limit was ≡ old ++ product_limits (λ _ q. get_or values q None) k j → get_or values k None ≡ None
     → map shown_limit was ≡ old ++ product_limits (λ _ q. get_or values q None) (k + 1) j
 limit_none values j k was old is unset = is ∙ ap (λ us. old ++ us) (sym (product_limits-none (λ _ q. get_or values q None) j k unset))
 
 -- one product more
-pub product_more : (products : List model.Product) (side : LimitSide) (values : List (Option ℤ)) (qualities j : ℕ) (was now : List limits.Limit) → was ≡ limits.limits (product_limit products side) j qualities
+pub product_more : (products : List model.Product) (side : LimitSide) (values : List (Option ℤ)) (qualities j : ℕ)
+    (was now : List limits.Limit) → was ≡ limits.limits (product_limit products side) j qualities
     → values ≡ limits_in (get_or products j no_product) side → length values ≡ qualities → now ≡ was ++ product_limits (λ _ k. get_or values k None) (length values) j
     → now ≡ limits.limits (product_limit products side) (j + 1) qualities
 product_more products side values qualities j was now is at wide made =
@@ -45,7 +48,9 @@ product_more products side values qualities j was now is at wide made =
     ∙ sym (limits-more (product_limit products side) qualities j)
 
 -- the products of a file have a limit or none for each quality
-pub products_wide : (r : Rows) (products : List Product) (side : LimitSide) → IsRectangular r → map shown_product products ≡ (network_of r).products → All (λ p. length (limits_in (shown_product p) side) ≡ length r.qualities) products
+pub products_wide : (r : Rows) (products : List Product) (side : LimitSide) → IsRectangular r
+    → map shown_product products ≡ (network_of r).products
+    → All (λ p. length (limits_in (shown_product p) side) ≡ length r.qualities) products
 products_wide r products side rect is k d lt =
     let there : k < length r.products = omega (arith, ap length is, length-map products shown_product, length-map r.products product_of, lt) in
     ap (λ (p : model.Product). length (limits_in p side))
@@ -79,7 +84,9 @@ pub few_limits : (n : Net) (side : LimitSide) (us : List Limit) → IsLimited n 
 few_limits n side us limited is =
     omega (arith, sym (length-map us shown_limit), ap length is, length-limits (limit_of n side) n.products n.qualities, mul-le-mul limited.products limited.qualities)
 
-pub limits_known : (n : Net) (side : LimitSide) (us : List Limit) → map shown_limit us ≡ side_limits n side → (k : ℕ) (d : Limit) → k < length us → ((get_or us k d).product < n.products) × ((get_or us k d).quality < n.qualities)
+pub limits_known : (n : Net) (side : LimitSide) (us : List Limit) → map shown_limit us ≡ side_limits n side
+    → (k : ℕ) (d : Limit) → k < length us
+    → ((get_or us k d).product < n.products) × ((get_or us k d).quality < n.qualities)
 limits_known n side us is k d lt =
     let there : k < length (side_limits n side) = omega (arith, ap length is, length-map us shown_limit, lt) in
     let at : get_or (side_limits n side) k no_limit ≡ shown_limit (get_or us k d) = ap (λ xs. get_or xs k no_limit) (sym is) ∙ get_or-map shown_limit us k d no_limit lt in

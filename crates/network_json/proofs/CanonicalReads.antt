@@ -37,7 +37,8 @@ AreDistinct (n ∷ ns) = AllByRecursion (λ m. m ≢ n) ns × AreDistinct ns
 -- ---- lists
 
 -- each item is read as the row that it stands for
-pub each_read : {A X Y : Type 0} (w : ℕ → A → Result Y ReadNet) (f : X → A) (g : X → Y) (xs : List X) (n : ℕ) → AllByRecursion (λ x. (k : ℕ) → w k (f x) ≡ Ok (g x)) xs → each w n (map f xs) ≡ Ok (map g xs)
+pub each_read : {A X Y : Type 0} (w : ℕ → A → Result Y ReadNet) (f : X → A) (g : X → Y) (xs : List X) (n : ℕ)
+    → AllByRecursion (λ x. (k : ℕ) → w k (f x) ≡ Ok (g x)) xs → each w n (map f xs) ≡ Ok (map g xs)
 each_read w f g [] n h = refl
 each_read w f g (x ∷ xs) n h = rw (h.0 n, each_read w f g xs (n + 1) h.1) refl
 
@@ -154,7 +155,8 @@ unfolding limit
 limit_there at None o e h = rw e refl
 limit_there at (Some q) o e h = rw (e, h at) refl
 
-each_limit : (at : Place) (ms : Members) (i : ℕ) (ns : List (List ℕ)) (qs : List (Option ℤ)) → Holds ms ns qs → AllByRecursion IsSetRead qs → each (λ n k. allows k None (limit at) (object ms)) i ns ≡ Ok qs
+each_limit : (at : Place) (ms : Members) (i : ℕ) (ns : List (List ℕ)) (qs : List (Option ℤ)) → Holds ms ns qs
+    → AllByRecursion IsSetRead qs → each (λ n k. allows k None (limit at) (object ms)) i ns ≡ Ok qs
 each_limit at ms i [] [] h are = refl
 each_limit at ms i [] (q ∷ qs) h are = absurd h
 each_limit at ms i (n ∷ ns) [] h are = absurd h
@@ -172,7 +174,8 @@ all_there ms [] qs h = refl
 all_there ms (n ∷ ns) [] h = absurd h
 all_there ms (n ∷ ns) (q ∷ qs) h = rw h.0 (all_there ms ns qs h.1)
 
-each_quality : (at : Place) (ms : Members) (i : ℕ) (ns : List (List ℕ)) (qs : List ℤ) → Holds ms ns (map Some qs) → AllByRecursion IsRead qs → each (λ n k. needs at k (quantity at) (object ms)) i ns ≡ Ok qs
+each_quality : (at : Place) (ms : Members) (i : ℕ) (ns : List (List ℕ)) (qs : List ℤ) → Holds ms ns (map Some qs)
+    → AllByRecursion IsRead qs → each (λ n k. needs at k (quantity at) (object ms)) i ns ≡ Ok qs
 unfolding present
 each_quality at ms i [] [] h are = refl
 each_quality at ms i [] (q ∷ qs) h are = absurd h
@@ -184,7 +187,9 @@ unfolding quality object_at
 quality_read at ns qs distinct len are =
     let held = holds ns (map Some qs) distinct (length-map qs Some ∙ len) in
     let known : list_all (λ k. is_among ns k || is_among [] k) (names_in (set_members ns (map Some qs))) ≡ true
-    = set_known (λ k. is_among ns k || is_among [] k) ns (map Some qs) (list_all_weaker (is_among ns) (λ k. is_among ns k || is_among [] k) ns (λ k h. or_left (is_among ns k) (is_among [] k) h) (all_among ns)) in
+    = set_known (λ k. is_among ns k || is_among [] k) ns (map Some qs)
+    (list_all_weaker (is_among ns) (λ k. is_among ns k || is_among [] k) ns
+    (λ k h. or_left (is_among ns k) (is_among [] k) h) (all_among ns)) in
     rw (known, all_there (set_members ns (map Some qs)) ns qs held) (each_quality at (set_members ns (map Some qs)) 0 ns qs held are)
 
 -- ---- rows
@@ -262,9 +267,17 @@ network_read n are =
     rw (
       list_read Qualities text string (λ x. x) qs (each_always (λ x. (k : ℕ) → text (place Qualities k) (string x) ≡ Ok x) qs (λ x k. text_read x (place Qualities k))),
       same_list qs,
-      list_read Sources (source qs) (source_data qs) canonical_source n.sources (each_by (IsSourceRead qs) (λ s. (k : ℕ) → source qs (place Sources k) (source_data qs s) ≡ Ok (canonical_source s)) n.sources (λ s h k. source_read qs s are.distinct h (place Sources k)) are.sources),
-      list_read Pools pool pool_data canonical_pool n.pools (each_by (λ p. IsRead (pos p.max)) (λ p. (k : ℕ) → pool (place Pools k) (pool_data p) ≡ Ok (canonical_pool p)) n.pools (λ p h k. pool_read p h (place Pools k)) are.pools),
-      list_read Products (product qs) (product_data qs) canonical_product n.products (each_by (IsProductRead qs) (λ p. (k : ℕ) → product qs (place Products k) (product_data qs p) ≡ Ok (canonical_product p)) n.products (λ p h k. product_read qs p are.distinct h (place Products k)) are.products),
+      list_read Sources (source qs) (source_data qs) canonical_source n.sources
+          (each_by (IsSourceRead qs) (λ s. (k : ℕ)
+          → source qs (place Sources k) (source_data qs s) ≡ Ok (canonical_source s)) n.sources
+          (λ s h k. source_read qs s are.distinct h (place Sources k)) are.sources),
+      list_read Pools pool pool_data canonical_pool n.pools
+          (each_by (λ p. IsRead (pos p.max)) (λ p. (k : ℕ) → pool (place Pools k) (pool_data p) ≡ Ok (canonical_pool p))
+          n.pools (λ p h k. pool_read p h (place Pools k)) are.pools),
+      list_read Products (product qs) (product_data qs) canonical_product n.products
+          (each_by (IsProductRead qs) (λ p. (k : ℕ)
+          → product qs (place Products k) (product_data qs p) ≡ Ok (canonical_product p)) n.products
+          (λ p h k. product_read qs p are.distinct h (place Products k)) are.products),
       list_read Arcs arc arc_data (λ x. x) arcs (each_always (λ x. (k : ℕ) → arc (place Arcs k) (arc_data x) ≡ Ok x) arcs (λ x k. arc_read x (place Arcs k))),
       same_list arcs,
     ) refl

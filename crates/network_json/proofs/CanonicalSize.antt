@@ -132,7 +132,15 @@ comma_short false = omega arith
 items_short : (k a : ℕ) (later : Bool) (ds : List Data) → AllByRecursion (IsSmall k a) ds → length (items_text later (items_of ds)) ≤ 1 + length ds * (a + 1)
 items_short k a later [] h = omega arith
 items_short k a later (d ∷ ds) h =
-    omega (arith, length-append (comma_if later) (compact_text d ++ items_text true (items_of ds)), length-append (compact_text d) (items_text true (items_of ds)), comma_short later, h.0.short, items_short k a true ds h.1)
+    omega (
+      arith,
+      length-append (comma_if later) (compact_text d ++ items_text true (items_of ds)),
+      length-append
+          (compact_text d) (items_text true (items_of ds)),
+      comma_short later,
+      h.0.short,
+      items_short k a true ds h.1,
+    )
 
 all_mapped : {X : Type 0} (P : Data → Type 0) (f : X → Data) (xs : List X) → AllByRecursion (λ x. P (f x)) xs → AllByRecursion P (map f xs)
 all_mapped P f [] h = tt
@@ -314,15 +322,21 @@ pub network_small : (n : Network) → IsAllShort n → IsSmall 4 1048576 (networ
 network_small n are =
     let qs = n.qualities in
     let arcs : IsSmall 3 125186 (list_data arc_data (canonical_arcs n)) =
-    raised 3 (omega arith) (list_small 1 488 256 arc_data (canonical_arcs n) (each_by AreShortEnds (λ e. IsSmall 1 488 (arc_data e)) (canonical_arcs n) (λ e h. arc_small e h.from h.to) are.arcs) are.few_arcs) in
+    raised 3 (omega arith) (list_small 1 488 256 arc_data (canonical_arcs n)
+    (each_by AreShortEnds (λ e. IsSmall 1 488 (arc_data e)) (canonical_arcs n) (λ e h. arc_small e h.from h.to)
+    are.arcs) are.few_arcs) in
     let pools : IsSmall 3 6386 (list_data pool_data n.pools) =
     raised 3 (omega arith) (list_small 1 398 16 pool_data n.pools (each_by IsPoolShort (λ p. IsSmall 1 398 (pool_data p)) n.pools pool_small are.pools) are.few_pools) in
     let products : IsSmall 3 403010 (list_data (product_data qs) n.products) =
-    list_small 2 6296 64 (product_data qs) n.products (each_by IsProductShort (λ p. IsSmall 2 6296 (product_data qs p)) n.products (λ p h. product_small qs p are.few_qualities are.qualities h) are.products) are.few_products in
+    list_small 2 6296 64 (product_data qs) n.products
+    (each_by IsProductShort (λ p. IsSmall 2 6296 (product_data qs p)) n.products
+    (λ p h. product_small qs p are.few_qualities are.qualities h) are.products) are.few_products in
     let qualities : IsSmall 3 1946 (list_data string qs) =
     raised 3 (omega arith) (list_small 0 242 8 string qs (each_by IsShort (λ t. IsSmall 0 242 (string t)) qs (λ t h. string_small 40 t h) are.qualities) are.few_qualities) in
     let sources : IsSmall 3 215234 (list_data (source_data qs) n.sources) =
-    list_small 2 3362 64 (source_data qs) n.sources (each_by IsSourceShort (λ s. IsSmall 2 3362 (source_data qs s)) n.sources (λ s h. source_small qs s are.few_qualities are.qualities h) are.sources) are.few_sources in
+    list_small 2 3362 64 (source_data qs) n.sources
+    (each_by IsSourceShort (λ s. IsSmall 2 3362 (source_data qs s)) n.sources
+    (λ s h. source_small qs s are.few_qualities are.qualities h) are.sources) are.few_sources in
     let version : IsSmall 3 10 (number (unsigned 1)) = raised 3 (omega arith) (integer_small (pos 1) (omega arith)) in
     weaker 4 4 752038 1048576 (network_data n)
     (object_small 3 752037 _

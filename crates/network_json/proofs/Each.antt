@@ -59,7 +59,8 @@ at_here : {A B X : Type 0} (w : ℕ → B → Result X ReadNet) (f : A → B) (x
 at_here w f xs i d here r h = rw (zero-add, ← here) h
 
 -- A loop over xs that pushes what w gives for each: its step, and its exit at a fault.
-module _ {A B X : Type 0} (w : ℕ → B → Result X ReadNet) (f : A → B) (xs : List A) (i : ℕ) (d : A) (here : d ≡ get_or xs i d) (lt : i < length xs) (ys : List X) (so : each w 0 (map f (take i xs)) ≡ Ok ys) where
+module _ {A B X : Type 0} (w : ℕ → B → Result X ReadNet) (f : A → B) (xs : List A) (i : ℕ) (d : A)
+    (here : d ≡ get_or xs i d) (lt : i < length xs) (ys : List X) (so : each w 0 (map f (take i xs)) ≡ Ok ys) where
   pub value_step : (y : X) (new : List X) → new ≡ ys ++ y ∷ [] → w i (f d) ≡ Ok y → each w 0 (map f (take (i + 1) xs)) ≡ Ok new
   value_step y new is h = rw (add-one, is) (each-push w f xs 0 i d ys y lt so (at_here w f xs i d here (Ok y) h))
 
@@ -68,7 +69,9 @@ module _ {A B X : Type 0} (w : ℕ → B → Result X ReadNet) (f : A → B) (xs
   value_stop v (Err z) e is h = λ other. each-stop w f xs 0 i d ys z lt so (at_here w f xs i d here (Err z) (rw is (h (rw is at other))))
 
 -- The same where g sees a pushed row.
-module _ {A B X R : Type 0} (w : ℕ → B → Result X ReadNet) (f : A → B) (g : R → X) (xs : List A) (i : ℕ) (d : A) (rows : List R) (here : d ≡ get_or xs i d) (lt : i < length xs) (so : each w 0 (map f (take i xs)) ≡ Ok (map g rows)) where
+module _ {A B X R : Type 0} (w : ℕ → B → Result X ReadNet) (f : A → B) (g : R → X) (xs : List A) (i : ℕ) (d : A)
+    (rows : List R) (here : d ≡ get_or xs i d) (lt : i < length xs)
+    (so : each w 0 (map f (take i xs)) ≡ Ok (map g rows)) where
   pub row_step : (r : R) (new : List R) → new ≡ rows ++ r ∷ [] → w i (f d) ≡ Ok (g r) → each w 0 (map f (take (i + 1) xs)) ≡ Ok (map g new)
   row_step r new is h = value_step w f xs i d here lt (map g rows) so (g r) (map g new) (rw is (map-append g rows (r ∷ []))) h
 

@@ -68,7 +68,10 @@ members_found at false c = tt
 
 object_found : (at : Place) (needed others : List (List ℕ)) (d : Data) → OnlyFound (object at needed others d)
 unfolding object
-object_found at needed others d = then_found (ok_or (as_object d) (WrongKind at)) _ (ok_or_found (as_object d) (WrongKind at) tt) (λ ms. members_found at (list_all (λ k. is_among needed k || is_among others k) (names_in ms)) (list_all (λ k. is_some (get k d)) needed))
+object_found at needed others d = then_found (ok_or (as_object d) (WrongKind at)) _
+    (ok_or_found (as_object d) (WrongKind at) tt)
+    (λ ms. members_found at (list_all (λ k. is_among needed k || is_among others k) (names_in ms))
+    (list_all (λ k. is_some (get k d)) needed))
 
 needs_found : {X : Type 0} (at : Place) (k : List ℕ) (walk : Walk X) → ((d : Data) → OnlyFound (walk d)) → (d : Data) → OnlyFound (needs at k walk d)
 unfolding present
@@ -82,10 +85,12 @@ there_found walk absent (Some d) h = h d
 after_object : {B : Type 0} (at : Place) (needed others : List (List ℕ)) (d : Data) (f : ⊤ → Result B ReadNet) → ((u : ⊤) → OnlyFound (f u)) → OnlyFound (object at needed others d >>= f)
 after_object at needed others d f h = then_found (object at needed others d) f (object_found at needed others d) h
 
-after_needed : {X B : Type 0} (at : Place) (k : List ℕ) (walk : Walk X) → ((d : Data) → OnlyFound (walk d)) → (d : Data) (f : X → Result B ReadNet) → ((x : X) → OnlyFound (f x)) → OnlyFound (needs at k walk d >>= f)
+after_needed : {X B : Type 0} (at : Place) (k : List ℕ) (walk : Walk X) → ((d : Data) → OnlyFound (walk d))
+    → (d : Data) (f : X → Result B ReadNet) → ((x : X) → OnlyFound (f x)) → OnlyFound (needs at k walk d >>= f)
 after_needed at k walk found d f h = then_found (needs at k walk d) f (needs_found at k walk found d) h
 
-after_allowed : {X B : Type 0} (k : List ℕ) (absent : X) (walk : Walk X) → ((d : Data) → OnlyFound (walk d)) → (d : Data) (f : X → Result B ReadNet) → ((x : X) → OnlyFound (f x)) → OnlyFound (allows k absent walk d >>= f)
+after_allowed : {X B : Type 0} (k : List ℕ) (absent : X) (walk : Walk X) → ((d : Data) → OnlyFound (walk d))
+    → (d : Data) (f : X → Result B ReadNet) → ((x : X) → OnlyFound (f x)) → OnlyFound (allows k absent walk d >>= f)
 after_allowed k absent walk found d f h = then_found (allows k absent walk d) f (there_found walk absent (get k d) found) h
 
 each_found : {A X : Type 0} (w : ℕ → A → Result X ReadNet) → ((n : ℕ) (d : A) → OnlyFound (w n d)) → (n : ℕ) (ds : List A) → OnlyFound (each w n ds)
@@ -169,7 +174,8 @@ network_found d =
 
 pub rows_found : (bytes : List ℕ) → OnlyFound (rows_in bytes)
 unfolding rows_in
-rows_found bytes = either_found (ltb 4194304 (length bytes)) (Err TooLong) (ok_or (value_of bytes) NotJson >>= network) tt (then_found (ok_or (value_of bytes) NotJson) network (ok_or_found (value_of bytes) NotJson tt) network_found)
+rows_found bytes = either_found (ltb 4194304 (length bytes)) (Err TooLong) (ok_or (value_of bytes) NotJson >>= network)
+    tt (then_found (ok_or (value_of bytes) NotJson) network (ok_or_found (value_of bytes) NotJson tt) network_found)
 
 -- ---- the whole file
 

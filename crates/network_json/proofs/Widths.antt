@@ -42,9 +42,13 @@ each_if : {A X : Type 0} (P : X → Type 0) (w : ℕ → A → Result X ReadNet)
 each_if P w h n [] = tt
 each_if P w h n (d ∷ ds) = bind_if P _ (w n d) _ (h n d) (λ x p. bind_if (AllByRecursion P) _ (each w (n + 1) ds) _ (each_if P w h (n + 1) ds) (λ xs ps. (p, ps)))
 
-list_if : {X : Type 0} (P : X → Type 0) (k : List ℕ) (section : Section) (walk : Place → Walk X) → ((at : Place) (d : Data) → IfOk (walk at d) P) → (d : Data) → IfOk (needs top k (list section walk) d) (AllByRecursion P)
+list_if : {X : Type 0} (P : X → Type 0) (k : List ℕ) (section : Section) (walk : Place → Walk X)
+    → ((at : Place) (d : Data) → IfOk (walk at d) P) → (d : Data)
+    → IfOk (needs top k (list section walk) d) (AllByRecursion P)
 unfolding rows
-list_if P k section walk h d = needs_if (AllByRecursion P) top k (list section walk) (λ e. bind_any (AllByRecursion P) (items top e) (rows section walk) (λ ds. each_if P (λ n. walk (place section n)) (λ n. h (place section n)) 0 ds)) d
+list_if P k section walk h d = needs_if (AllByRecursion P) top k (list section walk)
+    (λ e. bind_any (AllByRecursion P) (items top e) (rows section walk)
+    (λ ds. each_if P (λ n. walk (place section n)) (λ n. h (place section n)) 0 ds)) d
 
 -- ---- one place for each name
 
@@ -91,7 +95,8 @@ lists_wide names d =
     let limited = λ (p : ProductRow). (length p.least ≡ length names) × (length p.most ≡ length names) in
     bind_if (AllByRecursion narrow) _ (needs top (codes "sources") (list Sources (source names)) d) _ (list_if narrow (codes "sources") Sources (source names) (source_wide names) d) (λ sources wide.
     bind_any _ (allows (codes "pools") [] (list Pools pool) d) _ (λ pools.
-    bind_if (AllByRecursion limited) _ (needs top (codes "products") (list Products (product names)) d) _ (list_if limited (codes "products") Products (product names) (product_wide names) d) (λ products limits.
+    bind_if (AllByRecursion limited) _ (needs top (codes "products") (list Products (product names)) d) _
+    (list_if limited (codes "products") Products (product names) (product_wide names) d) (λ products limits.
     bind_any _ (needs top (codes "arcs") (list Arcs arc) d) _ (λ arcs. record {
       sources = All-from_recursion narrow sources wide;
       least = All-from_recursion _ products (leasts products limits);

@@ -27,23 +27,30 @@ unknown_first r f clear found = but_memory r f (λ other. numbered_first Unknown
 pub unknown_next : (r : Rows) (ends : List Ends) → AreEndsOf r ends → LacksEarlier r (UnknownName 0) → LacksEarlier r (ArcBackwards 0)
 unknown_next r ends are clear = numbered_next UnknownName unknown r (ArcBackwards 0) clear (λ n bad. not_unknown r n (get_or ends n no_ends) (nodes_at r ends n are bad.0) bad) refl
 
-pub forward_first : (r : Rows) (read ends : List Ends) (f : NetFault) → read ≡ ends → IsDistinct r → AreEndsOf r ends → LacksEarlier r (ArcBackwards 0) → IsFirstOf ArcBackwards (IsMarked is_backward read) f → IsFirstFault r f
+pub forward_first : (r : Rows) (read ends : List Ends) (f : NetFault) → read ≡ ends → IsDistinct r → AreEndsOf r ends
+    → LacksEarlier r (ArcBackwards 0) → IsFirstOf ArcBackwards (IsMarked is_backward read) f → IsFirstFault r f
 forward_first r read ends f same d are clear found =
-    numbered_first ArcBackwards backwards r (IsMarked is_backward ends) f clear (marked_backwards r ends d are) (backwards_marked r ends d are) (subst (λ xs. IsFirstOf ArcBackwards (IsMarked is_backward xs) f) same found)
+    numbered_first ArcBackwards backwards r (IsMarked is_backward ends) f clear (marked_backwards r ends d are)
+    (backwards_marked r ends d are) (subst (λ xs. IsFirstOf ArcBackwards (IsMarked is_backward xs) f) same found)
 
-pub forward_next : (r : Rows) (read ends : List Ends) → read ≡ ends → IsDistinct r → AreEndsOf r ends → LacksEarlier r (ArcBackwards 0) → ((n : ℕ) → ¬ IsMarked is_backward read n) → LacksEarlier r (PoolToPool 0)
+pub forward_next : (r : Rows) (read ends : List Ends) → read ≡ ends → IsDistinct r → AreEndsOf r ends
+    → LacksEarlier r (ArcBackwards 0) → ((n : ℕ) → ¬ IsMarked is_backward read n) → LacksEarlier r (PoolToPool 0)
 forward_next r read ends same d are clear none =
     numbered_next ArcBackwards backwards r (PoolToPool 0) clear (λ n bad. none n (subst (λ xs. IsMarked is_backward xs n) (sym same) (backwards_marked r ends d are n bad))) refl
 
-pub layers_first : (r : Rows) (read ends : List Ends) (f : NetFault) → read ≡ ends → IsDistinct r → AreEndsOf r ends → LacksEarlier r (PoolToPool 0) → IsFirstOf PoolToPool (IsMarked is_between_pools read) f → IsFirstFault r f
+pub layers_first : (r : Rows) (read ends : List Ends) (f : NetFault) → read ≡ ends → IsDistinct r → AreEndsOf r ends
+    → LacksEarlier r (PoolToPool 0) → IsFirstOf PoolToPool (IsMarked is_between_pools read) f → IsFirstFault r f
 layers_first r read ends f same d are clear found =
-    numbered_first PoolToPool pool_to_pool r (IsMarked is_between_pools ends) f clear (marked_between r ends d are) (between_marked r ends d are) (subst (λ xs. IsFirstOf PoolToPool (IsMarked is_between_pools xs) f) same found)
+    numbered_first PoolToPool pool_to_pool r (IsMarked is_between_pools ends) f clear (marked_between r ends d are)
+    (between_marked r ends d are) (subst (λ xs. IsFirstOf PoolToPool (IsMarked is_between_pools xs) f) same found)
 
-pub layers_next : (r : Rows) (read ends : List Ends) → read ≡ ends → IsDistinct r → AreEndsOf r ends → LacksEarlier r (PoolToPool 0) → ((n : ℕ) → ¬ IsMarked is_between_pools read n) → LacksEarlier r (DuplicateArc 0)
+pub layers_next : (r : Rows) (read ends : List Ends) → read ≡ ends → IsDistinct r → AreEndsOf r ends
+    → LacksEarlier r (PoolToPool 0) → ((n : ℕ) → ¬ IsMarked is_between_pools read n) → LacksEarlier r (DuplicateArc 0)
 layers_next r read ends same d are clear none =
     numbered_next PoolToPool pool_to_pool r (DuplicateArc 0) clear (λ n bad. none n (subst (λ xs. IsMarked is_between_pools xs n) (sym same) (between_marked r ends d are n bad))) refl
 
-pub repeats_first : (r : Rows) (read ends : List Ends) (f : NetFault) → read ≡ ends → IsDistinct r → AreEndsOf r ends → LacksEarlier r (DuplicateArc 0) → IsFirstOf DuplicateArc (IsRepeatedEnds read) f → IsFirstFault r f
+pub repeats_first : (r : Rows) (read ends : List Ends) (f : NetFault) → read ≡ ends → IsDistinct r → AreEndsOf r ends
+    → LacksEarlier r (DuplicateArc 0) → IsFirstOf DuplicateArc (IsRepeatedEnds read) f → IsFirstFault r f
 repeats_first r read ends f same d are clear found =
     numbered_first DuplicateArc duplicate r (IsRepeatedEnds ends) f clear (seen_repeat r ends d are) (repeat_seen r ends are) (subst (λ xs. IsFirstOf DuplicateArc (IsRepeatedEnds xs) f) same found)
 
@@ -92,10 +99,12 @@ outputs_next r arcs count read a b are clear none =
     numbered_next PoolWithoutOutput without_output r TooManyPaths clear
     (λ l bad. let h = output_lacks r arcs are l bad in none l (omega (arith, h.0, a)) (subst (λ (xs : List Arc). All (λ a. ¬ a.from ≡ l) xs) (sym b) h.1)) refl
 
-pub many_paths_first : (r : Rows) (arcs : Arcs) (read : List Path) (f : NetFault) → read ≡ arcs.paths.items → AreArcsOf r arcs → LacksEarlier r TooManyPaths → (f ≡ TooManyPaths) × (512 < length read) → IsFirstFault r f
+pub many_paths_first : (r : Rows) (arcs : Arcs) (read : List Path) (f : NetFault) → read ≡ arcs.paths.items
+    → AreArcsOf r arcs → LacksEarlier r TooManyPaths → (f ≡ TooManyPaths) × (512 < length read) → IsFirstFault r f
 many_paths_first r arcs read f same are clear found =
     subst (IsFirstFault r) (sym found.0) (paths_first r (omega (arith, found.1, ap length same, ap length are.paths, length-map arcs.paths.items shown_path)) clear)
 
-pub few_paths_next : (r : Rows) (arcs : Arcs) (read : List Path) → read ≡ arcs.paths.items → AreArcsOf r arcs → LacksEarlier r TooManyPaths → length read ≤ 512 → LacksEarlier r (OutOfRange kind.Source 0)
+pub few_paths_next : (r : Rows) (arcs : Arcs) (read : List Path) → read ≡ arcs.paths.items → AreArcsOf r arcs
+    → LacksEarlier r TooManyPaths → length read ≤ 512 → LacksEarlier r (OutOfRange kind.Source 0)
 few_paths_next r arcs read same are clear few =
     paths_next r (OutOfRange kind.Source 0) (λ many. omega (arith, many, few, ap length same, ap length are.paths, length-map arcs.paths.items shown_path)) clear refl

@@ -48,26 +48,33 @@ pub feeds_are : (r : Rows) (ends : List Ends) → IsDistinct r → AreEndsOf r e
     → map shown_arc (filter_map (λ e. option_map kept_arc (feed_between (known e))) ends) ≡ arcs_between (source_names r) (pool_names r) r
 feeds_are r ends d are =
     shown-filter_map (λ e. feed_between (known e)) ends
-    ∙ arcs_by r ends feed_between (source_names r) (pool_names r) are (λ a. ap (λ o. join o (pool_number (node_of r a.1))) (source_number_is r a.0) ∙ ap (λ o. join (number_of a.0 (source_names r)) o) (pool_number_is r a.1 d))
+    ∙ arcs_by r ends feed_between (source_names r) (pool_names r) are
+    (λ a. ap (λ o. join o (pool_number (node_of r a.1))) (source_number_is r a.0)
+    ∙ ap (λ o. join (number_of a.0 (source_names r)) o) (pool_number_is r a.1 d))
 
 pub outs_are : (r : Rows) (ends : List Ends) → IsDistinct r → AreEndsOf r ends
     → map shown_arc (filter_map (λ e. option_map kept_arc (out_between (known e))) ends) ≡ arcs_between (pool_names r) (product_names r) r
 outs_are r ends d are =
     shown-filter_map (λ e. out_between (known e)) ends
-    ∙ arcs_by r ends out_between (pool_names r) (product_names r) are (λ a. ap (λ o. join o (product_number (node_of r a.1))) (pool_number_is r a.0 d) ∙ ap (λ o. join (number_of a.0 (pool_names r)) o) (product_number_is r a.1 d))
+    ∙ arcs_by r ends out_between (pool_names r) (product_names r) are
+    (λ a. ap (λ o. join o (product_number (node_of r a.1))) (pool_number_is r a.0 d)
+    ∙ ap (λ o. join (number_of a.0 (pool_names r)) o) (product_number_is r a.1 d))
 
 pub directs_are : (r : Rows) (ends : List Ends) → IsDistinct r → AreEndsOf r ends
     → map shown_arc (filter_map (λ e. option_map kept_arc (direct_between (known e))) ends) ≡ arcs_between (source_names r) (product_names r) r
 directs_are r ends d are =
     shown-filter_map (λ e. direct_between (known e)) ends
-    ∙ arcs_by r ends direct_between (source_names r) (product_names r) are (λ a. ap (λ o. join o (product_number (node_of r a.1))) (source_number_is r a.0) ∙ ap (λ o. join (number_of a.0 (source_names r)) o) (product_number_is r a.1 d))
+    ∙ arcs_by r ends direct_between (source_names r) (product_names r) are
+    (λ a. ap (λ o. join o (product_number (node_of r a.1))) (source_number_is r a.0)
+    ∙ ap (λ o. join (number_of a.0 (source_names r)) o) (product_number_is r a.1 d))
 
 -- ---- how many there are, and what they join
 
 pub length-arcs : (froms tos : List (List ℕ)) (r : Rows) → length (arcs_between froms tos r) ≤ length r.arcs
 length-arcs froms tos r = length-filter_map (arc_between froms tos) r.arcs
 
-three_step : {Z : Type 0} (a b c : Option Z) (xs ys zs : List Z) (n : ℕ) → ((y z : Z) → a ≡ Some y → b ≡ Some z → ⊥) → ((y z : Z) → a ≡ Some y → c ≡ Some z → ⊥) → ((y z : Z) → b ≡ Some y → c ≡ Some z → ⊥)
+three_step : {Z : Type 0} (a b c : Option Z) (xs ys zs : List Z) (n : ℕ) → ((y z : Z) → a ≡ Some y → b ≡ Some z → ⊥)
+    → ((y z : Z) → a ≡ Some y → c ≡ Some z → ⊥) → ((y z : Z) → b ≡ Some y → c ≡ Some z → ⊥)
     → length xs + length ys + length zs ≤ n → length (cons_option a xs) + length (cons_option b ys) + length (cons_option c zs) ≤ suc n
 three_step None None None xs ys zs n ab ac bc h = omega arith
 three_step None None (Some z) xs ys zs n ab ac bc h = omega arith

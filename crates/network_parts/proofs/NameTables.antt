@@ -39,8 +39,11 @@ adds_by : (name : Bor (List ℕ)) (old new : List (Bor (List ℕ))) (fresh b : B
     → fresh ≡ not b → new ≡ (if b then old else old ++ name ∷ []) → AddsName (map (λ k. k.now) old) (map (λ k. k.now) new) name.now fresh
 adds_by name old new fresh true e a k = rw a (Contains-from_any {eq = bytes_eq} same_bytes name.now (map (λ k. k.now) old) e, ap (map (λ k. k.now)) k)
 adds_by name old new fresh false e a k =
-    rw a
-    (λ there. absurd (false≢true (sym e ∙ list_any-from_Contains {eq = bytes_eq} nat_list_eq_equiv name.now (map (λ k. k.now) old) there)), ap (map (λ k. k.now)) k ∙ map-append (λ k. k.now) old (name ∷ []))
+    rw a (
+      λ there. absurd (false≢true (sym e ∙ list_any-from_Contains {eq = bytes_eq} nat_list_eq_equiv name.now
+          (map (λ k. k.now) old) there)),
+      ap (map (λ k. k.now)) k ∙ map-append (λ k. k.now) old (name ∷ []),
+    )
 
 -- what an insertion leaves
 pub adds_name : (name : Bor (List ℕ)) (test : Bor (List ℕ) → Bool) (old new : List (Bor (List ℕ))) (fresh : Bool) → ((k : Bor (List ℕ)) → test k ≡ bytes_eq name.now k.now)

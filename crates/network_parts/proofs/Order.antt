@@ -114,7 +114,8 @@ abbrev pub LacksKinds : Rows → (Kind → ℕ → NetFault) → Kind → Type 0
 LacksKinds r make kind = (earlier : Kind) → kind_number earlier < kind_number kind → (n : ℕ) → ¬ Holds r (make earlier n)
 
 -- the fault of the first number of a kind, of which none of an earlier cause or kind holds
-pub kinded_first : (make : Kind → ℕ → NetFault) → IsKinded number about kind_number make → (r : Rows) (kind : Kind) (P : ℕ → Type 0) (f : NetFault) → LacksEarlier r (make Source 0) → LacksKinds r make kind
+pub kinded_first : (make : Kind → ℕ → NetFault) → IsKinded number about kind_number make
+    → (r : Rows) (kind : Kind) (P : ℕ → Type 0) (f : NetFault) → LacksEarlier r (make Source 0) → LacksKinds r make kind
     → ((n : ℕ) → P n → Holds r (make kind n)) → ((n : ℕ) → Holds r (make kind n) → P n) → IsFirstOf (make kind) P f → IsFirstFault r f
 kinded_first make is r kind P f clear lacks to from found = λ _.
     kinded-first is kind record { none = λ g less. clear g (omega (arith, less, is.cause Source kind 0 0)) } lacks to from f found

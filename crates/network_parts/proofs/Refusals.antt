@@ -40,7 +40,8 @@ before_product r make s p Source less = s
 before_product r make s p Pool less = p
 before_product r make s p k less = absurd (omega (arith, less))
 
-pub before_quality : (r : Rows) (make : Kind → ℕ → NetFault) → ((n : ℕ) → ¬ Holds r (make Source n)) → ((n : ℕ) → ¬ Holds r (make Pool n)) → ((n : ℕ) → ¬ Holds r (make Product n)) → LacksKinds r make Quality
+pub before_quality : (r : Rows) (make : Kind → ℕ → NetFault) → ((n : ℕ) → ¬ Holds r (make Source n))
+    → ((n : ℕ) → ¬ Holds r (make Pool n)) → ((n : ℕ) → ¬ Holds r (make Product n)) → LacksKinds r make Quality
 before_quality r make s p x Source less = s
 before_quality r make s p x Pool less = p
 before_quality r make s p x Product less = x
@@ -66,7 +67,9 @@ names_of_pools rows items e = ap (map (λ p. string_bytes p.name)) e ∙ sym (ma
 pub names_of_products : (rows items : List ProductRow) → rows ≡ items → map (λ p. string_bytes p.name) rows ≡ map (λ p. p.name) (map product_row items)
 names_of_products rows items e = ap (map (λ p. string_bytes p.name)) e ∙ sym (map-map (λ p. p.name) product_row items)
 
-pub good_names : {T : Type 0} (name : T → List ℕ) (rows : List T) (r : Rows) (kind : Kind) → map name rows ≡ row_names r kind → ((n : ℕ) → n < length rows → IsName (get_or (map name rows) n [])) → (n : ℕ) → ¬ IsBadName r kind n
+pub good_names : {T : Type 0} (name : T → List ℕ) (rows : List T) (r : Rows) (kind : Kind)
+    → map name rows ≡ row_names r kind → ((n : ℕ) → n < length rows → IsName (get_or (map name rows) n [])) → (n : ℕ)
+    → ¬ IsBadName r kind n
 good_names name rows r kind e good n bad =
     let at : IsBadAt (map name rows) n = subst (λ xs. IsBadAt xs n) (sym e) bad in
     at.1 (good n (omega (arith, at.0, length-map rows name)))
@@ -76,7 +79,8 @@ pub bad_first : (r : Rows) (kind : Kind) (names : List (List ℕ)) (f : NetFault
 bad_first r kind names f e clear lacks found =
     kinded_first BadName bad_name r kind (IsBadAt (row_names r kind)) f clear lacks (λ n h. h) (λ n h. h) (subst (λ xs. IsFirstOf (BadName kind) (IsBadAt xs) f) e found)
 
-pub bad_next : (r : Rows) → LacksEarlier r (BadName Source 0) → ((n : ℕ) → ¬ IsBadName r Source n) → ((n : ℕ) → ¬ IsBadName r Pool n) → ((n : ℕ) → ¬ IsBadName r Product n) → ((n : ℕ) → ¬ IsBadName r Quality n)
+pub bad_next : (r : Rows) → LacksEarlier r (BadName Source 0) → ((n : ℕ) → ¬ IsBadName r Source n)
+    → ((n : ℕ) → ¬ IsBadName r Pool n) → ((n : ℕ) → ¬ IsBadName r Product n) → ((n : ℕ) → ¬ IsBadName r Quality n)
     → LacksEarlier r (DuplicateName Source 0)
 bad_next r clear s p x q = kinded_next BadName bad_name r (DuplicateName Source 0) clear (all_kinds r BadName s p x q (λ n bad. omega (arith, bad.0))) refl
 
@@ -84,10 +88,12 @@ bad_next r clear s p x q = kinded_next BadName bad_name r (DuplicateName Source 
 pub added_to : (old old' new names names' : List (List ℕ)) → new ≡ old ++ names → old ≡ old' → names ≡ names' → new ≡ old' ++ names'
 added_to old old' new names names' h a b = h ∙ ap (λ x. x ++ names) a ∙ ap (λ x. old' ++ x) b
 
-pub fresh_names : (r : Rows) (kind : Kind) (old names : List (List ℕ)) → old ≡ names_before r kind → names ≡ row_names r kind → ((n : ℕ) → ¬ IsRepeatAt old names n) → (n : ℕ) → ¬ IsDuplicateName r kind n
+pub fresh_names : (r : Rows) (kind : Kind) (old names : List (List ℕ)) → old ≡ names_before r kind
+    → names ≡ row_names r kind → ((n : ℕ) → ¬ IsRepeatAt old names n) → (n : ℕ) → ¬ IsDuplicateName r kind n
 fresh_names r kind old names a b fresh n = subst (λ xs. ¬ IsRepeatAt xs (row_names r kind) n) a (subst (λ xs. ¬ IsRepeatAt old xs n) b (fresh n))
 
-pub twice_first : (r : Rows) (kind : Kind) (old names : List (List ℕ)) (f : NetFault) → old ≡ names_before r kind → names ≡ row_names r kind → LacksEarlier r (DuplicateName Source 0) → LacksKinds r DuplicateName kind
+pub twice_first : (r : Rows) (kind : Kind) (old names : List (List ℕ)) (f : NetFault) → old ≡ names_before r kind
+    → names ≡ row_names r kind → LacksEarlier r (DuplicateName Source 0) → LacksKinds r DuplicateName kind
     → (f ≢ Memory → IsFirstOf (DuplicateName kind) (IsRepeatAt old names) f) → IsFirstFault r f
 twice_first r kind old names f a b clear lacks found =
     but_memory r f
@@ -101,13 +107,17 @@ twice_next r clear s p x q = kinded_next DuplicateName duplicate_name r (Unknown
 
 -- ---- numbers
 
-pub out_first : (r : Rows) (kind : Kind) (f : NetFault) → LacksEarlier r (OutOfRange Source 0) → LacksKinds r OutOfRange kind → IsFirstOf (OutOfRange kind) (λ n. Holds r (OutOfRange kind n)) f → IsFirstFault r f
+pub out_first : (r : Rows) (kind : Kind) (f : NetFault) → LacksEarlier r (OutOfRange Source 0)
+    → LacksKinds r OutOfRange kind → IsFirstOf (OutOfRange kind) (λ n. Holds r (OutOfRange kind n)) f → IsFirstFault r f
 out_first r kind f clear lacks found = kinded_first OutOfRange out_of_range r kind (λ n. Holds r (OutOfRange kind n)) f clear lacks (λ n h. h) (λ n h. h) found
 
-pub out_next : (r : Rows) → LacksEarlier r (OutOfRange Source 0) → ((n : ℕ) → ¬ Holds r (OutOfRange Source n)) → ((n : ℕ) → ¬ Holds r (OutOfRange Pool n)) → ((n : ℕ) → ¬ Holds r (OutOfRange Product n))
+pub out_next : (r : Rows) → LacksEarlier r (OutOfRange Source 0) → ((n : ℕ) → ¬ Holds r (OutOfRange Source n))
+    → ((n : ℕ) → ¬ Holds r (OutOfRange Pool n)) → ((n : ℕ) → ¬ Holds r (OutOfRange Product n))
     → LacksEarlier r (LeastAboveMost 0)
 out_next r clear s p x = kinded_next OutOfRange out_of_range r (LeastAboveMost 0) clear (all_kinds r OutOfRange s p x (λ n bad. bad) (λ n bad. bad)) refl
 
 -- rows that are all good: by what was found of the same rows
-pub all_good : {T Y : Type 0} (P : Y → Type 0) (f : T → Y) (d : Y) (xs ys : List T) → xs ≡ ys → ((n : ℕ) → n < length xs → P (get_or (map f xs) n d)) → (n : ℕ) → n < length (map f ys) → P (get_or (map f ys) n d)
+pub all_good : {T Y : Type 0} (P : Y → Type 0) (f : T → Y) (d : Y) (xs ys : List T) → xs ≡ ys
+    → ((n : ℕ) → n < length xs → P (get_or (map f xs) n d)) → (n : ℕ) → n < length (map f ys)
+    → P (get_or (map f ys) n d)
 all_good P f d xs ys same h n within = subst (λ zs. P (get_or (map f zs) n d)) same (h n (omega (arith, length-map ys f, ap length same)))

@@ -17,7 +17,9 @@ group_more key n count k group lt at is =
     let many : length (groups_of key n count) ≡ count = length-tabulate (λ j. numbers_at key j n) count in
     same-tabulate (set (groups_of key n count) k group) (λ j. numbers_at key j (n + 1)) count [] (length-set (groups_of key n count) k group ∙ many)
     (λ i below. elim (same_or_other i k) [
-      | inl e ↦ ap (λ j. get_or (set (groups_of key n count) k group) j []) e ∙ get_or-set_same (groups_of key n count) k group [] (omega (arith, many)) ∙ is ∙ sym (numbers_at-yes key k n at) ∙ ap (λ j. numbers_at key j (n + 1)) (sym e)
+      | inl e ↦ ap (λ j. get_or (set (groups_of key n count) k group) j []) e
+          ∙ get_or-set_same (groups_of key n count) k group [] (omega (arith, many)) ∙ is
+          ∙ sym (numbers_at-yes key k n at) ∙ ap (λ j. numbers_at key j (n + 1)) (sym e)
       | inr d ↦ get_or-set_other (groups_of key n count) k i group [] d ∙ get_or-tabulate (λ j. numbers_at key j n) count i [] below ∙ sym (numbers_at-no key i n (λ e. d (sym e ∙ at)))
     ])
 
@@ -26,7 +28,8 @@ pub groups_more : {X : Type 0} (items : X → List ℕ) (xs : List X) (key : ℕ
     → items new ≡ items old ++ n ∷ [] → map items (set xs k new) ≡ groups_of key (n + 1) count
 groups_more items xs key n count k old new is lt at was more =
     let here : items old ≡ numbers_at key k n
-    = sym (get_or-map items xs k old [] (omega (arith, length-groups items xs key n count is)) ∙ ap items (sym was)) ∙ ap (λ gs. get_or gs k []) is ∙ get_or-tabulate (λ j. numbers_at key j n) count k [] lt in
+    = sym (get_or-map items xs k old [] (omega (arith, length-groups items xs key n count is)) ∙ ap items (sym was))
+    ∙ ap (λ gs. get_or gs k []) is ∙ get_or-tabulate (λ j. numbers_at key j n) count k [] lt in
     map-set items xs k new
     ∙ ap (λ gs. set gs k (items new)) is
     ∙ group_more key n count k (items new) lt at (more ∙ ap (λ ns. ns ++ n ∷ []) here)

@@ -35,9 +35,19 @@ read_unsigned : (whole ds : List ℕ) → list_all is_ascii_digit whole ≡ true
 unfolding unsigned_of
 read_unsigned whole ds are some few decimals few_decimals =
     let len : prefix_len is_ascii_digit (whole ++ behind_point ds) ≡ length whole = prefix_len-before whole (behind_point ds) are (no_digit_first ds) in
-    rw (len, lt-ltb 0 (length whole) some, le-leb (length whole) 15 few, take_at whole (behind_point ds) (length whole) refl, drop_at whole (behind_point ds) (length whole) refl, read_decimals ds decimals few_decimals) refl
+    rw (
+      len,
+      lt-ltb 0 (length whole) some,
+      le-leb (length whole) 15 few,
+      take_at whole (behind_point ds) (length whole)
+          refl,
+      drop_at whole (behind_point ds) (length whole) refl,
+      read_decimals ds decimals few_decimals,
+    ) refl
 
-not_minus : (b : Bool) (c : ℕ) (rest : List ℕ) → eqb c 45 ≡ b → is_ascii_digit c ≡ true → (n : ℕ) → unsigned_of (c ∷ rest) ≡ Some n → cond b (option_map (signed true) (unsigned_of rest)) (option_map (signed false) (unsigned_of (c ∷ rest))) ≡ Some (pos n)
+not_minus : (b : Bool) (c : ℕ) (rest : List ℕ) → eqb c 45 ≡ b → is_ascii_digit c ≡ true → (n : ℕ)
+    → unsigned_of (c ∷ rest) ≡ Some n → cond b (option_map (signed true) (unsigned_of rest))
+    (option_map (signed false) (unsigned_of (c ∷ rest))) ≡ Some (pos n)
 not_minus true c rest e digit n h = absurd (omega (arith, eqb-true c 45 e, digit_range c digit))
 not_minus false c rest e digit n h = rw h refl
 

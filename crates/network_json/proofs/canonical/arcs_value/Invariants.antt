@@ -11,9 +11,13 @@ invariant-feeds l = map view l.list.items ≡ map arc_data (map (canonical_arc (
 
 abbrev pub invariant-outs : goal.invariant-outs
 invariant-outs l =
-    map view l.list.items ≡ map arc_data (map (canonical_arc (names_of l.net kind.Source) (names_of l.net kind.Pool)) l.net.feeds ++ map (canonical_arc (names_of l.net kind.Pool) (names_of l.net kind.Product)) (take l.n l.net.outs))
+    map view l.list.items ≡ map arc_data (map (canonical_arc (names_of l.net kind.Source) (names_of l.net kind.Pool))
+    l.net.feeds ++ map (canonical_arc (names_of l.net kind.Pool) (names_of l.net kind.Product))
+    (take l.n l.net.outs))
 
 abbrev pub invariant-directs : goal.invariant-directs
 invariant-directs l =
     map view l.list.items
-    ≡ map arc_data (map (canonical_arc (names_of l.net kind.Source) (names_of l.net kind.Pool)) l.net.feeds ++ map (canonical_arc (names_of l.net kind.Pool) (names_of l.net kind.Product)) l.net.outs ++ map (canonical_arc (names_of l.net kind.Source) (names_of l.net kind.Product)) (take l.n l.net.directs))
+    ≡ map arc_data (map (canonical_arc (names_of l.net kind.Source) (names_of l.net kind.Pool)) l.net.feeds ++ map
+    (canonical_arc (names_of l.net kind.Pool) (names_of l.net kind.Product)) l.net.outs ++ map
+    (canonical_arc (names_of l.net kind.Source) (names_of l.net kind.Product)) (take l.n l.net.directs))

@@ -7,4 +7,6 @@ use Rattle.network_parts.proofs.paths.add_pool_paths.Given as goal
 
 abbrev pub invariant-loop-feed : goal.invariant-loop-feed
 invariant-loop-feed l = (pools : ℕ) → map shown_path l.paths.items
-    ≡ map shown_path l.initial.paths.items ++ flat_map (feed_paths (joined_net pools (map shown_arc l.feeds) (map shown_arc l.outs))) (numbers_at (joined_net pools (map shown_arc l.feeds) (map shown_arc l.outs)).feed_pool l.pool l.feed)
+    ≡ map shown_path l.initial.paths.items ++ flat_map
+    (feed_paths (joined_net pools (map shown_arc l.feeds) (map shown_arc l.outs)))
+    (numbers_at (joined_net pools (map shown_arc l.feeds) (map shown_arc l.outs)).feed_pool l.pool l.feed)

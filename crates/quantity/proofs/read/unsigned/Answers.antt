@@ -12,5 +12,7 @@ number_of-requires-clause-digits c = prefix_are_digits c.args.text.now _ c.digit
 
 pub returns-in-Some-clause-below : goal.returns-in-Some-clause-below
 returns-in-Some-clause-below c =
-    let few : c.number_of.result < 10 ^ 15 = fits_in c.number_of.result (length c.split_at.result.0.now) 15 (omega (arith, c.number_of.ensures.value, c.number_of.ensures.below)) (omega (arith, c.split_at.ensures.front_len)) in
+    let few : c.number_of.result < 10 ^ 15 = fits_in c.number_of.result (length c.split_at.result.0.now) 15
+    (omega (arith, c.number_of.ensures.value, c.number_of.ensures.below))
+    (omega (arith, c.split_at.ensures.front_len)) in
     omega (arith, few, c.from.ensures, c.from-in-Some.ensures, c.in-Some.ensures.below)

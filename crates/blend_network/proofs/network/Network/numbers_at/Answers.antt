@@ -22,7 +22,13 @@ returns c =
     let here = c.index.ensures ∙ ap (λ k. get_or c.self.inside.index.items k c.index.result.now) c.number.ensures ∙ index_at n c.self.inside.index.items c.args.key c.index.result.now kept in
     let numbers = c.of.ensures ∙ group_at c.index.result.now (key_of n key) (count_of n key) (nodes_of n key) c.args.node here c.requires in
     let limited : IsLimited (net_of c.args.self.now) = subst (λ (m : Network). IsLimited (net_of m)) c.self.view_is c.self.invariant.limited in
-    let few : length (paths_of (net_of c.args.self.now)) ≤ 512 = omega (arith, c.self.invariant.few, ap length c.self.invariant.paths, ap (λ (m : Network). length (paths_of (net_of m))) c.self.view_is) in
+    let few : length (paths_of (net_of c.args.self.now)) ≤ 512 = omega (
+      arith,
+      c.self.invariant.few,
+      ap length c.self.invariant.paths,
+      ap
+          (λ (m : Network). length (paths_of (net_of m))) c.self.view_is,
+    ) in
     record {
       numbers = numbers;
       known = subst (λ (ns : List ℕ). All (λ i. i < count_of (net_of c.args.self.now) c.args.key) ns) (sym numbers) (numbers_at-below (key_of n key) c.args.node (count_of n key));

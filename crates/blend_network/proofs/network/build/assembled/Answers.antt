@@ -100,12 +100,15 @@ invariant_of-result c =
     c.requires.checked.found.feeds
     c.requires.checked.found.outs
     c.requires.checked.found.directs))
-    (built r c.args.arcs c.requires.rectangular c.requires.checked within c.in_ok-index.index.items c.in_ok-index.ensures record { most = c.in_ok-limits_from.field-0; least = c.in_ok-limits_from-2.field-0 }
+    (built r c.args.arcs c.requires.rectangular c.requires.checked within c.in_ok-index.index.items
+    c.in_ok-index.ensures record { most = c.in_ok-limits_from.field-0; least = c.in_ok-limits_from-2.field-0 }
     (both_set (net_of (network_of r)) record { most = c.in_ok-limits_from.field-0; least = c.in_ok-limits_from-2.field-0 }
     (set_of r c.deref-2.result.now Most c.in_ok-limits_from.field-0.items (ap (map shown_product) c.deref-2.ensures.value ∙ c.in_ok-products.ensures)
     (c.in_ok-limits_from.ensures (length r.qualities) (products_wide r c.deref-2.result.now Most c.requires.rectangular (ap (map shown_product) c.deref-2.ensures.value ∙ c.in_ok-products.ensures))))
     (set_of r c.deref-3.result.now Least c.in_ok-limits_from-2.field-0.items (ap (map shown_product) c.deref-3.ensures.value ∙ c.in_ok-products.ensures)
-    (c.in_ok-limits_from-2.ensures (length r.qualities) (products_wide r c.deref-3.result.now Least c.requires.rectangular (ap (map shown_product) c.deref-3.ensures.value ∙ c.in_ok-products.ensures))))))
+    (c.in_ok-limits_from-2.ensures (length r.qualities)
+    (products_wide r c.deref-3.result.now Least c.requires.rectangular
+    (ap (map shown_product) c.deref-3.ensures.value ∙ c.in_ok-products.ensures))))))
 
 pub returns : goal.returns
 returns c =

@@ -13,7 +13,9 @@ grouped-requires-clause-along c = along (rows_of c.args.parts.now) c.args.arcs.n
 pub grouped-requires-clause-known : goal.grouped-requires-clause-known
 grouped-requires-clause-known c =
     let r = rows_of c.args.parts.now in
-    kept_known r c.args.arcs.now c.requires.checked.found c.requires.limited (get_or keys c.loop-key.key-index FeedsFrom) c.nodes.result (c.nodes.ensures (net_of (network_of r)) c.counts_from-counts.ensures)
+    kept_known r c.args.arcs.now c.requires.checked.found c.requires.limited
+    (get_or keys c.loop-key.key-index FeedsFrom) c.nodes.result
+    (c.nodes.ensures (net_of (network_of r)) c.counts_from-counts.ensures)
 
 pub grouped-requires-clause-few : goal.grouped-requires-clause-few
 grouped-requires-clause-few c =
@@ -26,4 +28,5 @@ loop-key-preserved c =
     let r = rows_of c.args.parts.now in
     let n = net_of (network_of r) in
     let here = grouped_is r c.args.arcs.now c.requires.checked.found (get_or keys c.loop-key.key-index FeedsFrom) c.nodes.result (c.nodes.ensures n c.counts_from-counts.ensures) in
-    index_more n c.loop-key.index.items c.push.new.self.items c.loop-key.key-index c.in_ok-grouped.field-0 c.loop-key.invariant c.loop-key-test.true (c.in_ok-grouped.ensures ∙ here) c.in_ok-push.ensures.items
+    index_more n c.loop-key.index.items c.push.new.self.items c.loop-key.key-index c.in_ok-grouped.field-0
+    c.loop-key.invariant c.loop-key-test.true (c.in_ok-grouped.ensures ∙ here) c.in_ok-push.ensures.items

@@ -13,6 +13,8 @@ loop-quality-preserved c =
       | in-Some+in_ok-push w ↦
           let fits : FitsSigned w64 w.in-Some.limit = search rules in
           let set : get_or c.args.values.now c.loop-quality.quality None ≡ Some w.in-Some.limit = search rules in
-          rw w.limits-is (limit_more c.args.values.now c.args.product c.loop-quality.quality w.in-Some.limit c.loop-quality.limits.items w.push.new.self.items old c.loop-quality.invariant set (simp to_z-of_z at w.in_ok-push.ensures.items))
+          rw w.limits-is (limit_more c.args.values.now c.args.product c.loop-quality.quality w.in-Some.limit
+          c.loop-quality.limits.items w.push.new.self.items old c.loop-quality.invariant set
+          (simp to_z-of_z at w.in_ok-push.ensures.items))
       | in_default w ↦ rw w.limits-is (limit_none c.args.values.now c.args.product c.loop-quality.quality c.loop-quality.limits.items old c.loop-quality.invariant (search rules))
     ]

@@ -13,7 +13,9 @@ pub loop-product-preserved : goal.loop-product-preserved
 loop-product-preserved c = λ qualities wide.
     let products = c.args.products.now in
     let j = c.loop-product.product in
-    let at = read-map shown_product c.args.products.now c.loop-product.product c.index-products-product.result no_product (omega (arith, length-map c.args.products.now shown_product, c.loop-product-test.true)) c.index-products-product.is in
+    let at = read-map shown_product c.args.products.now c.loop-product.product c.index-products-product.result
+    no_product (omega (arith, length-map c.args.products.now shown_product, c.loop-product-test.true))
+    c.index-products-product.is in
     product_more (map shown_product products) c.args.side c.limits.result.now qualities j (map shown_limit c.loop-product.limits.items) (map shown_limit c.add_limits.new.limits.items)
     (c.loop-product.invariant qualities wide)
     (c.limits.ensures ∙ ap (λ (p : model.Product). limits_in p c.args.side) (sym at))

@@ -9,7 +9,10 @@ use Rattle.blend_network.proofs.network.narrow.products_from.Goals as goal
 
 pub loop-row-preserved : goal.loop-row-preserved
 loop-row-preserved c = record {
-  made = made_more shown_product product_of product_row c.loop-row.products.items c.push.new.self.items (into_iter_items c.loop-row.row-iterator) (into_iter_items c.next.new.self) c.in_ok-product_from.field-0 c.in-Some.row
+  made = made_more shown_product product_of product_row c.loop-row.products.items c.push.new.self.items
+      (into_iter_items c.loop-row.row-iterator) (into_iter_items c.next.new.self) c.in_ok-product_from.field-0
+      c.in-Some.row
       _ c.loop-row.invariant.made c.in-Some.ensures.steps.0 c.in_ok-push.ensures.items c.in_ok-product_from.ensures;
-  ranges = All-rest (λ s. IsProductInRange (product_row s)) c.in-Some.row (into_iter_items c.next.new.self) (into_iter_items c.loop-row.row-iterator) c.in-Some.ensures.steps.0 c.loop-row.invariant.ranges;
+  ranges = All-rest (λ s. IsProductInRange (product_row s)) c.in-Some.row (into_iter_items c.next.new.self)
+      (into_iter_items c.loop-row.row-iterator) c.in-Some.ensures.steps.0 c.loop-row.invariant.ranges;
 }

@@ -25,6 +25,7 @@ loop-row-preserved c =
     let fits : FitsSigned w128 c.row-item.result.max = omega (arith, ints, good.max.0, good.max.1) in
     let size = c.loop-row.invariant.size in
     record {
-      sum = simp to_z-of_z (more (λ p. p.max) (map product_row c.args.rows.now) c.loop-row.row-index c.loop-row.sum c.row-item.result.max here c.loop-row.invariant.sum (ap (λ p. p.max) at) good.max.0);
+      sum = simp to_z-of_z (more (λ p. p.max) (map product_row c.args.rows.now) c.loop-row.row-index c.loop-row.sum
+          c.row-item.result.max here c.loop-row.invariant.sum (ap (λ p. p.max) at) good.max.0);
       size = simp to_z-of_z (omega (arith, ints, good.max.1, size));
     }
