@@ -1,7 +1,7 @@
 //! The sides of an envelope.
 
 ghost use Rattle.std.specs.Prelude.{◌≡◌, ◌≤◌, ◌*ℤ◌, neg_ℤ};
-ghost use Rattle.row_model.specs.Envelopes.{side as side_lem};
+ghost use Rattle.row_model.specs.Envelopes as envelopes;
 ghost use Rattle.mccormick.specs.Views.{shown_ends, shown_side};
 
 /// The ends of a and of b.
@@ -26,7 +26,7 @@ pub(crate) struct Side {
 pub(crate) fn side_of(side: u8, scale: i64, ends: &Ends) -> Side
     requires low { 1 ≤ side }
     requires high { side ≤ 4 }
-    ensures { shown_side result ≡ side_lem side scale (shown_ends ends.now) }
+    ensures { shown_side result ≡ envelopes.side side scale (shown_ends ends.now) }
 {
     match side {
         1 => below(scale, ends.a_low, ends.b_low),

@@ -1,7 +1,7 @@
 //! A side of an envelope, written into a row.
 
 ghost use Rattle.std.specs.Prelude.{◌≡◌, ◌≢◌, ℕ, ◌<◌, ◌≤◌, []};
-ghost use Rattle.row_model.specs.Envelopes.{side as side_lem};
+ghost use Rattle.row_model.specs.Envelopes as envelopes;
 ghost use Rattle.box_space.specs.Lines.{terms_from};
 ghost use Rattle.mccormick.specs.Views.{shown_ends};
 ghost use Rattle.mccormick.specs.Coefs.{side_coef, three_coefs};
@@ -17,8 +17,8 @@ pub fn envelope(side: u8, scale: i64, a: u32, b: u32, w: u32, ends: &Ends, row: 
     requires a_b { a ≢ b }
     requires a_w { a ≢ w }
     requires b_w { b ≢ w }
-    ensures terms { (n : ℕ) → a < n → b < n → w < n → row.new.terms ≡ terms_from 0 (side_coef a b w (side_lem side scale (shown_ends ends.now))) n }
-    ensures constant { row.new.constant ≡ (side_lem side scale (shown_ends ends.now)).constant }
+    ensures terms { (n : ℕ) → a < n → b < n → w < n → row.new.terms ≡ terms_from 0 (side_coef a b w (envelopes.side side scale (shown_ends ends.now))) n }
+    ensures constant { row.new.constant ≡ (envelopes.side side scale (shown_ends ends.now)).constant }
 {
     let side = side_of(side, scale, ends);
     row.clear();
