@@ -1,5 +1,6 @@
 -- Ends that are held stand for a box, and their halves for its halves.
-use Rattle.std.proofs.Common.{◌≡◌, ℕ, ◌<◌, ◌⊎◌, inl, inr, ◌==◌, if◌then◌else◌, List, length, get_or, set, ℤ, pos, ◌*ℤ◌, ◌<ℤ◌, ◌≤ℤ◌, Result, Ok, Err, IfOk, arith, refl, sym, ap, subst, ◌∙◌, get_or-set_same, get_or-set_other}
+use Rattle.std.proofs.Common.{◌≡◌, ℕ, ◌<◌, ◌⊎◌, inl, inr, ◌==◌, if◌then◌else◌, List, length, get_or, set, ℤ, pos}
+use Rattle.std.proofs.Common.{◌*ℤ◌, ◌<ℤ◌, ◌≤ℤ◌, Result, Ok, Err, IfOk, arith, refl, sym, ap, subst, ◌∙◌, get_or-set_same, get_or-set_other}
 use Rattle.std.proofs.lemmas.List.{length-set}
 use Rattle.integers.proofs.AtKey.{same_or_other, chosen, passed}
 use Rattle.pool_model.specs.Network.{Net}
@@ -28,7 +29,8 @@ set_is xs coord c cut f lt same = elim (same_or_other c coord) [
   | inr d ↦ get_or-set_other xs coord c cut (pos 0) d ∙ same ∙ sym (passed c coord cut (f c) d)
 ]
 
-pub left-half : (n : Net) (b : Box) (e left : BoxEnds) (coord : ℕ) (cut : ℤ) → AreEndsOf n b e → left.low.items ≡ e.low.items → left.high.items ≡ set e.high.items coord cut → coord < coords n → b.low coord <ℤ cut → cut <ℤ b.high coord
+pub left-half : (n : Net) (b : Box) (e left : BoxEnds) (coord : ℕ) (cut : ℤ) → AreEndsOf n b e → left.low.items ≡ e.low.items
+    → left.high.items ≡ set e.high.items coord cut → coord < coords n → b.low coord <ℤ cut → cut <ℤ b.high coord
     → AreEndsOf n (left_of b coord cut) left
 left-half n b e left coord cut ends lows highs lt above below =
     agree-ends n (left_of b coord cut) left (left-proper n b coord cut (box-proper n b e ends) above below)
@@ -39,7 +41,8 @@ left-half n b e left coord cut ends lows highs lt above below =
       high = λ c h. ap (λ (xs : List ℤ). get_or xs c (pos 0)) highs ∙ set_is e.high.items coord c cut b.high (omega (arith, lt, ends.proper.highs)) (ends.agree.high c h);
     }
 
-pub right-half : (n : Net) (b : Box) (e right : BoxEnds) (coord : ℕ) (cut : ℤ) → AreEndsOf n b e → right.low.items ≡ set e.low.items coord cut → right.high.items ≡ e.high.items → coord < coords n → b.low coord <ℤ cut → cut <ℤ b.high coord
+pub right-half : (n : Net) (b : Box) (e right : BoxEnds) (coord : ℕ) (cut : ℤ) → AreEndsOf n b e → right.low.items ≡ set e.low.items coord cut
+    → right.high.items ≡ e.high.items → coord < coords n → b.low coord <ℤ cut → cut <ℤ b.high coord
     → AreEndsOf n (right_of b coord cut) right
 right-half n b e right coord cut ends lows highs lt above below =
     agree-ends n (right_of b coord cut) right (right-proper n b coord cut (box-proper n b e ends) above below)
@@ -89,12 +92,14 @@ halves-cover n p b left right coord cut h lies =
 
 -- what a cut returns
 module _ (b : BoxEnds) (coord : ℕ) (cut : ℤ) where
-  pub cut-proper : (r : Result (BoxEnds × BoxEnds) Memory) → coord < length b.low.items → coord < length b.high.items → get_or b.low.items coord (pos 0) <ℤ cut → cut <ℤ get_or b.high.items coord (pos 0)
+  pub cut-proper : (r : Result (BoxEnds × BoxEnds) Memory) → coord < length b.low.items → coord < length b.high.items
+      → get_or b.low.items coord (pos 0) <ℤ cut → cut <ℤ get_or b.high.items coord (pos 0)
       → IfOk r (λ h. AreHalves b h.0 h.1 coord cut) → IfOk r (λ h. (n : Net) → AreEnds n b → AreEnds n h.0 × AreEnds n h.1)
   cut-proper (Ok h) low high above below halves = λ n ends. halves-proper n b h.0 h.1 coord cut record { halves = halves; low = low; high = high; above = above; below = below } ends
   cut-proper (Err e) low high above below halves = tt
 
-  pub cut-covers : (r : Result (BoxEnds × BoxEnds) Memory) → coord < length b.low.items → coord < length b.high.items → get_or b.low.items coord (pos 0) <ℤ cut → cut <ℤ get_or b.high.items coord (pos 0)
+  pub cut-covers : (r : Result (BoxEnds × BoxEnds) Memory) → coord < length b.low.items → coord < length b.high.items
+      → get_or b.low.items coord (pos 0) <ℤ cut → cut <ℤ get_or b.high.items coord (pos 0)
       → IfOk r (λ h. AreHalves b h.0 h.1 coord cut)
       → IfOk r (λ h. (n : Net) (p : Plan) → LiesIn n p (shown_box_ends b) → LiesIn n p (shown_box_ends h.0) ⊎ LiesIn n p (shown_box_ends h.1))
   cut-covers (Ok h) low high above below halves = λ n p lies. halves-cover n p b h.0 h.1 coord cut record { halves = halves; low = low; high = high; above = above; below = below } lies

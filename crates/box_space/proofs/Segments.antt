@@ -196,8 +196,10 @@ whole n r (One b i c ∷ ts) known rising =
     record { terms = more.0; zero = more.1 }
 whole n r (All b key node f ∷ ts) known rising =
     let numbers = numbers_at (key_of n key) node (count_of n key) in
-    let own = sym (ap (λ (m : ℕ). terms_by (number_of n b) (λ i. when (key_of n key i) node (factor_of n b f i)) m) (sym known.0.1) ∙ terms_by-key (number_of n b) (key_of n key) node (factor_of n b f) (count_of n key)) in
-    let more = whole_more n r b (λ i. when (key_of n key i) node (factor_of n b f i)) ts (terms_at (number_of n b) (factor_of n b f) numbers) own known.0.0 rising.0 (whole n (suc (rank b)) ts known.1 rising.1) in
+    let own = sym (ap (λ (m : ℕ). terms_by (number_of n b) (λ i. when (key_of n key i) node (factor_of n b f i)) m) (sym known.0.1)
+    ∙ terms_by-key (number_of n b) (key_of n key) node (factor_of n b f) (count_of n key)) in
+    let more = whole_more n r b (λ i. when (key_of n key i) node (factor_of n b f i)) ts
+    (terms_at (number_of n b) (factor_of n b f) numbers) own known.0.0 rising.0 (whole n (suc (rank b)) ts known.1 rising.1) in
     record { terms = more.0; zero = more.1 }
 
 pub whole_terms : (n : Net) (ts : List Terms) → AreKnown n ts → AreRising 0 ts → flat_map (terms_of n) ts ≡ terms_from 0 (by_number n (coefs_of n ts)) (variables n)

@@ -1,5 +1,6 @@
 -- The terms of so many variables: the same, none, one alone, one kind behind another, those of a key, and a column of a grid.
-use Rattle.std.proofs.Common.{◌≡◌, ℕ, zero, suc, ◌+◌, ◌-◌, ◌*◌, ◌/◌, ◌%◌, ◌<◌, ◌≤◌, inl, inr, nat_lt, Bool, true, false, ◌==◌, if◌then◌else◌, List, [], ◌∷◌, ◌++◌, length, ℤ, pos, unsigned_abs, add-zero, add-suc, arith, refl, sym, ap, ◌∙◌, append_assoc}
+use Rattle.std.proofs.Common.{◌≡◌, ℕ, zero, suc, ◌+◌, ◌-◌, ◌*◌, ◌/◌, ◌%◌, ◌<◌, ◌≤◌, inl, inr, nat_lt, Bool, true, false}
+use Rattle.std.proofs.Common.{◌==◌, if◌then◌else◌, List, [], ◌∷◌, ◌++◌, length, ℤ, pos, unsigned_abs, add-zero, add-suc, arith, refl, sym, ap, ◌∙◌, append_assoc}
 use Rattle.std.proofs.lemmas.List.{append-nil}
 use Rattle.std.proofs.lemmas.Nat.{div-mul-add, mod-mul-add}
 use Rattle.std.proofs.lemmas.Bool.Decides.{nat_tests}
@@ -61,7 +62,8 @@ pub terms_from-split : (first m : ℕ) (f g : ℕ → ℤ) (k : ℕ) → terms_f
 terms_from-split first m f g k =
     terms_by-append (λ i. first + i) (piece m f g) m k
     ∙ ap (λ (ts : List Term). ts ++ terms_by (λ i. first + (m + i)) (λ i. piece m f g (m + i)) k) (terms_from-same first (piece m f g) f m front)
-    ∙ ap (λ (ts : List Term). terms_from first f m ++ ts) (terms_by-same (λ i. first + (m + i)) (λ i. first + m + i) (λ i. piece m f g (m + i)) g k (λ i lt. omega arith) (λ i lt. back i (m + i - m) (omega arith)))
+    ∙ ap (λ (ts : List Term). terms_from first f m ++ ts)
+    (terms_by-same (λ i. first + (m + i)) (λ i. first + m + i) (λ i. piece m f g (m + i)) g k (λ i lt. omega arith) (λ i lt. back i (m + i - m) (omega arith)))
   where
     front : (i : ℕ) → i < m → piece m f g i ≡ f i
     front i lt = grind (arith, nat_tests)

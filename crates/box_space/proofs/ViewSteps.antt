@@ -14,5 +14,6 @@ record AreProper (n : Net) (low high : List ℤ) : Type 0 where
 
 pub viewed : (n : Net) (b : BoxEnds) (v : BoxView) → v.low.now ≡ b.low.items → v.high.now ≡ b.high.items → AreEnds n b → IsView n v
 viewed n b v low high h =
-    let same = subst (λ (xs : List ℤ). AreProper n xs v.high.now) (sym low) (subst (λ (xs : List ℤ). AreProper n b.low.items xs) (sym high) record { lows = h.lows; highs = h.highs; proper = h.proper }) in
+    let same = subst (λ (xs : List ℤ). AreProper n xs v.high.now) (sym low)
+    (subst (λ (xs : List ℤ). AreProper n b.low.items xs) (sym high) record { lows = h.lows; highs = h.highs; proper = h.proper }) in
     record { lows = same.lows; highs = same.highs; proper = same.proper }

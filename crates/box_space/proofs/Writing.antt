@@ -98,8 +98,10 @@ block-few n (Mixed k) l p = omega (arith, l.outs)
 pub table-few : (n : Net) (r : ℕ) (ts : List Terms) → IsLimited n → path_count n ≤ 512 → AreKnown n ts → AreRising r ts → sum_by (most_of n) ts ≤ 256 * length ts + spare r
 table-few n r [] l p known rising = omega arith
 table-few n r (Nothing ∷ ts) l p known rising = omega (arith, sum_by-cons (most_of n) Nothing ts, table-few n r ts l p known.1 rising)
-table-few n r (One b i c ∷ ts) l p known rising = omega (arith, sum_by-cons (most_of n) (One b i c) ts, table-few n (suc (rank b)) ts l p known.1 rising.1, block-few n b l p, spare-less r (rank b) rising.0, known.0.1)
-table-few n r (Every b key node f ∷ ts) l p known rising = omega (arith, sum_by-cons (most_of n) (Every b key node f) ts, table-few n (suc (rank b)) ts l p known.1 rising.1, block-few n b l p, spare-less r (rank b) rising.0)
+table-few n r (One b i c ∷ ts) l p known rising =
+    omega (arith, sum_by-cons (most_of n) (One b i c) ts, table-few n (suc (rank b)) ts l p known.1 rising.1, block-few n b l p, spare-less r (rank b) rising.0, known.0.1)
+table-few n r (Every b key node f ∷ ts) l p known rising =
+    omega (arith, sum_by-cons (most_of n) (Every b key node f) ts, table-few n (suc (rank b)) ts l p known.1 rising.1, block-few n b l p, spare-less r (rank b) rising.0)
 
 -- ---- a line of a row
 

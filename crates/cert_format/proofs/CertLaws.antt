@@ -102,24 +102,29 @@ reads5 : (w : Written) (c : ℤ) (b : ℕ) (d g : ℤ) → below 64 b → Reads 
 unfolding base_of
 reads5 w c b d g le = bind_reads ℕ Claimed (λ m. below 64 m × (eqb m b ≡ true)) (number_spelling (end_of Line)) (same_at (2 ^ 64 - 1) (end_of Line) b)
     (λ m z. (z ≡ with_gap w c b d g) × (m ≡ b)) (λ _ _. []) (λ m a. Ok (with_gap w c b d g, a)) base_of (same_reads b le)
-    (λ m i. reworded Claimed (λ z. z ≡ with_gap w c b d g) (λ z. (z ≡ with_gap w c b d g) × (m ≡ b)) (λ _. []) (λ _. []) (λ a. Ok (with_gap w c b d g, a)) (done_reads Claimed (with_gap w c b d g)) (λ z e. (e, eqb-true m b i.1)) (λ z h. h.0) (λ z h. refl))
+    (λ m i. reworded Claimed (λ z. z ≡ with_gap w c b d g) (λ z. (z ≡ with_gap w c b d g) × (m ≡ b)) (λ _. []) (λ _. [])
+    (λ a. Ok (with_gap w c b d g, a)) (done_reads Claimed (with_gap w c b d g)) (λ z e. (e, eqb-true m b i.1)) (λ z h. h.0) (λ z h. refl))
     (λ m z h. ap base_of h.0 ∙ sym h.1)
 
 reads4 : (w : Written) (c : ℤ) (b : ℕ) (d : ℤ) → below 64 b → Reads Claimed (G4 w c b d) g4 (r4 w c b d)
 unfolding gap_of
-reads4 w c b d le = bind_reads ℤ Claimed i128 (int_spelling (end_of Space)) (i128_at Space) (λ g z. G5 w c b d g z) (λ _ z. g5 z) (λ g a. r5 w c b d g a) gap_of (i128_reads Space) (λ g i. reads5 w c b d g le) (λ g z h. ap gap_of h.1.0)
+reads4 w c b d le = bind_reads ℤ Claimed i128 (int_spelling (end_of Space)) (i128_at Space) (λ g z. G5 w c b d g z) (λ _ z. g5 z)
+    (λ g a. r5 w c b d g a) gap_of (i128_reads Space) (λ g i. reads5 w c b d g le) (λ g z h. ap gap_of h.1.0)
 
 reads3 : (w : Written) (c : ℤ) (b : ℕ) → below 64 b → Reads Claimed (G3 w c b) g3 (r3 w c b)
 unfolding bound_of
-reads3 w c b le = bind_reads ℤ Claimed i128 bound_line bound_at (λ d z. G4 w c b d z) (λ _ z. codes "gap " ++ g4 z) (λ d a. word_at (codes "gap ") a >>= λ v. r4 w c b d v.1) bound_of bound_reads (λ d i. word_then (codes "gap ") refl (reads4 w c b d le)) (λ d z h. ap bound_of h.1.1.0)
+reads3 w c b le = bind_reads ℤ Claimed i128 bound_line bound_at (λ d z. G4 w c b d z) (λ _ z. codes "gap " ++ g4 z)
+    (λ d a. word_at (codes "gap ") a >>= λ v. r4 w c b d v.1) bound_of bound_reads (λ d i. word_then (codes "gap ") refl (reads4 w c b d le)) (λ d z h. ap bound_of h.1.1.0)
 
 reads2 : (w : Written) (c : ℤ) → Reads Claimed (G2 w c) g2 (r2 w c)
 unfolding base_of
-reads2 w c = bind_reads ℕ Claimed (below 64) (number_spelling (end_of Line)) (u64_at Line) (λ b z. G3 w c b z) (λ _ z. g3 z) (λ b a. r3 w c b a) base_of (u64_reads Line) (λ b i. reads3 w c b i) (λ b z h. ap base_of h.1.1.1.0)
+reads2 w c = bind_reads ℕ Claimed (below 64) (number_spelling (end_of Line)) (u64_at Line) (λ b z. G3 w c b z) (λ _ z. g3 z)
+    (λ b a. r3 w c b a) base_of (u64_reads Line) (λ b i. reads3 w c b i) (λ b z h. ap base_of h.1.1.1.0)
 
 reads1 : (w : Written) → Reads Claimed (G1 w) g1 (r1 w)
 unfolding cost_of
-reads1 w = bind_reads ℤ Claimed i128 (int_spelling (end_of Space)) (i128_at Space) (λ c z. G2 w c z) (λ _ z. g2 z) (λ c a. r2 w c a) cost_of (i128_reads Space) (λ c i. reads2 w c) (λ c z h. ap cost_of h.1.1.1.1.0)
+reads1 w = bind_reads ℤ Claimed i128 (int_spelling (end_of Space)) (i128_at Space) (λ c z. G2 w c z) (λ _ z. g2 z) (λ c a. r2 w c a) cost_of
+    (i128_reads Space) (λ c i. reads2 w c) (λ c z h. ap cost_of h.1.1.1.1.0)
 
 gap_reads : (w : Written) → Reads Claimed (IsGap w) number_lines (gap_at w)
 unfolding gap_at cost_of base_of bound_of gap_of
@@ -130,7 +135,8 @@ gap_reads w = reworded Claimed (G1 w) (IsGap w) (λ z. codes "cost " ++ g1 z) nu
   where
     same : (z : Claimed) → IsGap w z → codes "cost " ++ g1 z ≡ number_lines z
     same (with_gap v c b d g) h =
-        ap (λ (r : List ℕ). codes "cost " ++ (int_spelling (end_of Space) c ++ (number_spelling (end_of Line) b ++ (bound_line d ++ (codes "gap " ++ r))))) (two_numbers (signed_decimal g) (decimal b) [] ∙ append-nil _)
+        ap (λ (r : List ℕ). codes "cost " ++
+        (int_spelling (end_of Space) c ++ (number_spelling (end_of Line) b ++ (bound_line d ++ (codes "gap " ++ r))))) (two_numbers (signed_decimal g) (decimal b) [] ∙ append-nil _)
         ∙ ap (λ (r : List ℕ). codes "cost " ++ r) (two_numbers (signed_decimal c) (decimal b) (bound_line d ++ line (codes "gap") (signed_decimal g ∷ decimal b ∷ [])))
     same (with_bound d) h = absurd (let e = h.0 in cc)
     same no_plan h = absurd (let e = h.0 in cc)
@@ -165,15 +171,19 @@ opening_text none = []
 opening_reads : (k : Kind) (sh : List ℕ) → Reads Opened (IsOpening k sh) opening_text (opened_at k sh)
 unfolding opened_at plan_in
 opening_reads kinds.Gap sh = reworded Opened (IsOpening kinds.Gap sh) (IsOpening kinds.Gap sh) (λ o. plan_lines (plan_in o) ++ []) opening_text (opened_at kinds.Gap sh)
-    (bind_reads Written Opened (IsPlanOf sh) plan_lines (plan_at sh) (λ w o. o ≡ with_plan w) (λ _ _. []) (λ w a. Ok (with_plan w, a)) plan_in (plan_reads sh) (λ w i. done_reads Opened (with_plan w)) (λ w o e. ap plan_in e))
+    (bind_reads Written Opened (IsPlanOf sh) plan_lines (plan_at sh) (λ w o. o ≡ with_plan w) (λ _ _. []) (λ w a. Ok (with_plan w, a)) plan_in
+    (plan_reads sh) (λ w i. done_reads Opened (with_plan w)) (λ w o e. ap plan_in e))
     (λ o h. h) (λ o h. h) same
   where
     same : (o : Opened) → IsOpening kinds.Gap sh o → plan_lines (plan_in o) ++ [] ≡ opening_text o
     same (with_plan w) h = append-nil (plan_lines w)
     same bound_alone h = absurd (let e = h.1 in cc)
     same none h = absurd (let e = h.1 in cc)
-opening_reads kinds.Bound sh = reworded Opened (λ o. o ≡ bound_alone) (λ o. o ≡ bound_alone) (λ _. []) opening_text (opened_at kinds.Bound sh) (done_reads Opened bound_alone) (λ o h. h) (λ o h. h) (λ o h. sym (ap opening_text h))
-opening_reads kinds.NoPlan sh = reworded Opened (λ o. o ≡ none) (λ o. o ≡ none) (λ _. []) opening_text (opened_at kinds.NoPlan sh) (done_reads Opened none) (λ o h. h) (λ o h. h) (λ o h. sym (ap opening_text h))
+opening_reads kinds.Bound sh =
+    reworded Opened (λ o. o ≡ bound_alone) (λ o. o ≡ bound_alone) (λ _. []) opening_text (opened_at kinds.Bound sh) (done_reads Opened bound_alone)
+    (λ o h. h) (λ o h. h) (λ o h. sym (ap opening_text h))
+opening_reads kinds.NoPlan sh =
+    reworded Opened (λ o. o ≡ none) (λ o. o ≡ none) (λ _. []) opening_text (opened_at kinds.NoPlan sh) (done_reads Opened none) (λ o h. h) (λ o h. h) (λ o h. sym (ap opening_text h))
 
 opening_is : (k : Kind) (sh : List ℕ) (o : Opened) → IsOpening k sh o → opening_kind o ≡ k
 unfolding opening_kind
@@ -190,7 +200,8 @@ claim_reads : (o : Opened) → Reads Claimed (IsClaim o) number_lines (claim_at 
 unfolding claim_at bound_of
 claim_reads (with_plan w) = gap_reads w
 claim_reads bound_alone = reworded Claimed (λ z. i128 (bound_of z) × (z ≡ with_bound (bound_of z))) (IsClaim bound_alone) (λ z. bound_line (bound_of z) ++ []) number_lines (claim_at bound_alone)
-    (bind_reads ℤ Claimed i128 bound_line bound_at (λ d z. z ≡ with_bound d) (λ _ _. []) (λ d a. Ok (with_bound d, a)) bound_of bound_reads (λ d i. done_reads Claimed (with_bound d)) (λ d z e. ap bound_of e))
+    (bind_reads ℤ Claimed i128 bound_line bound_at (λ d z. z ≡ with_bound d) (λ _ _. []) (λ d a. Ok (with_bound d, a)) bound_of bound_reads
+    (λ d i. done_reads Claimed (with_bound d)) (λ d z e. ap bound_of e))
     (λ z i. i) (λ z i. i) same
   where
     same : (z : Claimed) → IsClaim bound_alone z → bound_line (bound_of z) ++ [] ≡ number_lines z
@@ -342,7 +353,19 @@ cert_reads = reworded Cert C1 IsCert (λ z. codes "poolcert 1\n" ++ c1 z) text_o
         }
 
     opening_from : (sh : List ℕ) (cl : Claimed) → ClaimFits sh cl → IsClaimInRange cl → IsOpening (opening_kind (opening_of cl)) sh (opening_of cl)
-    opening_from sh (with_gap w c b d g) f h = ((h.0.base, (h.0.flow_base, ((f.feeds, recursion_from_All (below 32) w.weights h.0.weights), ((f.outs, recursion_from_All (below 64) w.outflows h.0.outflows), ((f.directs, recursion_from_All (below 64) w.direct h.0.direct), refl))))), refl)
+    opening_from sh (with_gap w c b d g) f h = (
+      (
+        h.0.base,
+        (
+          h.0.flow_base,
+          (
+            (f.feeds, recursion_from_All (below 32) w.weights h.0.weights),
+            ((f.outs, recursion_from_All (below 64) w.outflows h.0.outflows), ((f.directs, recursion_from_All (below 64) w.direct h.0.direct), refl)),
+          ),
+        ),
+      ),
+      refl,
+    )
     opening_from sh (with_bound d) f h = refl
     opening_from sh no_plan f h = refl
 

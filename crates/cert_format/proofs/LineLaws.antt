@@ -22,7 +22,8 @@ use Rattle.cert_text.proofs.NumberLaws.{below, u32_reads, u64_reads, i64_reads, 
 use Rattle.cert_format.specs.declared.reading.Kind.{Kind}
 use Rattle.cert_format.specs.declared.reading.Kind.TheVariants as kinds
 use Rattle.cert_format.specs.Cert.{NodeProof, IsSplitInRange, IsPartInRange, IsProofInRange}
-use Rattle.cert_format.specs.Reading.{kind_spelling, as_kind, kind_from, kind_at, shape_at, u32s_at, list_word_at, weights_at, flows_at, plan_at, split_line_at, splits_at, part_at, proof_line_at, proofs_at, bound_at}
+use Rattle.cert_format.specs.Reading.{kind_spelling, as_kind, kind_from, kind_at, shape_at, u32s_at, list_word_at, weights_at}
+use Rattle.cert_format.specs.Reading.{flows_at, plan_at, split_line_at, splits_at, part_at, proof_line_at, proofs_at, bound_at}
 use Rattle.cert_format.specs.Text.{field, line, plan_lines, split_line, part_fields, proof_line, split_lines, proof_lines}
 
 -- ---- the kind
@@ -38,7 +39,8 @@ kind_piece = record {
   some = (kinds.NoPlan, tt);
 }
   where
-    as_kind_is : (j : Kind) (w : List ℕ) (c : ℕ) (cs : List ℕ) (k : Kind) (r : List ℕ) (d : ℕ) → kind_spelling j ≡ d ∷ w → c ≡ d → as_kind j (after_word w cs) ≡ some_pair k r → c ∷ cs ≡ kind_spelling k ++ r
+    as_kind_is : (j : Kind) (w : List ℕ) (c : ℕ) (cs : List ℕ) (k : Kind) (r : List ℕ) (d : ℕ) → kind_spelling j ≡ d ∷ w → c ≡ d
+        → as_kind j (after_word w cs) ≡ some_pair k r → c ∷ cs ≡ kind_spelling k ++ r
     as_kind_is j w c cs k r d s h e = by_word (after_word w cs) refl e
       where
         by_word : (o : Option (List ℕ)) → after_word w cs ≡ o → as_kind j o ≡ some_pair k r → c ∷ cs ≡ kind_spelling k ++ r
@@ -54,7 +56,8 @@ kind_piece = record {
     kind_is (c ∷ cs) k r e = by_letter (eqb c 103) (eqb c 98) (eqb c 110) (eqb-true c 103) (eqb-true c 98) (eqb-true c 110) e
       where
         by_letter : (t u v : Bool) → (t ≡ true → c ≡ 103) → (u ≡ true → c ≡ 98) → (v ≡ true → c ≡ 110)
-            → cond t (as_kind kinds.Gap (after_word (codes "ap\n") cs)) (cond u (as_kind kinds.Bound (after_word (codes "ound\n") cs)) (cond v (as_kind kinds.NoPlan (after_word (codes "one\n") cs)) None)) ≡ some_pair k r → c ∷ cs ≡ kind_spelling k ++ r
+            → cond t (as_kind kinds.Gap (after_word (codes "ap\n") cs))
+            (cond u (as_kind kinds.Bound (after_word (codes "ound\n") cs)) (cond v (as_kind kinds.NoPlan (after_word (codes "one\n") cs)) None)) ≡ some_pair k r → c ∷ cs ≡ kind_spelling k ++ r
         by_letter true u v f g h e2 = as_kind_is kinds.Gap (codes "ap\n") c cs k r 103 refl (f refl) e2
         by_letter false true v f g h e2 = as_kind_is kinds.Bound (codes "ound\n") c cs k r 98 refl (g refl) e2
         by_letter false false true f g h e2 = as_kind_is kinds.NoPlan (codes "one\n") c cs k r 110 refl (h refl) e2
@@ -79,8 +82,10 @@ kind_piece = record {
             by_both (Some r) None e = absurd cc
 
         by_letter : (t u v m : Bool) → (t ≡ true → c ≡ 103) → (u ≡ true → c ≡ 98) → (v ≡ true → c ≡ 110) → (m ≡ true → c ≡ 10)
-            → value_of (cond t (as_kind kinds.Gap (after_word (codes "ap\n") cs)) (cond u (as_kind kinds.Bound (after_word (codes "ound\n") cs)) (cond v (as_kind kinds.NoPlan (after_word (codes "one\n") cs)) None)))
-            ≡ value_of (cond t (as_kind kinds.Gap (after_word (codes "ap\n") (cond m [] (first_line cs)))) (cond u (as_kind kinds.Bound (after_word (codes "ound\n") (cond m [] (first_line cs)))) (cond v (as_kind kinds.NoPlan (after_word (codes "one\n") (cond m [] (first_line cs)))) None)))
+            → value_of (cond t (as_kind kinds.Gap (after_word (codes "ap\n") cs))
+            (cond u (as_kind kinds.Bound (after_word (codes "ound\n") cs)) (cond v (as_kind kinds.NoPlan (after_word (codes "one\n") cs)) None)))
+            ≡ value_of (cond t (as_kind kinds.Gap (after_word (codes "ap\n") (cond m [] (first_line cs))))
+            (cond u (as_kind kinds.Bound (after_word (codes "ound\n") (cond m [] (first_line cs)))) (cond v (as_kind kinds.NoPlan (after_word (codes "one\n") (cond m [] (first_line cs)))) None)))
         by_letter false false false m f g h k = refl
         by_letter true u v false f g h k = as_kind_within kinds.Gap (codes "ap\n") refl
         by_letter false true v false f g h k = as_kind_within kinds.Bound (codes "ound\n") refl
@@ -194,15 +199,19 @@ abbrev v1 : List ℕ → At → Result (Written × At) ℕ
 v1 sh a = u32_at Space a >>= λ b. v2 sh b.0 b.1
 
 wreads5 : (sh : List ℕ) (b f : ℕ) (ws os : List ℕ) → Reads Written (W5 sh b f ws os) w5 (v5 sh b f ws os)
-wreads5 sh b f ws os = bind_reads (List ℕ) Written (AreItems (below 64) (get_or sh 6 0)) (numbers (codes "direct")) (flows_at (codes "direct") (get_or sh 6 0)) (λ ds z. z ≡ made b f ws os ds) (λ _ _. []) (λ ds a. Ok (made b f ws os ds, a)) (λ z. z.direct)
+wreads5 sh b f ws os =
+    bind_reads (List ℕ) Written (AreItems (below 64) (get_or sh 6 0)) (numbers (codes "direct")) (flows_at (codes "direct") (get_or sh 6 0))
+    (λ ds z. z ≡ made b f ws os ds) (λ _ _. []) (λ ds a. Ok (made b f ws os ds, a)) (λ z. z.direct)
     (flows_reads (codes "direct") refl (get_or sh 6 0)) (λ ds i. done_reads Written (made b f ws os ds)) (λ ds z e. ap (λ (y : Written). y.direct) e)
 
 wreads4 : (sh : List ℕ) (b f : ℕ) (ws : List ℕ) → Reads Written (W4 sh b f ws) w4 (v4 sh b f ws)
-wreads4 sh b f ws = bind_reads (List ℕ) Written (AreItems (below 64) (get_or sh 5 0)) (numbers (codes "outflows")) (flows_at (codes "outflows") (get_or sh 5 0)) (λ os z. W5 sh b f ws os z) (λ _ z. w5 z) (λ os a. v5 sh b f ws os a) (λ z. z.outflows)
+wreads4 sh b f ws = bind_reads (List ℕ) Written (AreItems (below 64) (get_or sh 5 0)) (numbers (codes "outflows"))
+    (flows_at (codes "outflows") (get_or sh 5 0)) (λ os z. W5 sh b f ws os z) (λ _ z. w5 z) (λ os a. v5 sh b f ws os a) (λ z. z.outflows)
     (flows_reads (codes "outflows") refl (get_or sh 5 0)) (λ os i. wreads5 sh b f ws os) (λ os z h. ap (λ (y : Written). y.outflows) h.1)
 
 wreads3 : (sh : List ℕ) (b f : ℕ) → Reads Written (W3 sh b f) w3 (v3 sh b f)
-wreads3 sh b f = bind_reads (List ℕ) Written (AreItems (below 32) (get_or sh 4 0)) (numbers (codes "weights")) (weights_at (get_or sh 4 0)) (λ ws z. W4 sh b f ws z) (λ _ z. w4 z) (λ ws a. v4 sh b f ws a) (λ z. z.weights)
+wreads3 sh b f = bind_reads (List ℕ) Written (AreItems (below 32) (get_or sh 4 0)) (numbers (codes "weights")) (weights_at (get_or sh 4 0))
+    (λ ws z. W4 sh b f ws z) (λ _ z. w4 z) (λ ws a. v4 sh b f ws a) (λ z. z.weights)
     (weights_reads (get_or sh 4 0)) (λ ws i. wreads4 sh b f ws) (λ ws z h. ap (λ (y : Written). y.weights) h.1.1)
 
 wreads2 : (sh : List ℕ) (b : ℕ) → Reads Written (W2 sh b) w2 (v2 sh b)
@@ -220,8 +229,11 @@ two_numbers x y rest = simp (append_assoc, append-nil)
 pub plan_reads : (sh : List ℕ) → Reads Written (IsPlanOf sh) plan_lines (plan_at sh)
 unfolding plan_at
 plan_reads sh = reworded Written (IsPlanOf sh) (IsPlanOf sh) (λ z. codes "plan " ++ w1 z) plan_lines (plan_at sh) (word_then (codes "plan ") refl (wreads1 sh)) (λ z h. h) (λ z h. h)
-    (λ z h. ap (λ (r : List ℕ). codes "plan " ++ (number_spelling (end_of Space) z.base ++ (number_spelling (end_of Line) z.flow_base ++ (numbers (codes "weights") z.weights ++ (numbers (codes "outflows") z.outflows ++ r))))) (append-nil (numbers (codes "direct") z.direct))
-    ∙ ap (λ (r : List ℕ). codes "plan " ++ r) (two_numbers (decimal z.base) (decimal z.flow_base) (numbers (codes "weights") z.weights ++ (numbers (codes "outflows") z.outflows ++ numbers (codes "direct") z.direct))))
+    (λ z h. ap (λ (r : List ℕ). codes "plan " ++
+    (number_spelling (end_of Space) z.base ++
+    (number_spelling (end_of Line) z.flow_base ++ (numbers (codes "weights") z.weights ++ (numbers (codes "outflows") z.outflows ++ r))))) (append-nil (numbers (codes "direct") z.direct))
+    ∙ ap (λ (r : List ℕ). codes "plan " ++ r)
+    (two_numbers (decimal z.base) (decimal z.flow_base) (numbers (codes "weights") z.weights ++ (numbers (codes "outflows") z.outflows ++ numbers (codes "direct") z.direct))))
 
 -- ---- splits
 
@@ -230,15 +242,20 @@ unfolding split_line_at
 split_reads =
     let n : (e : Ends) → ℕ → List ℕ = λ e. number_spelling (end_of e) in
     let i : ℤ → List ℕ = int_spelling (end_of Line) in
-    let three : (l c : ℕ) → Reads Split (λ z. FitsSigned w64 z.cut × (z ≡ record { leaf = l; coord = c; cut = z.cut })) (λ z. i z.cut ++ []) (λ a. i64_at Line a >>= λ x. Ok (record { leaf = l; coord = c; cut = x.0 }, x.1)) =
-    λ l c. bind_reads ℤ Split (FitsSigned w64) i (i64_at Line) (λ x z. z ≡ record { leaf = l; coord = c; cut = x }) (λ _ _. []) (λ x a. Ok (record { leaf = l; coord = c; cut = x }, a)) (λ z. z.cut) (i64_reads Line)
+    let three : (l c : ℕ)
+    → Reads Split (λ z. FitsSigned w64 z.cut × (z ≡ record { leaf = l; coord = c; cut = z.cut })) (λ z. i z.cut ++ [])
+    (λ a. i64_at Line a >>= λ x. Ok (record { leaf = l; coord = c; cut = x.0 }, x.1)) =
+    λ l c. bind_reads ℤ Split (FitsSigned w64) i (i64_at Line) (λ x z. z ≡ record { leaf = l; coord = c; cut = x }) (λ _ _. [])
+    (λ x a. Ok (record { leaf = l; coord = c; cut = x }, a)) (λ z. z.cut) (i64_reads Line)
     (λ x j. done_reads Split (record { leaf = l; coord = c; cut = x })) (λ x z e. ap (λ (y : Split). y.cut) e) in
     let two : (l : ℕ) → Reads Split (λ z. below 32 z.coord × (FitsSigned w64 z.cut × (z ≡ record { leaf = l; coord = z.coord; cut = z.cut }))) (λ z. n Space z.coord ++ (i z.cut ++ []))
     (λ a. u32_at Space a >>= λ c. i64_at Line c.1 >>= λ x. Ok (record { leaf = l; coord = c.0; cut = x.0 }, x.1)) =
     λ l. bind_reads ℕ Split (below 32) (n Space) (u32_at Space) (λ c z. FitsSigned w64 z.cut × (z ≡ record { leaf = l; coord = c; cut = z.cut })) (λ c z. i z.cut ++ [])
     (λ c a. i64_at Line a >>= λ x. Ok (record { leaf = l; coord = c; cut = x.0 }, x.1)) (λ z. z.coord) (u32_reads Space) (λ c j. three l c) (λ c z h. ap (λ (y : Split). y.coord) h.1) in
-    let one = bind_reads ℕ Split (below 32) (n Space) (u32_at Space) (λ l z. below 32 z.coord × (FitsSigned w64 z.cut × (z ≡ record { leaf = l; coord = z.coord; cut = z.cut }))) (λ l z. n Space z.coord ++ (i z.cut ++ []))
-    (λ l a. u32_at Space a >>= λ c. i64_at Line c.1 >>= λ x. Ok (record { leaf = l; coord = c.0; cut = x.0 }, x.1)) (λ z. z.leaf) (u32_reads Space) (λ l j. two l) (λ l z h. ap (λ (y : Split). y.leaf) h.1.1) in
+    let one = bind_reads ℕ Split (below 32) (n Space) (u32_at Space)
+    (λ l z. below 32 z.coord × (FitsSigned w64 z.cut × (z ≡ record { leaf = l; coord = z.coord; cut = z.cut }))) (λ l z. n Space z.coord ++ (i z.cut ++ []))
+    (λ l a. u32_at Space a >>= λ c. i64_at Line c.1 >>= λ x. Ok (record { leaf = l; coord = c.0; cut = x.0 }, x.1)) (λ z. z.leaf) (u32_reads Space)
+    (λ l j. two l) (λ l z h. ap (λ (y : Split). y.leaf) h.1.1) in
     reworded Split (λ z. below 32 z.leaf × (below 32 z.coord × (FitsSigned w64 z.cut × (z ≡ record { leaf = z.leaf; coord = z.coord; cut = z.cut })))) IsSplitInRange
     (λ z. codes "split " ++ (n Space z.leaf ++ (n Space z.coord ++ (i z.cut ++ [])))) split_line split_line_at
     (word_then (codes "split ") refl one) (λ z h. record { leaf = h.0; coord = h.1.0; cut = h.1.1.0 }) (λ z h. (h.leaf, (h.coord, (h.cut, refl)))) (λ z h. simp append_assoc)
@@ -258,7 +275,9 @@ lines_reads X Is text read word spaced one o e =
     reworded (List X) (AreLines Is) (AreLines Is) (λ xs. spaced ++ (n (length xs) ++ each_spelling s xs)) (λ xs. line word (decimal (length xs) ∷ []) ++ flat_map text xs) _
     (word_then spaced o (bind_reads ℕ (List X) (below 32) n (u32_at Line) (AreItems Is) (λ _ xs. each_spelling s xs) (λ k a. each_at (λ _. read) k a) length (u32_reads Line)
     (λ k i. each_reads X Is s (λ _. read) (λ _. one) k) (λ k xs h. h.0)))
-    (λ xs h. h) (λ xs h. h) (λ xs h. ap (λ (w : List ℕ). w ++ (n (length xs) ++ each_spelling s xs)) e ∙ regroup word (decimal (length xs)) (each_spelling s xs) ∙ ap (λ (w : List ℕ). line word (decimal (length xs) ∷ []) ++ w) (each_spelling-same text xs))
+    (λ xs h. h) (λ xs h. h)
+    (λ xs h. ap (λ (w : List ℕ). w ++ (n (length xs) ++ each_spelling s xs)) e ∙ regroup word (decimal (length xs)) (each_spelling s xs)
+    ∙ ap (λ (w : List ℕ). line word (decimal (length xs) ∷ []) ++ w) (each_spelling-same text xs))
   where
     regroup : (word d rest : List ℕ) → (word ++ 32 ∷ []) ++ ((d ++ 10 ∷ []) ++ rest) ≡ (word ++ (((32 ∷ d) ++ []) ++ 10 ∷ [])) ++ rest
     regroup word d rest = simp append_assoc
@@ -280,7 +299,8 @@ part_reads k =
     (λ z. number_spelling (end_of Space) z.row ++ (i z.mult ++ [])) (part_spelling k) (part_at k)
     (bind_reads ℕ Part (below 32) (number_spelling (end_of Space)) (u32_at Space) (λ r z. FitsSigned w64 z.mult × (z ≡ record { row = r; mult = z.mult })) (λ r z. i z.mult ++ [])
     (λ r a. i64_at (ends_before k) a >>= λ m. Ok (record { row = r; mult = m.0 }, m.1)) (λ z. z.row) (u32_reads Space)
-    (λ r j. bind_reads ℤ Part (FitsSigned w64) i (i64_at (ends_before k)) (λ m z. z ≡ record { row = r; mult = m }) (λ _ _. []) (λ m a. Ok (record { row = r; mult = m }, a)) (λ z. z.mult) (i64_reads (ends_before k))
+    (λ r j. bind_reads ℤ Part (FitsSigned w64) i (i64_at (ends_before k)) (λ m z. z ≡ record { row = r; mult = m }) (λ _ _. [])
+    (λ m a. Ok (record { row = r; mult = m }, a)) (λ z. z.mult) (i64_reads (ends_before k))
     (λ m l. done_reads Part (record { row = r; mult = m })) (λ m z e. ap (λ (y : Part). y.mult) e))
     (λ r z h. ap (λ (y : Part). y.row) h.1))
     (λ z h. record { row = h.0; mult = h.1.0 }) (λ z h. (h.row, (h.mult, refl))) (λ z h. ap (λ (w : List ℕ). number_spelling (end_of Space) z.row ++ w) (append-nil (i z.mult)))
@@ -325,17 +345,21 @@ abbrev o0 : At → Result (NodeProof × At) ℕ
 o0 a = u32_at Space a >>= λ n. o1 n.0 n.1
 
 reads3 : (n s c : ℕ) → Reads NodeProof (P3 n s c) p3 (o3 n s c)
-reads3 n s c = bind_reads (List Part) NodeProof (AreItems IsPartInRange c) (each_spelling part_spelling) (each_at part_at c) (λ ps z. z ≡ proved n s ps) (λ _ _. []) (λ ps a. Ok (proved n s ps, a)) (λ z. z.proof.parts)
+reads3 n s c = bind_reads (List Part) NodeProof (AreItems IsPartInRange c) (each_spelling part_spelling) (each_at part_at c)
+    (λ ps z. z ≡ proved n s ps) (λ _ _. []) (λ ps a. Ok (proved n s ps, a)) (λ z. z.proof.parts)
     (each_reads Part IsPartInRange part_spelling part_at part_reads c) (λ ps i. done_reads NodeProof (proved n s ps)) (λ ps z e. ap (λ (y : NodeProof). y.proof.parts) e)
 
 reads2 : (n s : ℕ) → Reads NodeProof (P2 n s) p2 (o2 n s)
-reads2 n s = bind_reads ℕ NodeProof (below 32) (number_spelling (end_of LineIfZero)) (u32_at LineIfZero) (λ c z. P3 n s c z) (λ _ z. p3 z) (λ c a. o3 n s c a) (λ z. length z.proof.parts) (u32_reads LineIfZero) (λ c i. reads3 n s c) (λ c z h. h.0.0)
+reads2 n s = bind_reads ℕ NodeProof (below 32) (number_spelling (end_of LineIfZero)) (u32_at LineIfZero) (λ c z. P3 n s c z) (λ _ z. p3 z)
+    (λ c a. o3 n s c a) (λ z. length z.proof.parts) (u32_reads LineIfZero) (λ c i. reads3 n s c) (λ c z h. h.0.0)
 
 reads1 : (n : ℕ) → Reads NodeProof (P1 n) p1 (o1 n)
-reads1 n = bind_reads ℕ NodeProof (below 64) (number_spelling (end_of Space)) (u64_at Space) (λ s z. P2 n s z) (λ _ z. p2 z) (λ s a. o2 n s a) (λ z. z.proof.scale) (u64_reads Space) (λ s i. reads2 n s) (λ s z h. ap (λ (y : NodeProof). y.proof.scale) h.1.1)
+reads1 n = bind_reads ℕ NodeProof (below 64) (number_spelling (end_of Space)) (u64_at Space) (λ s z. P2 n s z) (λ _ z. p2 z) (λ s a. o2 n s a)
+    (λ z. z.proof.scale) (u64_reads Space) (λ s i. reads2 n s) (λ s z h. ap (λ (y : NodeProof). y.proof.scale) h.1.1)
 
 reads0 : Reads NodeProof P0 p0 o0
-reads0 = bind_reads ℕ NodeProof (below 32) (number_spelling (end_of Space)) (u32_at Space) (λ n z. P1 n z) (λ _ z. p1 z) (λ n a. o1 n a) (λ z. z.node) (u32_reads Space) (λ n i. reads1 n) (λ n z h. ap (λ (y : NodeProof). y.node) h.1.1.1)
+reads0 = bind_reads ℕ NodeProof (below 32) (number_spelling (end_of Space)) (u32_at Space) (λ n z. P1 n z) (λ _ z. p1 z) (λ n a. o1 n a) (λ z. z.node)
+    (u32_reads Space) (λ n i. reads1 n) (λ n z h. ap (λ (y : NodeProof). y.node) h.1.1.1)
 
 abbrev part_text : Part → List ℕ
 part_text p = decimal p.row ++ (32 ∷ signed_decimal p.mult)
@@ -348,7 +372,8 @@ part_same k p = ap (λ (d : ℕ). (decimal p.row ++ 32 ∷ []) ++ (signed_decima
 
 parts_same : (ps : List Part) → flat_map field (flat_map part_fields ps) ≡ flat_map (λ p. 32 ∷ part_text p) ps
 parts_same [] = refl
-parts_same (p ∷ ps) = flat_map-append field (part_fields p) (flat_map part_fields ps) ∙ rw (parts_same ps) (ap (λ (w : List ℕ). w ++ flat_map (λ p. 32 ∷ part_text p) ps) (two (decimal p.row) (signed_decimal p.mult)))
+parts_same (p ∷ ps) = flat_map-append field (part_fields p) (flat_map part_fields ps)
+    ∙ rw (parts_same ps) (ap (λ (w : List ℕ). w ++ flat_map (λ p. 32 ∷ part_text p) ps) (two (decimal p.row) (signed_decimal p.mult)))
   where
     two : (x y : List ℕ) → (32 ∷ x) ++ ((32 ∷ y) ++ []) ≡ 32 ∷ (x ++ (32 ∷ y))
     two x y = ap (λ (w : List ℕ). 32 ∷ (x ++ (32 ∷ w))) (append-nil y)

@@ -54,5 +54,6 @@ proof_text p =
 
 -- ---- a count and so many lines
 
-pub lines_text : {X Y : Type 0} (word : List ℕ) (f : Y → List ℕ) (view : X → Y) (xs : List X) → line word (decimal (length xs) ∷ []) ++ flat_map f (map view xs) ≡ line word (decimal (length (map view xs)) ∷ []) ++ flat_map f (map view xs)
+pub lines_text : {X Y : Type 0} (word : List ℕ) (f : Y → List ℕ) (view : X → Y) (xs : List X)
+    → line word (decimal (length xs) ∷ []) ++ flat_map f (map view xs) ≡ line word (decimal (length (map view xs)) ∷ []) ++ flat_map f (map view xs)
 lines_text word f view xs = ap (λ (n : ℕ). line word (decimal n ∷ []) ++ flat_map f (map view xs)) (sym (length-map xs view))

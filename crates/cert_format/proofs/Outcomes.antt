@@ -18,7 +18,8 @@ use Rattle.cert_format.specs.Text.{text_of}
 use Rattle.cert_format.proofs.CertLaws.{cert_reads}
 
 -- an item of a list stops
-pub each-halts : {X : Type 0} (r : ℕ → At → Result (X × At) ℕ) (n i : ℕ) (front : List X) (a : At) (e : Halt) (broken : Bool) (total : Result (List X × At) ℕ) → i < n → Halts e broken (r (n - (i + 1)) a)
+pub each-halts : {X : Type 0} (r : ℕ → At → Result (X × At) ℕ) (n i : ℕ) (front : List X) (a : At) (e : Halt) (broken : Bool)
+    (total : Result (List X × At) ℕ) → i < n → Halts e broken (r (n - (i + 1)) a)
     → with_front front (each_at r (n - i) a) ≡ total → Halts e broken total
 each-halts r n i front a halts.Memory broken total lt h k = tt
 each-halts r n i front a (halts.Read e) broken total lt h k = each-stops r n i front a e broken total lt h k

@@ -41,6 +41,7 @@ pub once_by : (ys : List Item) (x : Item) (xs : List Item) (b : Bool) → ys ≡
     → (not b && once (shown_items xs)) ≡ once (shown_items ys)
 once_by ys x xs b parts is = ap (λ c. not c && once (shown_items xs)) (is ∙ go x.name) ∙ sym (ap (λ zs. once (shown_items zs)) parts)
   where
-    go : (o : Option (Bor Text)) → option_map_or (λ n. list_any (λ y. is_named n.now (shown_item y)) xs) o false ≡ option_map_or (λ name. list_any (is_named name) (shown_items xs)) (option_map (λ s. s.now) o) false
+    go : (o : Option (Bor Text))
+        → option_map_or (λ n. list_any (λ y. is_named n.now (shown_item y)) xs) o false ≡ option_map_or (λ name. list_any (is_named name) (shown_items xs)) (option_map (λ s. s.now) o) false
     go None = refl
     go (Some n) = any_map (is_named n.now) shown_item xs

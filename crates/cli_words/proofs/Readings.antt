@@ -1,5 +1,6 @@
 -- The items that are computed are those that the words are read as.
-use Rattle.std.proofs.Common.{ap, refl, sym, subst, true, false, not, List, [], ◌∷◌, ◌++◌, ◌≡◌, ◌≢◌, ◌∙◌, ◌==◌, ◌⊎◌, inl, inr, Bool, cond, zero, suc, Option, Some, None, true≢false, arith, eq-eqb, eqb-true}
+use Rattle.std.proofs.Common.{ap, refl, sym, subst, true, false, not, List, [], ◌∷◌, ◌++◌, ◌≡◌, ◌≢◌, ◌∙◌}
+use Rattle.std.proofs.Common.{◌==◌, ◌⊎◌, inl, inr, Bool, cond, zero, suc, Option, Some, None, true≢false, arith, eq-eqb, eqb-true}
 use Rattle.std.specs.Prelude.{option_and_then}
 use Rattle.clap.specs.Lexer.{has_byte, long_of, long_of_rest, strip_byte, name_and_value}
 use Rattle.clap.proofs.CutLemmas.{Lacks}
@@ -104,7 +105,8 @@ abbrev Back : List Text → Type 0
 Back words = (waiting : Option Text) (items : List Given) → items_after waiting words ≡ Some items → Reads waiting words items
 
 module _ (words : List Text) (ih : Back words) where
-  after_name : (word name : Text) (rest : Text) (items : List Given) → word ≡ 45 ∷ 45 ∷ rest → rest ≡ name → is_name name ≡ true → (ws : List Text) → Reads (Some name) ws items → ReadAs (word ∷ ws) items
+  after_name : (word name : Text) (rest : Text) (items : List Given) → word ≡ 45 ∷ 45 ∷ rest → rest ≡ name → is_name name ≡ true → (ws : List Text)
+      → Reads (Some name) ws items → ReadAs (word ∷ ws) items
   after_name word name rest items is same n [] r = absurd r
   after_name word name rest items is same n (value ∷ ws) r =
       subst (λ w. ReadAs (w ∷ value ∷ ws) items) (sym (is ∙ ap (λ t. 45 ∷ 45 ∷ t) same))

@@ -125,13 +125,15 @@ module _ (l : Line) (proper : Proper l) where
   takes_words words items w =
       let f = fits_parts (length l.places) l.options items w.fitting in
       ap (takes program_app) w.first
-      ∙ takes_form (codes "pool") l.command subs (rules_of l) proper.named program_app proper.bare w.rest (labelled l.places items) (ends w.rest items (read_items w.rest items w.read) f) program_simple program_built refl
+      ∙ takes_form (codes "pool") l.command subs (rules_of l) proper.named program_app proper.bare w.rest (labelled l.places items)
+      (ends w.rest items (read_items w.rest items w.read) f) program_simple program_built refl
 
   pub rows_words : (words : List Text) (items : List Given) → Commands words l items → subcommand_of program_app words ≡ Some (l.command, rows_for (labelled l.places items))
   rows_words words items w =
       let f = fits_parts (length l.places) l.options items w.fitting in
       ap (subcommand_of program_app) w.first
-      ∙ form_rows (codes "pool") l.command subs (rules_of l) proper.named program_app proper.bare w.rest (labelled l.places items) (ends w.rest items (read_items w.rest items w.read) f) program_simple program_built refl
+      ∙ form_rows (codes "pool") l.command subs (rules_of l) proper.named program_app proper.bare w.rest (labelled l.places items)
+      (ends w.rest items (read_items w.rest items w.read) f) program_simple program_built refl
 
 -- words of the form are a command of the table and its items
 pub record Formed (words : List Text) : Type 0 where

@@ -1,5 +1,6 @@
 -- What clap's walk makes of words of the form.
-use Rattle.std.proofs.Common.{ap, refl, sym, true, false, not, map, List, [], ◌∷◌, ◌++◌, ◌≡◌, ◌∙◌, ◌&&◌, ◌||◌, ◌+◌, ◌==◌, eq-eqb, ℕ, Bool, cond, Option, Some, None, min, subst, true≢false, append_assoc, append-nil}
+use Rattle.std.proofs.Common.{ap, refl, sym, true, false, not, map, List, [], ◌∷◌, ◌++◌, ◌≡◌, ◌∙◌, ◌&&◌}
+use Rattle.std.proofs.Common.{◌||◌, ◌+◌, ◌==◌, eq-eqb, ℕ, Bool, cond, Option, Some, None, min, subst, true≢false, append_assoc, append-nil}
 use Rattle.std.specs.Prelude.{unwrap_or, fold, option_and_then}
 use Rattle.std.specs.List.{list_any}
 use Rattle.std.specs.Str.{bytes_eq}

@@ -27,10 +27,12 @@ front-first old a b new h = record { front = h.front; rest = h.rest ++ b; parts 
 
 -- a fault in what comes behind a piece
 pub front-behind : (old : Option (List ℕ)) (a : List ℕ) (mid : Option (List ℕ)) (b : List ℕ) (new : Option (List ℕ)) → mid ≡ behind old a → TookFront mid b new → TookFront old (a ++ b) new
-front-behind old a mid b new e h = record { front = a ++ h.front; rest = h.rest; parts = ap (λ (w : List ℕ). a ++ w) h.parts ∙ sym (append_assoc a h.front h.rest); added = h.added ∙ behind-then old mid a h.front e }
+front-behind old a mid b new e h =
+    record { front = a ++ h.front; rest = h.rest; parts = ap (λ (w : List ℕ). a ++ w) h.parts ∙ sym (append_assoc a h.front h.rest); added = h.added ∙ behind-then old mid a h.front e }
 
 -- a piece, and whatever comes of what is behind it
-pub wrote-behind : {X E : Type 0} (r : Result X E) (old : Option (List ℕ)) (a : List ℕ) (mid : Option (List ℕ)) (b : List ℕ) (new : Option (List ℕ)) → mid ≡ behind old a → Wrote r mid b new → Wrote r old (a ++ b) new
+pub wrote-behind : {X E : Type 0} (r : Result X E) (old : Option (List ℕ)) (a : List ℕ) (mid : Option (List ℕ)) (b : List ℕ) (new : Option (List ℕ))
+    → mid ≡ behind old a → Wrote r mid b new → Wrote r old (a ++ b) new
 wrote-behind (Ok x) old a mid b new e h = h ∙ behind-then old mid a b e
 wrote-behind (Err x) old a mid b new e h = front-behind old a mid b new e h
 
@@ -45,13 +47,15 @@ pieces_at {X} f xs i d lt =
     ap (flat_map f) (sym (take-append-drop i xs)) ∙ flat_map-append f (take i xs) (drop i xs) ∙ ap (λ (w : List X). flat_map f (take i xs) ++ flat_map f w) later
 
 -- a fault in a piece of a list of pieces
-pub front-list : {X : Type 0} (f : X → List ℕ) (xs : List X) (i : ℕ) (d : X) (old mid new : Option (List ℕ)) → i < length xs → mid ≡ behind old (flat_map f (take i xs)) → TookFront mid (f (get_or xs i d)) new → TookFront old (flat_map f xs) new
+pub front-list : {X : Type 0} (f : X → List ℕ) (xs : List X) (i : ℕ) (d : X) (old mid new : Option (List ℕ)) → i < length xs
+    → mid ≡ behind old (flat_map f (take i xs)) → TookFront mid (f (get_or xs i d)) new → TookFront old (flat_map f xs) new
 front-list f xs i d old mid new lt e h =
     subst (λ (w : List ℕ). TookFront old w new) (sym (pieces_at f xs i d lt))
     (front-behind old (flat_map f (take i xs)) mid (f (get_or xs i d) ++ flat_map f (drop (i + 1) xs)) new e (front-first mid (f (get_or xs i d)) (flat_map f (drop (i + 1) xs)) new h))
 
 -- a fault in a piece, behind those that were taken
-pub front-at : (old : Option (List ℕ)) (text done piece rest : List ℕ) (mid new : Option (List ℕ)) → text ≡ done ++ (piece ++ rest) → mid ≡ behind old done → TookFront mid piece new → TookFront old text new
+pub front-at : (old : Option (List ℕ)) (text done piece rest : List ℕ) (mid new : Option (List ℕ)) → text ≡ done ++ (piece ++ rest)
+    → mid ≡ behind old done → TookFront mid piece new → TookFront old text new
 front-at old text done piece rest mid new parts e h =
     subst (λ (w : List ℕ). TookFront old w new) (sym parts)
     (front-behind old done mid (piece ++ rest) new e (front-first mid piece rest new h))
@@ -61,21 +65,27 @@ front-at old text done piece rest mid new parts e h =
 pub front-second : (old : Option (List ℕ)) (a : List ℕ) (m1 : Option (List ℕ)) (b c : List ℕ) (new : Option (List ℕ)) → m1 ≡ behind old a → TookFront m1 b new → TookFront old (a ++ (b ++ c)) new
 front-second old a m1 b c new e1 h = front-behind old a m1 (b ++ c) new e1 (front-first m1 b c new h)
 
-pub front-third : (old : Option (List ℕ)) (a : List ℕ) (m1 : Option (List ℕ)) (b : List ℕ) (m2 : Option (List ℕ)) (c d : List ℕ) (new : Option (List ℕ)) → m1 ≡ behind old a → m2 ≡ behind m1 b → TookFront m2 c new → TookFront old (a ++ (b ++ (c ++ d))) new
+pub front-third : (old : Option (List ℕ)) (a : List ℕ) (m1 : Option (List ℕ)) (b : List ℕ) (m2 : Option (List ℕ)) (c d : List ℕ)
+    (new : Option (List ℕ)) → m1 ≡ behind old a → m2 ≡ behind m1 b → TookFront m2 c new → TookFront old (a ++ (b ++ (c ++ d))) new
 front-third old a m1 b m2 c d new e1 e2 h = front-behind old a m1 (b ++ (c ++ d)) new e1 (front-second m1 b m2 c d new e2 h)
 
-pub front-fourth : (old : Option (List ℕ)) (a : List ℕ) (m1 : Option (List ℕ)) (b : List ℕ) (m2 : Option (List ℕ)) (c : List ℕ) (m3 : Option (List ℕ)) (d e : List ℕ) (new : Option (List ℕ)) → m1 ≡ behind old a → m2 ≡ behind m1 b → m3 ≡ behind m2 c → TookFront m3 d new → TookFront old (a ++ (b ++ (c ++ (d ++ e)))) new
+pub front-fourth : (old : Option (List ℕ)) (a : List ℕ) (m1 : Option (List ℕ)) (b : List ℕ) (m2 : Option (List ℕ)) (c : List ℕ) (m3 : Option (List ℕ))
+    (d e : List ℕ) (new : Option (List ℕ)) → m1 ≡ behind old a → m2 ≡ behind m1 b → m3 ≡ behind m2 c → TookFront m3 d new → TookFront old (a ++ (b ++ (c ++ (d ++ e)))) new
 front-fourth old a m1 b m2 c m3 d e new e1 e2 e3 h = front-behind old a m1 (b ++ (c ++ (d ++ e))) new e1 (front-third m1 b m2 c m3 d e new e2 e3 h)
 
 -- ---- a text of three, four or five pieces
 
-pub wrote-three : {X E : Type 0} (r : Result X E) (old : Option (List ℕ)) (a : List ℕ) (m1 : Option (List ℕ)) (b : List ℕ) (m2 : Option (List ℕ)) (c : List ℕ) (new : Option (List ℕ)) → m1 ≡ behind old a → m2 ≡ behind m1 b → Wrote r m2 c new → Wrote r old (a ++ (b ++ c)) new
+pub wrote-three : {X E : Type 0} (r : Result X E) (old : Option (List ℕ)) (a : List ℕ) (m1 : Option (List ℕ)) (b : List ℕ) (m2 : Option (List ℕ))
+    (c : List ℕ) (new : Option (List ℕ)) → m1 ≡ behind old a → m2 ≡ behind m1 b → Wrote r m2 c new → Wrote r old (a ++ (b ++ c)) new
 wrote-three r old a m1 b m2 c new e1 e2 h = wrote-behind r old a m1 (b ++ c) new e1 (wrote-behind r m1 b m2 c new e2 h)
 
-pub wrote-four : {X E : Type 0} (r : Result X E) (old : Option (List ℕ)) (a : List ℕ) (m1 : Option (List ℕ)) (b : List ℕ) (m2 : Option (List ℕ)) (c : List ℕ) (m3 : Option (List ℕ)) (d : List ℕ) (new : Option (List ℕ)) → m1 ≡ behind old a → m2 ≡ behind m1 b → m3 ≡ behind m2 c → Wrote r m3 d new → Wrote r old (a ++ (b ++ (c ++ d))) new
+pub wrote-four : {X E : Type 0} (r : Result X E) (old : Option (List ℕ)) (a : List ℕ) (m1 : Option (List ℕ)) (b : List ℕ) (m2 : Option (List ℕ))
+    (c : List ℕ) (m3 : Option (List ℕ)) (d : List ℕ) (new : Option (List ℕ)) → m1 ≡ behind old a → m2 ≡ behind m1 b → m3 ≡ behind m2 c → Wrote r m3 d new → Wrote r old (a ++ (b ++ (c ++ d))) new
 wrote-four r old a m1 b m2 c m3 d new e1 e2 e3 h = wrote-behind r old a m1 (b ++ (c ++ d)) new e1 (wrote-three r m1 b m2 c m3 d new e2 e3 h)
 
-pub wrote-five : {X E : Type 0} (r : Result X E) (old : Option (List ℕ)) (a : List ℕ) (m1 : Option (List ℕ)) (b : List ℕ) (m2 : Option (List ℕ)) (c : List ℕ) (m3 : Option (List ℕ)) (d : List ℕ) (m4 : Option (List ℕ)) (e : List ℕ) (new : Option (List ℕ)) → m1 ≡ behind old a → m2 ≡ behind m1 b → m3 ≡ behind m2 c → m4 ≡ behind m3 d → Wrote r m4 e new → Wrote r old (a ++ (b ++ (c ++ (d ++ e)))) new
+pub wrote-five : {X E : Type 0} (r : Result X E) (old : Option (List ℕ)) (a : List ℕ) (m1 : Option (List ℕ)) (b : List ℕ) (m2 : Option (List ℕ))
+    (c : List ℕ) (m3 : Option (List ℕ)) (d : List ℕ) (m4 : Option (List ℕ)) (e : List ℕ) (new : Option (List ℕ)) → m1 ≡ behind old a
+    → m2 ≡ behind m1 b → m3 ≡ behind m2 c → m4 ≡ behind m3 d → Wrote r m4 e new → Wrote r old (a ++ (b ++ (c ++ (d ++ e)))) new
 wrote-five r old a m1 b m2 c m3 d m4 e new e1 e2 e3 e4 h = wrote-behind r old a m1 (b ++ (c ++ (d ++ e))) new e1 (wrote-four r m1 b m2 c m3 d m4 e new e2 e3 e4 h)
 
 -- ---- a piece written in several calls

@@ -49,7 +49,8 @@ fn add_pool_paths(
 ) -> Result<(), AllocError>
     requires feeds { length feeds.now ≤ 256 }
     requires outs { length outs.now ≤ 256 }
-    ensures { (pools : ℕ) → IfOk result (λ _. map shown_path paths.new.items ≡ map shown_path paths.old.items ++ pool_paths (joined_net pools (map shown_arc feeds.now) (map shown_arc outs.now)) pool) }
+    ensures { (pools : ℕ) → IfOk result (λ _. map shown_path paths.new.items
+        ≡ map shown_path paths.old.items ++ pool_paths (joined_net pools (map shown_arc feeds.now) (map shown_arc outs.now)) pool) }
 {
     for feed in 0..feeds.len() {
         if feeds[feed].to == pool {

@@ -62,7 +62,8 @@ side_terms n o k l a b w s h =
     ∙ ap (λ (z : ℕ). terms_from 0 (side_coef (number_of n (Qualities k) l) z w s) (variables n)) h.b_is
     ∙ ap (λ (z : ℕ). terms_from 0 (side_coef (number_of n (Qualities k) l) (number_of n Outs o) z s) (variables n)) h.w_is
     ∙ swapped first second third (variables n)
-    ∙ three_row n Outs (Qualities k) (Mixed k) o l o s.of_b s.of_a s.of_w record { block = tt; among = h.out } record { block = h.quality; among = h.pool } record { block = h.quality; among = h.out } (omega arith) (omega arith)
+    ∙ three_row n Outs (Qualities k)
+    (Mixed k) o l o s.of_b s.of_a s.of_w record { block = tt; among = h.out } record { block = h.quality; among = h.pool } record { block = h.quality; among = h.out } (omega arith) (omega arith)
     rising.b_a rising.a_w rising.last
 
 -- the row of a number

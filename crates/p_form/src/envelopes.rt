@@ -36,7 +36,9 @@ fn sides(outs: u32, qualities: u32) -> u32
 pub(crate) fn write(net: &Network, n: u32, v: &BoxView, row: &mut LinRow) -> RowKind
     requires view { IsView (net_of net.now) v.now }
     requires among { n < (net_of net.now).outs * ((net_of net.now).qualities * 4) }
-    ensures { IsLineOf (net_of net.now) (quality_envelope_row (net_of net.now) (shown_box v.now) (n / ((net_of net.now).qualities * 4)) (n % ((net_of net.now).qualities * 4) / 4) (n % 4 + 1)) row.new result }
+    ensures { IsLineOf (net_of net.now)
+        (quality_envelope_row (net_of net.now) (shown_box v.now) (n / ((net_of net.now).qualities * 4)) (n % ((net_of net.now).qualities * 4) / 4)
+        (n % 4 + 1)) row.new result }
 {
     let counts = net.sizes();
     let (out, quality, side) = envelope_at(n, counts.outs, counts.qualities);

@@ -123,7 +123,8 @@ fn suits_quality(net: &Network, source: u32, product: u32, quality: u32) -> bool
     requires source { source < (net_of net.now).sources }
     requires product { product < (net_of net.now).products }
     requires quality { quality < (net_of net.now).qualities }
-    ensures { result ≡ (is_above ((net_of net.now).least product quality) ((net_of net.now).source_quality source quality) && is_below ((net_of net.now).most product quality) ((net_of net.now).source_quality source quality)) }
+    ensures { let n = net_of net.now in
+        result ≡ (is_above (n.least product quality) (n.source_quality source quality) && is_below (n.most product quality) (n.source_quality source quality)) }
 {
     let value = net.source_quality(source, quality);
     reaches(net.product_least(product, quality), value)

@@ -85,7 +85,8 @@ fn check_file<S: Shelf, K: Sink>(
 ) -> CheckOutcome
     requires { IsTrue (S.admits shelf.old cert.now) }
     ensures took { (net : List ℕ) → ReadsUnder (S.files shelf.old) net network.now → Took (ChecksAs (S.files shelf.old) net cert.now) (check_status result) (K.taken out.old) (K.taken out.new) }
-    ensures ends { (net : List ℕ) (before : ℕ) → ReadsUnder (S.files shelf.old) net network.now → Grows before (S.taken shelf.old) → CheckEnds (S.files shelf.old) net cert.now before (S.taken shelf.new) (check_status result) }
+    ensures ends { (net : List ℕ) (before : ℕ) → ReadsUnder (S.files shelf.old) net network.now → Grows before (S.taken shelf.old)
+        → CheckEnds (S.files shelf.old) net cert.now before (S.taken shelf.new) (check_status result) }
     ensures read_fault { check_status result ≡ Status.ReadFault → Rose (S.faults shelf.old) (S.faults shelf.new) }
     ensures write_fault { check_status result ≡ Status.WriteFault → Rose (K.faults out.old) (K.faults out.new) }
 {

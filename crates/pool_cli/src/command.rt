@@ -26,7 +26,8 @@ pub fn run<S: Shelf, K: Sink>(alloc: Global, words: &[String], shelf: &mut S, ou
     requires check { (net cert : List ℕ) → Asks (map string_bytes words.now) (check net cert) → IsTrue (S.admits shelf.old net) }
 
     // The certificate is asked for only where a network is read.
-    requires certificate { (net cert : List ℕ) (network : Network) → Asks (map string_bytes words.now) (check net cert) → ReadsUnder (S.files shelf.old) net network → IsTrue (S.admits shelf.old cert) }
+    requires certificate { (net cert : List ℕ) (network : Network) → Asks (map string_bytes words.now) (check net cert)
+        → ReadsUnder (S.files shelf.old) net network → IsTrue (S.admits shelf.old cert) }
 
     // What the sink took: under `Closed` and `Stopped` the text of a certificate that answers the words, under `Accepted`
     // and `Refused` the line on the certificate that they name, under `WriteFault` a front of such a text, and under every

@@ -87,7 +87,8 @@ fn solve_network<K: Sink>(alloc: Global, net: &Network, out: &mut K) -> SolveOut
 /// Writes a solution's certificate.
 fn print<K: Sink>(solution: &Solution, out: &mut K) -> SolveOutcome
     requires { IsCert (view solution.now.certificate) }
-    ensures took { (files : Option Files) (name : List ℕ) → AnswersUnder files name solution.now.closed (text_of (view solution.now.certificate)) → Took (SolvesAs files name) (solve_status result) (K.taken out.old) (K.taken out.new) }
+    ensures took { (files : Option Files) (name : List ℕ) → AnswersUnder files name solution.now.closed (text_of (view solution.now.certificate))
+        → Took (SolvesAs files name) (solve_status result) (K.taken out.old) (K.taken out.new) }
     ensures printed { IsPrinted (solve_status result) }
     ensures write_fault { solve_status result ≡ Status.WriteFault → Rose (K.faults out.old) (K.faults out.new) }
 {

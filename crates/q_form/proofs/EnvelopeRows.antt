@@ -49,5 +49,9 @@ side_terms n p e o a b w s h =
     ∙ ap (λ (z : ℕ). terms_from 0 (side_coef (number_of n Proportions e) z w s) (variables n)) h.b_is
     ∙ ap (λ (z : ℕ). terms_from 0 (side_coef (number_of n Proportions e) (number_of n Outs o) z s) (variables n)) h.w_is
     ∙ turned first second third (variables n)
-    ∙ three_row n Outs Paths Proportions o p e s.of_b s.of_w s.of_a record { block = tt; among = h.out } record { block = tt; among = h.path } record { block = tt; among = h.feed } (omega arith) (omega arith)
+    ∙ three_row n Outs Paths Proportions o p e s.of_b s.of_w s.of_a record { block = tt; among = h.out } record {
+      block = tt;
+      among =
+          h.path;
+    } record { block = tt; among = h.feed } (omega arith) (omega arith)
     (omega (arith, h.out)) (omega (arith, h.path)) (omega (arith, h.feed))

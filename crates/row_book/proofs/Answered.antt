@@ -37,7 +37,8 @@ module _ (n : Net) (b : Box) (proof : multipliers.Proof) (z : ℤ) (order : AreI
 abbrev pub IsAnswer : Net → Box → multipliers.Proof → Result Shown ProofFault → Type 0
 IsAnswer n b proof r = IfOk r (λ s. multipliers.IsInOrder n b proof × (results.shown_value s ≡ multipliers.shown_by n b proof))
 
-answer-holds : (n : Net) (b : Box) (proof : multipliers.Proof) (r : Result Shown ProofFault) (s : Shown) → IsLimited n → IsAnswer n b proof r → r ≡ Ok s → multipliers.HoldsIn n b (results.shown_value s)
+answer-holds : (n : Net) (b : Box) (proof : multipliers.Proof) (r : Result Shown ProofFault) (s : Shown) → IsLimited n → IsAnswer n b proof r
+    → r ≡ Ok s → multipliers.HoldsIn n b (results.shown_value s)
 answer-holds n b proof r s limited answer e =
     let a : IsAnswer n b proof (Ok s) = subst (IsAnswer n b proof) e answer in
     subst (multipliers.HoldsIn n b) (sym a.1) (proof-holds n b proof limited a.0)

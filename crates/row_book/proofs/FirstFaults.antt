@@ -74,7 +74,8 @@ module _ (n : Net) (b : Box) (proof : Proof) where
   pub first-sign : IsRising proof.parts → All (λ q. q.row < rows n) proof.parts → ¬ All (λ q. IsSigned (kind_at n b q.row) q.mult) proof.parts → IsFirstFault n b proof Sign
   first-sign rising known h = lone-first Sign refl (sign_holds h) (clear_rows rising known)
 
-  pub first-zero : IsRising proof.parts → All (λ q. q.row < rows n) proof.parts → All (λ q. IsSigned (kind_at n b q.row) q.mult) proof.parts → ¬ All (λ q. q.mult ≢ pos 0) proof.parts → IsFirstFault n b proof ZeroPart
+  pub first-zero : IsRising proof.parts → All (λ q. q.row < rows n) proof.parts → All (λ q. IsSigned (kind_at n b q.row) q.mult) proof.parts
+      → ¬ All (λ q. q.mult ≢ pos 0) proof.parts → IsFirstFault n b proof ZeroPart
   first-zero rising known signed h = lone-first ZeroPart refl h (clear-next 3 (clear_rows rising known) none)
     where
       none : (f : ProofFault) → number f ≡ 3 → ¬ Holds n b proof f

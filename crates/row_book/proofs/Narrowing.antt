@@ -39,9 +39,11 @@ narrowed n b c k low high a d up order down lows highs h = record {
         (subst (λ (ys : List ℤ). get_or (set b.low.items k low) j (pos 0) ≤ℤ get_or ys j (pos 0)) (sym highs) (both_hold b.low.items b.high.items k j low high a d order (h.proper.in_order j lt)));
     low = λ j lt. subst (λ (xs : List ℤ). root_low n (coord_at n j) ≤ℤ get_or xs j (pos 0)) (sym lows)
         (set_holds (λ x. root_low n (coord_at n j) ≤ℤ x) b.low.items k j low a
-        (λ e. past (root_low n (coord_at n j)) (get_or b.low.items k (pos 0)) low (subst (λ (i : ℕ). root_low n (coord_at n j) ≤ℤ get_or b.low.items i (pos 0)) e (h.proper.low j lt)) up) (h.proper.low j lt));
+        (λ e. past (root_low n (coord_at n j)) (get_or b.low.items k (pos 0)) low
+        (subst (λ (i : ℕ). root_low n (coord_at n j) ≤ℤ get_or b.low.items i (pos 0)) e (h.proper.low j lt)) up) (h.proper.low j lt));
     high = λ j lt. subst (λ (xs : List ℤ). get_or xs j (pos 0) ≤ℤ root_high n (coord_at n j)) (sym highs)
         (set_holds (λ x. x ≤ℤ root_high n (coord_at n j)) b.high.items k j high d
-        (λ e. past high (get_or b.high.items k (pos 0)) (root_high n (coord_at n j)) down (subst (λ (i : ℕ). get_or b.high.items i (pos 0) ≤ℤ root_high n (coord_at n j)) e (h.proper.high j lt))) (h.proper.high j lt));
+        (λ e. past high (get_or b.high.items k (pos 0)) (root_high n (coord_at n j)) down
+        (subst (λ (i : ℕ). get_or b.high.items i (pos 0) ≤ℤ root_high n (coord_at n j)) e (h.proper.high j lt))) (h.proper.high j lt));
   };
 }

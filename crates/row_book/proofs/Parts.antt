@@ -53,7 +53,8 @@ module _ (n : Net) (b : Box) (scale : ℕ) (parts : List multipliers.Part) where
   )
 
   constants_size : unsigned_abs (constants_of n b parts) ≤ sum_by (λ q. unsigned_abs q.mult * unsigned_abs (constant_at n b q.row)) parts
-  constants_size = abs-int_sum_by (λ q. q.mult *ℤ constant_at n b q.row) (λ q. unsigned_abs q.mult * unsigned_abs (constant_at n b q.row)) parts (λ q. omega (arith, unsigned_abs-mul q.mult (constant_at n b q.row)))
+  constants_size = abs-int_sum_by (λ q. q.mult *ℤ constant_at n b q.row) (λ q. unsigned_abs q.mult * unsigned_abs (constant_at n b q.row)) parts
+      (λ q. omega (arith, unsigned_abs-mul q.mult (constant_at n b q.row)))
 
   -- of what was read, where it is the rests
   pub ends-light : (r : ℕ → ℤ) → ((v : ℕ) → v < variables n → r v ≡ rest_of n b scale parts v) → weight_of n b record { scale = scale; parts = parts } ≤ 2 ^ 126
@@ -65,7 +66,8 @@ module _ (n : Net) (b : Box) (scale : ℕ) (parts : List multipliers.Part) where
   )
 
   pub number-read : (r : ℕ → ℤ) → ((v : ℕ) → v < variables n → r v ≡ rest_of n b scale parts v)
-      → int_sum_below (λ v. int_min (r v *ℤ by_number n (lows n b) v) (r v *ℤ by_number n (highs n b) v)) (variables n) -ℤ constants_of n b parts ≡ number_of n b record { scale = scale; parts = parts }
+      → int_sum_below (λ v. int_min (r v *ℤ by_number n (lows n b) v) (r v *ℤ by_number n (highs n b) v)) (variables n) -ℤ constants_of n b parts
+      ≡ number_of n b record { scale = scale; parts = parts }
   number-read r h = ap (λ z. z -ℤ constants_of n b parts) (int_sum_below-same
       (λ v. int_min (r v *ℤ by_number n (lows n b) v) (r v *ℤ by_number n (highs n b) v))
       (λ v. int_min (rest_of n b scale parts v *ℤ by_number n (lows n b) v) (rest_of n b scale parts v *ℤ by_number n (highs n b) v)) (variables n)
@@ -81,7 +83,8 @@ module _ (n : Net) (b : Box) (scale : ℕ) (parts : List multipliers.Part) where
         abs-int_sum_below_to least (λ v. rest_weight_of n b scale parts v * end_size n b v) (variables n) (λ v lt. small v),
       ))
     where
-      small : (v : ℕ) → unsigned_abs (int_min (rest_of n b scale parts v *ℤ by_number n (lows n b) v) (rest_of n b scale parts v *ℤ by_number n (highs n b) v)) ≤ rest_weight_of n b scale parts v * end_size n b v
+      small : (v : ℕ) → unsigned_abs
+          (int_min (rest_of n b scale parts v *ℤ by_number n (lows n b) v) (rest_of n b scale parts v *ℤ by_number n (highs n b) v)) ≤ rest_weight_of n b scale parts v * end_size n b v
       small v = omega (arith, least_size (rest_of n b scale parts v) (by_number n (lows n b) v) (by_number n (highs n b) v), mul-le-mul_right (end_size n b v) (rest_size v))
 
 -- ---- one part more

@@ -50,7 +50,8 @@ placed-p n id a e h k =
     subst (λ (z : ℕ). IsPlaced n id P z) number record {
       grouped = group-p first (row_count (p_families n (root n))) (row_count (q_families n (root n))) id past inside;
       among = inside;
-      same = λ b. row_in-behind (network_families n) (p_families n b ++ (q_families n b ++ pq_families n)) id past ∙ row_in-front (p_families n b) (q_families n b ++ pq_families n) (id - first) inside;
+      same = λ b. row_in-behind (network_families n) (p_families n b ++ (q_families n b ++ pq_families n)) id past
+          ∙ row_in-front (p_families n b) (q_families n b ++ pq_families n) (id - first) inside;
     }
 
 pub placed-q : (n : Net) (id a d : ℕ) → a ≡ row_count (network_families n) → d ≡ row_count (p_families n (root n)) → a ≤ id → d ≤ id - a

@@ -1,5 +1,6 @@
 -- Every coefficient of every row is at most 10^14 in size.
-use Rattle.std.proofs.Common.{◌≡◌, ℕ, zero, suc, ◌+◌, ◌*◌, ◌/◌, ◌%◌, ◌^◌, ◌<◌, ◌≤◌, min, Bool, true, false, ◌==◌, if◌then◌else◌, ◌++◌, length, get_or, Option, Some, None, ℤ, pos, neg_ℤ, ◌-ℤ◌, ◌≤ℤ◌, unsigned_abs, arith}
+use Rattle.std.proofs.Common.{◌≡◌, ℕ, zero, suc, ◌+◌, ◌*◌, ◌/◌, ◌%◌, ◌^◌, ◌<◌, ◌≤◌, min, Bool, true, false}
+use Rattle.std.proofs.Common.{◌==◌, if◌then◌else◌, ◌++◌, length, get_or, Option, Some, None, ℤ, pos, neg_ℤ, ◌-ℤ◌, ◌≤ℤ◌, unsigned_abs, arith}
 use Rattle.std.specs.Prelude.{unwrap_or}
 use Rattle.std.proofs.lemmas.Int.{ints, clamps}
 use Rattle.std.proofs.lemmas.List.Elements.{All-get_or}
@@ -10,7 +11,9 @@ use Rattle.row_model.specs.Variables.{PerVariable, path_count, path_feed, path_o
 use Rattle.row_model.specs.Envelopes.{Ends, Side, side}
 use Rattle.pool_model.specs.Limits.{Limit, limits, no_limit, most_limits, least_limits}
 use Rattle.pool_model.proofs.Limits.{IsSet, limits-set}
-use Rattle.row_model.specs.Catalogue.{Row, when, rows, row_at, catalogue, network_families, p_families, q_families, pq_families, source_row, balance_row, pool_row, maximum_row, minimum_row, mixing_row, mixed_most_row, mixed_least_row, quality_ends, quality_envelope_row, proportions_row, feed_row, path_most_row, path_least_row, proportion_ends, proportion_envelope_row, out_row, share_row}
+use Rattle.row_model.specs.Catalogue.{Row, when, rows, row_at, catalogue, network_families, p_families, q_families, pq_families, source_row, balance_row, pool_row, maximum_row}
+use Rattle.row_model.specs.Catalogue.{minimum_row, mixing_row, mixed_most_row, mixed_least_row, quality_ends, quality_envelope_row, proportions_row}
+use Rattle.row_model.specs.Catalogue.{feed_row, path_most_row, path_least_row, proportion_ends, proportion_envelope_row, out_row, share_row}
 use Rattle.integers.proofs.Grids.{grid-below, grid-row, grid-column}
 use Rattle.row_model.proofs.Numbering.{at_coord, HoldsByKind, by_number-each}
 use Rattle.row_model.proofs.PathSums.{path_feed-below, path_out-below}
@@ -100,8 +103,10 @@ root-near : (n : Net) → IsLimited n → (c : ℕ) → c < coords n → AreNear
 root-near n limited = at_coord n (λ (c : Coord). AreNear (root_low n c) (root_high n c))
     (λ e lt. record { low = omega arith; high = omega arith })
     (λ l k hl hk. record {
-      low = few_unwrapped (least_below (fed_quality n l k) n.feeds) (few_least (fed_quality n l k) n.feeds (λ e lt. few_if (n.feed_pool e == l) (n.source_quality (n.feed_source e) k) (quality-few n e k limited lt hk)));
-      high = few_unwrapped (greatest_below (fed_quality n l k) n.feeds) (few_greatest (fed_quality n l k) n.feeds (λ e lt. few_if (n.feed_pool e == l) (n.source_quality (n.feed_source e) k) (quality-few n e k limited lt hk)));
+      low = few_unwrapped (least_below (fed_quality n l k) n.feeds)
+          (few_least (fed_quality n l k) n.feeds (λ e lt. few_if (n.feed_pool e == l) (n.source_quality (n.feed_source e) k) (quality-few n e k limited lt hk)));
+      high = few_unwrapped (greatest_below (fed_quality n l k) n.feeds)
+          (few_greatest (fed_quality n l k) n.feeds (λ e lt. few_if (n.feed_pool e == l) (n.source_quality (n.feed_source e) k) (quality-few n e k limited lt hk)));
     })
     (λ o lt. record { low = omega arith; high = lesser_of (n.pool_max (n.out_pool o)) (n.product_max (n.out_product o)) (limited.product_maxima (n.out_product o) (limited.out_products o lt)) })
   where
@@ -166,15 +171,20 @@ IsSmallRow n r = AreSmall n r.coefs
 
 network-small : (n : Net) → HoldsOfEach (IsSmallRow n) (network_families n)
 network-small n = (
-  λ i lt. by_kind n (source_row n i).coefs (λ e h. small_when (n.feed_source e) i (neg_ℤ (pos 1)) less_one) (λ o h. nothing) (λ e h. small_when (n.direct_source e) i (neg_ℤ (pos 1)) less_one) (λ q h. nothing) (λ e h. nothing) (λ l k a b. nothing) (λ o k a b. nothing),
+  λ i lt. by_kind n (source_row n i).coefs (λ e h. small_when (n.feed_source e) i (neg_ℤ (pos 1)) less_one) (λ o h. nothing)
+      (λ e h. small_when (n.direct_source e) i (neg_ℤ (pos 1)) less_one) (λ q h. nothing) (λ e h. nothing) (λ l k a b. nothing) (λ o k a b. nothing),
   (
-    λ l lt. by_kind n (balance_row n l).coefs (λ e h. small_when (n.feed_pool e) l (pos 1) one) (λ o h. small_when (n.out_pool o) l (neg_ℤ (pos 1)) less_one) (λ e h. nothing) (λ q h. nothing) (λ e h. nothing) (λ p k a b. nothing) (λ o k a b. nothing),
+    λ l lt. by_kind n (balance_row n l).coefs (λ e h. small_when (n.feed_pool e) l (pos 1) one)
+        (λ o h. small_when (n.out_pool o) l (neg_ℤ (pos 1)) less_one) (λ e h. nothing) (λ q h. nothing) (λ e h. nothing) (λ p k a b. nothing) (λ o k a b. nothing),
     (
-      λ l lt. by_kind n (pool_row n l).coefs (λ e h. nothing) (λ o h. small_when (n.out_pool o) l (neg_ℤ (pos 1)) less_one) (λ e h. nothing) (λ q h. nothing) (λ e h. nothing) (λ p k a b. nothing) (λ o k a b. nothing),
+      λ l lt. by_kind n (pool_row n l).coefs (λ e h. nothing) (λ o h. small_when (n.out_pool o) l (neg_ℤ (pos 1)) less_one) (λ e h. nothing)
+          (λ q h. nothing) (λ e h. nothing) (λ p k a b. nothing) (λ o k a b. nothing),
       (
-        λ j lt. by_kind n (maximum_row n j).coefs (λ e h. nothing) (λ o h. small_when (n.out_product o) j (neg_ℤ (pos 1)) less_one) (λ e h. small_when (n.direct_product e) j (neg_ℤ (pos 1)) less_one) (λ q h. nothing) (λ e h. nothing) (λ p k a b. nothing) (λ o k a b. nothing),
+        λ j lt. by_kind n (maximum_row n j).coefs (λ e h. nothing) (λ o h. small_when (n.out_product o) j (neg_ℤ (pos 1)) less_one)
+            (λ e h. small_when (n.direct_product e) j (neg_ℤ (pos 1)) less_one) (λ q h. nothing) (λ e h. nothing) (λ p k a b. nothing) (λ o k a b. nothing),
         (
-          λ j lt. by_kind n (minimum_row n j).coefs (λ e h. nothing) (λ o h. small_when (n.out_product o) j (pos 1) one) (λ e h. small_when (n.direct_product e) j (pos 1) one) (λ q h. nothing) (λ e h. nothing) (λ p k a b. nothing) (λ o k a b. nothing),
+          λ j lt. by_kind n (minimum_row n j).coefs (λ e h. nothing) (λ o h. small_when (n.out_product o) j (pos 1) one)
+              (λ e h. small_when (n.direct_product e) j (pos 1) one) (λ q h. nothing) (λ e h. nothing) (λ p k a b. nothing) (λ o k a b. nothing),
           tt,
         ),
       ),
@@ -187,12 +197,15 @@ direct-few n e k limited lt hk = within (10 ^ 11) (n.source_quality (n.direct_so
 
 mixed_most-small : (n : Net) (u : Limit) → IsLimited n → IsFewLimit n u → IsSmallRow n (mixed_most_row n u)
 mixed_most-small n u limited few = by_kind n (mixed_most_row n u).coefs (λ e h. nothing) (λ o h. small_when (n.out_product o) u.product u.limit (widen u.limit few.limit))
-    (λ e h. small_when (n.direct_product e) u.product (u.limit -ℤ n.source_quality (n.direct_source e) u.quality) (apart u.limit (n.source_quality (n.direct_source e) u.quality) few.limit (direct-few n e u.quality limited h few.quality)))
-    (λ q h. nothing) (λ e h. nothing) (λ l k a b. nothing) (λ o k a b. small_when k u.quality (when (n.out_product o) u.product (neg_ℤ (pos 1))) (small_when (n.out_product o) u.product (neg_ℤ (pos 1)) less_one))
+    (λ e h. small_when (n.direct_product e) u.product (u.limit -ℤ n.source_quality (n.direct_source e) u.quality)
+    (apart u.limit (n.source_quality (n.direct_source e) u.quality) few.limit (direct-few n e u.quality limited h few.quality)))
+    (λ q h. nothing) (λ e h. nothing) (λ l k a b. nothing)
+    (λ o k a b. small_when k u.quality (when (n.out_product o) u.product (neg_ℤ (pos 1))) (small_when (n.out_product o) u.product (neg_ℤ (pos 1)) less_one))
 
 mixed_least-small : (n : Net) (u : Limit) → IsLimited n → IsFewLimit n u → IsSmallRow n (mixed_least_row n u)
 mixed_least-small n u limited few = by_kind n (mixed_least_row n u).coefs (λ e h. nothing) (λ o h. small_when (n.out_product o) u.product (neg_ℤ u.limit) (turned u.limit few.limit))
-    (λ e h. small_when (n.direct_product e) u.product (n.source_quality (n.direct_source e) u.quality -ℤ u.limit) (apart (n.source_quality (n.direct_source e) u.quality) u.limit (direct-few n e u.quality limited h few.quality) few.limit))
+    (λ e h. small_when (n.direct_product e) u.product (n.source_quality (n.direct_source e) u.quality -ℤ u.limit)
+    (apart (n.source_quality (n.direct_source e) u.quality) u.limit (direct-few n e u.quality limited h few.quality) few.limit))
     (λ q h. nothing) (λ e h. nothing) (λ l k a b. nothing) (λ o k a b. small_when k u.quality (when (n.out_product o) u.product (pos 1)) (small_when (n.out_product o) u.product (pos 1) one))
 
 quality_envelope-small : (n : Net) (b : Box) (o k number : ℕ) → IsLimited n → IsProper n b → o < n.outs → k < n.qualities → IsSmallRow n (quality_envelope_row n b o k number)
@@ -207,7 +220,8 @@ quality_envelope-small n b o k number limited proper ho hk =
 p-small : (n : Net) (b : Box) → IsLimited n → IsProper n b → HoldsOfEach (IsSmallRow n) (p_families n b)
 p-small n b limited proper = (
   λ i lt. by_kind n (mixing_row n (i / n.qualities) (i % n.qualities)).coefs
-      (λ e h. small_when (n.feed_pool e) (i / n.qualities) (n.source_quality (n.feed_source e) (i % n.qualities)) (widen (n.source_quality (n.feed_source e) (i % n.qualities)) (quality-few n e (i % n.qualities) limited h (grid-column n.pools n.qualities i lt))))
+      (λ e h. small_when (n.feed_pool e) (i / n.qualities) (n.source_quality (n.feed_source e) (i % n.qualities))
+      (widen (n.source_quality (n.feed_source e) (i % n.qualities)) (quality-few n e (i % n.qualities) limited h (grid-column n.pools n.qualities i lt))))
       (λ o h. nothing) (λ e h. nothing) (λ q h. nothing) (λ e h. nothing) (λ l k a c. nothing)
       (λ o k a c. small_when k (i % n.qualities) (when (n.out_pool o) (i / n.qualities) (neg_ℤ (pos 1))) (small_when (n.out_pool o) (i / n.qualities) (neg_ℤ (pos 1)) less_one)),
   (
@@ -215,7 +229,8 @@ p-small n b limited proper = (
     (
       λ i lt. mixed_least-small n (get_or (least_limits n) i no_limit) limited (limit-few n n.least limited.least_limits i lt),
       (
-        λ i lt. quality_envelope-small n b (i / (n.qualities * 4)) (i % (n.qualities * 4) / 4) (i % 4 + 1) limited proper (grid-row n.outs (n.qualities * 4) i lt) (quarter (i % (n.qualities * 4)) n.qualities (grid-column n.outs (n.qualities * 4) i lt)),
+        λ i lt. quality_envelope-small n b (i / (n.qualities * 4)) (i % (n.qualities * 4) / 4) (i % 4 + 1) limited proper
+            (grid-row n.outs (n.qualities * 4) i lt) (quarter (i % (n.qualities * 4)) n.qualities (grid-column n.outs (n.qualities * 4) i lt)),
         tt,
       ),
     ),
@@ -230,14 +245,18 @@ path-few n q k limited lt hk = quality-few n (path_feed n q) k limited (path_fee
 
 path_most-small : (n : Net) (u : Limit) → IsLimited n → IsFewLimit n u → IsSmallRow n (path_most_row n u)
 path_most-small n u limited few = by_kind n (path_most_row n u).coefs (λ e h. nothing) (λ o h. small_when (n.out_product o) u.product u.limit (widen u.limit few.limit))
-    (λ e h. small_when (n.direct_product e) u.product (u.limit -ℤ n.source_quality (n.direct_source e) u.quality) (apart u.limit (n.source_quality (n.direct_source e) u.quality) few.limit (direct-few n e u.quality limited h few.quality)))
-    (λ q h. small_when (n.out_product (path_out n q)) u.product (neg_ℤ (n.source_quality (n.feed_source (path_feed n q)) u.quality)) (turned (n.source_quality (n.feed_source (path_feed n q)) u.quality) (path-few n q u.quality limited h few.quality)))
+    (λ e h. small_when (n.direct_product e) u.product (u.limit -ℤ n.source_quality (n.direct_source e) u.quality)
+    (apart u.limit (n.source_quality (n.direct_source e) u.quality) few.limit (direct-few n e u.quality limited h few.quality)))
+    (λ q h. small_when (n.out_product (path_out n q)) u.product (neg_ℤ (n.source_quality (n.feed_source (path_feed n q)) u.quality))
+    (turned (n.source_quality (n.feed_source (path_feed n q)) u.quality) (path-few n q u.quality limited h few.quality)))
     (λ e h. nothing) (λ l k a b. nothing) (λ o k a b. nothing)
 
 path_least-small : (n : Net) (u : Limit) → IsLimited n → IsFewLimit n u → IsSmallRow n (path_least_row n u)
 path_least-small n u limited few = by_kind n (path_least_row n u).coefs (λ e h. nothing) (λ o h. small_when (n.out_product o) u.product (neg_ℤ u.limit) (turned u.limit few.limit))
-    (λ e h. small_when (n.direct_product e) u.product (n.source_quality (n.direct_source e) u.quality -ℤ u.limit) (apart (n.source_quality (n.direct_source e) u.quality) u.limit (direct-few n e u.quality limited h few.quality) few.limit))
-    (λ q h. small_when (n.out_product (path_out n q)) u.product (n.source_quality (n.feed_source (path_feed n q)) u.quality) (widen (n.source_quality (n.feed_source (path_feed n q)) u.quality) (path-few n q u.quality limited h few.quality)))
+    (λ e h. small_when (n.direct_product e) u.product (n.source_quality (n.direct_source e) u.quality -ℤ u.limit)
+    (apart (n.source_quality (n.direct_source e) u.quality) u.limit (direct-few n e u.quality limited h few.quality) few.limit))
+    (λ q h. small_when (n.out_product (path_out n q)) u.product (n.source_quality (n.feed_source (path_feed n q)) u.quality)
+    (widen (n.source_quality (n.feed_source (path_feed n q)) u.quality) (path-few n q u.quality limited h few.quality)))
     (λ e h. nothing) (λ l k a b. nothing) (λ o k a b. nothing)
 
 proportion_envelope-small : (n : Net) (b : Box) (p number : ℕ) → IsLimited n → IsProper n b → p < path_count n → IsSmallRow n (proportion_envelope_row n b p number)
@@ -246,15 +265,18 @@ proportion_envelope-small n b p number limited proper lt =
     let s = side number (pos 1048576) e in
     let feed = path_feed-below n p lt in
     let out = path_out-below n p lt in
-    let small = side-small number (pos 1048576) e (omega arith) (ends-near n b limited proper (prop_number n (path_feed n p)) (omega arith)) (ends-near n b limited proper (flow_number n (path_out n p)) (omega arith)) in
+    let small = side-small number (pos 1048576) e (omega arith) (ends-near n b limited proper (prop_number n (path_feed n p)) (omega arith))
+    (ends-near n b limited proper (flow_number n (path_out n p)) (omega arith)) in
     by_kind n (proportion_envelope_row n b p number).coefs (λ f h. nothing) (λ o h. small_when o (path_out n p) s.of_b small.b) (λ f h. nothing) (λ q h. small_when q p s.of_w small.w)
     (λ f h. small_when f (path_feed n p) s.of_a small.a) (λ l k a c. nothing) (λ o k a c. nothing)
 
 q-small : (n : Net) (b : Box) → IsLimited n → IsProper n b → HoldsOfEach (IsSmallRow n) (q_families n b)
 q-small n b limited proper = (
-  λ l lt. by_kind n (proportions_row n l).coefs (λ e h. nothing) (λ o h. nothing) (λ e h. nothing) (λ q h. nothing) (λ e h. small_when (n.feed_pool e) l (pos 1) one) (λ p k a c. nothing) (λ o k a c. nothing),
+  λ l lt. by_kind n (proportions_row n l).coefs (λ e h. nothing) (λ o h. nothing) (λ e h. nothing) (λ q h. nothing)
+      (λ e h. small_when (n.feed_pool e) l (pos 1) one) (λ p k a c. nothing) (λ o k a c. nothing),
   (
-    λ e lt. by_kind n (feed_row n e).coefs (λ f h. small_when f e (pos 1) one) (λ o h. nothing) (λ f h. nothing) (λ q h. small_when (path_feed n q) e (neg_ℤ (pos 1)) less_one) (λ f h. nothing) (λ p k a c. nothing) (λ o k a c. nothing),
+    λ e lt. by_kind n (feed_row n e).coefs (λ f h. small_when f e (pos 1) one) (λ o h. nothing) (λ f h. nothing)
+        (λ q h. small_when (path_feed n q) e (neg_ℤ (pos 1)) less_one) (λ f h. nothing) (λ p k a c. nothing) (λ o k a c. nothing),
     (
       λ i lt. path_most-small n (get_or (most_limits n) i no_limit) limited (limit-few n n.most limited.most_limits i lt),
       (
@@ -270,7 +292,8 @@ q-small n b limited proper = (
 
 further-small : (n : Net) → IsLimited n → HoldsOfEach (IsSmallRow n) (pq_families n)
 further-small n limited = (
-  λ o lt. by_kind n (out_row n o).coefs (λ e h. nothing) (λ f h. small_when f o (neg_ℤ (pos 1)) less_one) (λ e h. nothing) (λ q h. small_when (path_out n q) o (pos 1) one) (λ e h. nothing) (λ p k a c. nothing) (λ f k a c. nothing),
+  λ o lt. by_kind n (out_row n o).coefs (λ e h. nothing) (λ f h. small_when f o (neg_ℤ (pos 1)) less_one) (λ e h. nothing)
+      (λ q h. small_when (path_out n q) o (pos 1) one) (λ e h. nothing) (λ p k a c. nothing) (λ f k a c. nothing),
   (
     λ e lt. by_kind n (share_row n e).coefs (λ f h. nothing) (λ o h. nothing) (λ f h. nothing) (λ q h. small_when (path_feed n q) e (neg_ℤ (pos 1048576)) (omega arith))
         (λ f h. small_when f e (pos (n.pool_max (n.feed_pool e))) (limited.pool_maxima (n.feed_pool e) (limited.feed_pools e lt))) (λ p k a c. nothing) (λ o k a c. nothing),

@@ -46,7 +46,8 @@ term_of-sum g v c zero_is = elim (same_or_other (unsigned_abs c) 0) [
 
 all_terms : (P : Term → Type 0) (first : ℕ) (f : ℕ → ℤ) (n : ℕ) → ((i : ℕ) → i < n → P record { var = first + i; coef = f i }) → All P (terms_from first f n)
 all_terms P first f zero h = λ i d lt. absurd (omega arith)
-all_terms P first f (suc n) h = All-append P (terms_from first f n) (term_of (first + n) (f n)) (all_terms P first f n (λ i lt. h i (omega arith))) (term_of-all P (first + n) (f n) (h n (omega arith)))
+all_terms P first f (suc n) h =
+    All-append P (terms_from first f n) (term_of (first + n) (f n)) (all_terms P first f n (λ i lt. h i (omega arith))) (term_of-all P (first + n) (f n) (h n (omega arith)))
 
 pub terms-known : (f : ℕ → ℤ) (n : ℕ) → All (λ t. t.var < n) (terms_from 0 f n)
 terms-known f n = all_terms (λ t. t.var < n) 0 f n (λ i lt. omega (arith, zero-add i))

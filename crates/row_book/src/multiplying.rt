@@ -86,7 +86,8 @@ fn sum_of_ends(net: &Network, v: &BoxView, rests: &[i128]) -> i128
     requires view { IsView (net_of net.now) v.now }
     requires places { length rests.now ≡ variables (net_of net.now) }
     requires room { sum_below (λ i. unsigned_abs (get_or rests.now i (pos 0)) * sizes.end_size (net_of net.now) (shown_box v.now) i) (variables (net_of net.now)) ≤ 2 ^ 126 }
-    ensures { result ≡ int_sum_below (λ i. int_min (get_or rests.now i (pos 0) *ℤ by_number (net_of net.now) (lows (net_of net.now) (shown_box v.now)) i) (get_or rests.now i (pos 0) *ℤ by_number (net_of net.now) (highs (net_of net.now) (shown_box v.now)) i)) (variables (net_of net.now)) }
+    ensures { let n = net_of net.now in let b = shown_box v.now in result ≡ int_sum_below
+        (λ i. int_min (get_or rests.now i (pos 0) *ℤ by_number n (lows n b) i) (get_or rests.now i (pos 0) *ℤ by_number n (highs n b) i)) (variables n) }
 {
     let mut total: i128 = 0;
     for var in 0..vars(net) {

@@ -32,7 +32,9 @@ pub fn value(
     requires fits { Fits (net_of net.now) scratch.old }
     ensures bound { (z : ℤ) → result ≡ Ok (Shown.Bound z) → (p : Plan) → Obeys (net_of net.now) p → LiesIn (net_of net.now) p (shown_box v.now) → (z *ℤ pos p.base) ≤ℤ cost_of (net_of net.now) p }
     ensures no_plan { result ≡ Ok Shown.NoPlan → (p : Plan) → Obeys (net_of net.now) p → ¬ LiesIn (net_of net.now) p (shown_box v.now) }
-    ensures ok { IfOk result (λ s. multipliers.IsInOrder (net_of net.now) (shown_box v.now) (shown_proof proof.now) × (views.shown_value s ≡ multipliers.shown_by (net_of net.now) (shown_box v.now) (shown_proof proof.now))) }
+    ensures ok { IfOk result
+        (λ s. multipliers.IsInOrder (net_of net.now) (shown_box v.now) (shown_proof proof.now)
+        × (views.shown_value s ≡ multipliers.shown_by (net_of net.now) (shown_box v.now) (shown_proof proof.now))) }
     ensures fault { IfErr result (IsFirstFault (net_of net.now) (shown_box v.now) (shown_proof proof.now)) }
     ensures fits { Fits (net_of net.now) scratch.new }
 {
@@ -49,7 +51,9 @@ fn judged(
     requires view { IsView (net_of net.now) v.now }
     requires fits { Fits (net_of net.now) scratch.old }
     ensures limited { IsLimited (net_of net.now) }
-    ensures ok { IfOk result (λ s. multipliers.IsInOrder (net_of net.now) (shown_box v.now) (shown_proof proof.now) × (views.shown_value s ≡ multipliers.shown_by (net_of net.now) (shown_box v.now) (shown_proof proof.now))) }
+    ensures ok { IfOk result
+        (λ s. multipliers.IsInOrder (net_of net.now) (shown_box v.now) (shown_proof proof.now)
+        × (views.shown_value s ≡ multipliers.shown_by (net_of net.now) (shown_box v.now) (shown_proof proof.now))) }
     ensures fault { IfErr result (IsFirstFault (net_of net.now) (shown_box v.now) (shown_proof proof.now)) }
     ensures fits { Fits (net_of net.now) scratch.new }
 {

@@ -80,9 +80,12 @@ pub fn worked_counts()
 /// can't sum to 1; and a side of an envelope.
 pub fn worked_multipliers()
     ensures haverly_nothing { shown_by (net_in (haverly (pos 16000000))) (root (net_in (haverly (pos 16000000)))) record { scale = 1; parts = [] } ≡ bound (neg_ℤ (pos 4900000000000000)) }
-    ensures haverly_maximum { shown_by (net_in (haverly (pos 16000000))) (root (net_in (haverly (pos 16000000)))) record { scale = 1; parts = record { row = 6; mult = pos 15000000 } ∷ [] } ≡ bound (neg_ℤ (pos 3900000000000000)) }
-    ensures few_proportions { number (net_in two_feeds) (left_of (left_of (root (net_in two_feeds)) 0 (pos 524288)) 1 (pos 262144)) record { scale = 0; parts = record { row = 11; mult = pos 1 } ∷ [] } ≡ pos 262144 }
-    ensures second_side { second_side (pos 1048576) record { a_low = pos 0; a_high = pos 1048576; b_low = pos 0; b_high = pos 100000000 } ≡ record { of_w = pos 1048576; of_a = neg_ℤ (pos 100000000); of_b = neg_ℤ (pos 1048576); constant = pos 104857600000000 } }
+    ensures haverly_maximum { let n = net_in (haverly (pos 16000000)) in
+        shown_by n (root n) record { scale = 1; parts = record { row = 6; mult = pos 15000000 } ∷ [] } ≡ bound (neg_ℤ (pos 3900000000000000)) }
+    ensures few_proportions { let n = net_in two_feeds in let b = left_of (left_of (root n) 0 (pos 524288)) 1 (pos 262144) in
+        number n b record { scale = 0; parts = record { row = 11; mult = pos 1 } ∷ [] } ≡ pos 262144 }
+    ensures second_side { second_side (pos 1048576) record { a_low = pos 0; a_high = pos 1048576; b_low = pos 0; b_high = pos 100000000 }
+        ≡ record { of_w = pos 1048576; of_a = neg_ℤ (pos 100000000); of_b = neg_ℤ (pos 1048576); constant = pos 104857600000000 } }
 {}
 
 /// The worked tree: the bounds of its nodes, and its own.

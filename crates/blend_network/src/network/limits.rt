@@ -47,7 +47,8 @@ pub(super) fn limits_from(
 ) -> Result<Vec<Limit>, AllocError>
     requires few { length products.now ≤ 64 }
     requires narrow { All (λ p. length (limits_in (shown_product p) side) ≤ 8) products.now }
-    ensures { (qualities : ℕ) → All (λ p. length (limits_in (shown_product p) side) ≡ qualities) products.now → IfOk result (λ v. map shown_limit v.items ≡ model.limits (product_limit (map shown_product products.now) side) (length products.now) qualities) }
+    ensures { (qualities : ℕ) → All (λ p. length (limits_in (shown_product p) side) ≡ qualities) products.now
+        → IfOk result (λ v. map shown_limit v.items ≡ model.limits (product_limit (map shown_product products.now) side) (length products.now) qualities) }
 {
     let mut limits = Vec::new(alloc);
     for product in 0..products.len() {

@@ -14,8 +14,11 @@ loop-n-preserved c =
     record {
       lows = omega (arith, c.in_ok-push.ensures.len);
       highs = omega (arith, c.in_ok-push-2.ensures.len);
-      low = one_end_more c.loop-n.low.items c.push.new.self.items (root n).low c.loop-n.n c.root_ends-least.result.0 c.loop-n.invariant.lows (simp to_z-of_z at c.in_ok-push.ensures.items) (c.root_ends-least.ensures.low ∙ ap (root_low n) c.coord_at.ensures.coordinate) c.loop-n.invariant.low;
-      high = one_end_more c.loop-n.high.items c.push-in-loop-n.new.self.items (root n).high c.loop-n.n c.root_ends-least.result.1 c.loop-n.invariant.highs (simp to_z-of_z at c.in_ok-push-2.ensures.items) (c.root_ends-least.ensures.high ∙ ap (root_high n) c.coord_at.ensures.coordinate) c.loop-n.invariant.high;
+      low = one_end_more c.loop-n.low.items c.push.new.self.items (root n).low c.loop-n.n c.root_ends-least.result.0 c.loop-n.invariant.lows
+          (simp to_z-of_z at c.in_ok-push.ensures.items) (c.root_ends-least.ensures.low ∙ ap (root_low n) c.coord_at.ensures.coordinate) c.loop-n.invariant.low;
+      high = one_end_more c.loop-n.high.items c.push-in-loop-n.new.self.items
+          (root n).high c.loop-n.n c.root_ends-least.result.1 c.loop-n.invariant.highs (simp to_z-of_z at c.in_ok-push-2.ensures.items)
+          (c.root_ends-least.ensures.high ∙ ap (root_high n) c.coord_at.ensures.coordinate) c.loop-n.invariant.high;
     }
 
 pub returns-clause-proper : goal.returns-clause-proper

@@ -24,7 +24,8 @@ returns-clause-low c =
     let first = simp to_z-of_z at c.least.ensures in
     let second = simp to_z-of_z at c.least-2.ensures in
     let third = simp to_z-of_z at c.least-3.ensures in
-    simp to_z-of_z (joined int_min _ _ _ _ _ _ _ _ _ _ _ (simp to_z-of_z at c.product-low_low.ensures) (simp to_z-of_z at c.product-low_high.ensures) (simp to_z-of_z at c.product-high_low.ensures) (simp to_z-of_z at c.product-high_high.ensures) first second third)
+    simp to_z-of_z (joined int_min _ _ _ _ _ _ _ _ _ _ _ (simp to_z-of_z at c.product-low_low.ensures) (simp to_z-of_z at c.product-low_high.ensures)
+    (simp to_z-of_z at c.product-high_low.ensures) (simp to_z-of_z at c.product-high_high.ensures) first second third)
 
 pub returns-clause-high : goal.returns-clause-high
 returns-clause-high c =
@@ -42,4 +43,5 @@ returns-clause-high c =
     let first = simp to_z-of_z at c.greatest.ensures in
     let second = simp to_z-of_z at c.greatest-2.ensures in
     let third = simp to_z-of_z at c.greatest-3.ensures in
-    simp to_z-of_z (joined int_max _ _ _ _ _ _ _ _ _ _ _ (simp to_z-of_z at c.product-low_low.ensures) (simp to_z-of_z at c.product-low_high.ensures) (simp to_z-of_z at c.product-high_low.ensures) (simp to_z-of_z at c.product-high_high.ensures) first second third)
+    simp to_z-of_z (joined int_max _ _ _ _ _ _ _ _ _ _ _ (simp to_z-of_z at c.product-low_low.ensures) (simp to_z-of_z at c.product-low_high.ensures)
+    (simp to_z-of_z at c.product-high_low.ensures) (simp to_z-of_z at c.product-high_high.ensures) first second third)

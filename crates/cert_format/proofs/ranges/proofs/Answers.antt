@@ -6,7 +6,10 @@ use Rattle.cert_format.specs.Cert.{IsProofInRange}
 use Rattle.cert_format.proofs.ranges.proofs.Goals as goal
 
 pub loop-each-preserved : goal.loop-each-preserved
-loop-each-preserved c = All-more (λ x. IsProofInRange (shown_node_proof x)) c.args.proofs.now c.loop-each.each-index c.each-item.result c.loop-each-test.true c.loop-each.invariant (subst (λ x. IsProofInRange (shown_node_proof x)) c.each-item.is c.proof.ensures)
+loop-each-preserved c =
+    All-more (λ x. IsProofInRange
+    (shown_node_proof x)) c.args.proofs.now c.loop-each.each-index c.each-item.result c.loop-each-test.true c.loop-each.invariant
+    (subst (λ x. IsProofInRange (shown_node_proof x)) c.each-item.is c.proof.ensures)
 
 pub returns : goal.returns
 returns c = subst (λ xs. All (λ x. IsProofInRange (shown_node_proof x)) xs) (take_all c.loop-each.each-index c.args.proofs.now c.loop-each-test.false) c.loop-each.invariant

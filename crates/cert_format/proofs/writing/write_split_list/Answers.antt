@@ -8,8 +8,11 @@ use Rattle.cert_format.proofs.writing.write_split_list.Goals as goal
 pub returns-in_err-write_split-clause-wrote : goal.returns-in_err-write_split-clause-wrote
 returns-in_err-write_split-clause-wrote g c =
     let p = err_from_is_err_and c.from_residual.result c.from_residual.ensures.1 in
-    rw p.1 (front-shown split_line shown_split c.args.splits.now c.loop-split.split-index _ (g.K.Sink.taken c.args.out.now) (g.K.Sink.taken c.loop-split.out) (g.K.Sink.taken c.write_split.new.out) c.loop-split-test.true c.loop-split.invariant.0
+    rw p.1 (front-shown split_line shown_split c.args.splits.now c.loop-split.split-index _ (g.K.Sink.taken c.args.out.now)
+    (g.K.Sink.taken c.loop-split.out) (g.K.Sink.taken c.write_split.new.out) c.loop-split-test.true c.loop-split.invariant.0
     c.in_err-write_split.ensures.wrote)
 
 pub returns-clause-wrote : goal.returns-clause-wrote
-returns-clause-wrote g c = all-shown split_line shown_split c.args.splits.now c.loop-split.split-index (g.K.Sink.taken c.args.out.now) (g.K.Sink.taken c.loop-split.out) (take_all c.loop-split.split-index c.args.splits.now c.loop-split-test.false) c.loop-split.invariant.0
+returns-clause-wrote g c =
+    all-shown split_line shown_split c.args.splits.now c.loop-split.split-index (g.K.Sink.taken c.args.out.now) (g.K.Sink.taken c.loop-split.out)
+    (take_all c.loop-split.split-index c.args.splits.now c.loop-split-test.false) c.loop-split.invariant.0

@@ -16,9 +16,11 @@ pub loop-done-preserved : goal.loop-done-preserved
 loop-done-preserved g c =
     let bytes : List ℕ = c.args.bytes.now in
     let left : length (drop c.loop-done.done bytes) ≡ length bytes - c.loop-done.done = length-drop c.loop-done.done bytes in
-    let whole : take (length bytes - c.loop-done.done) (drop c.loop-done.done bytes) ≡ drop c.loop-done.done bytes = take_all (length bytes - c.loop-done.done) (drop c.loop-done.done bytes) (omega arith) in
+    let whole : take (length bytes - c.loop-done.done) (drop c.loop-done.done bytes) ≡ drop c.loop-done.done bytes =
+    take_all (length bytes - c.loop-done.done) (drop c.loop-done.done bytes) (omega arith) in
     record {
       part = omega (arith, (rw whole at c.in_ok-done.ensures.part));
-      added = (rw whole at c.in_ok-done.ensures.appended) ∙ behind-take (g.K.Sink.taken c.args.out.now) (g.K.Sink.taken c.loop-done.out) bytes c.loop-done.done c.in_ok-done.field-0 c.loop-done.invariant.added;
+      added = (rw whole at c.in_ok-done.ensures.appended)
+          ∙ behind-take (g.K.Sink.taken c.args.out.now) (g.K.Sink.taken c.loop-done.out) bytes c.loop-done.done c.in_ok-done.field-0 c.loop-done.invariant.added;
       grows = grows-then _ _ _ c.loop-done.invariant.grows c.in_ok-done.ensures.faults_grow;
     }

@@ -18,5 +18,11 @@ returns c =
     let numbers : AreNumbers n c.args.path e o c.variable_number-a.result c.variable_number-b.result c.variable_number-w.result =
     record { path = c.requires.path; feed = arcs.known_feed; out = arcs.known_out; a_is = c.variable_number-a.ensures; b_is = c.variable_number-b.ensures; w_is = c.variable_number-w.ensures } in
     let s : Side = side c.args.side (pos grain) (shown_ends c.proportion_ends-ends.result) in
-    line-same n (three c.args.path e o s) _ c.envelope.new.row _ (envelope_row n (shown_box c.args.v.now) c.args.path c.args.side e o s (shown_ends c.proportion_ends-ends.result) arcs.feed arcs.out c.proportion_ends-ends.ensures refl)
-    record { terms = c.envelope.ensures.terms (variables n) (omega arith) (omega arith) (omega arith) ∙ side_terms n c.args.path e o _ _ _ s numbers; constant = c.envelope.ensures.constant; kind = refl }
+    line-same n (three c.args.path e o s) _ c.envelope.new.row _
+    (envelope_row n (shown_box c.args.v.now) c.args.path c.args.side e o s (shown_ends c.proportion_ends-ends.result) arcs.feed arcs.out c.proportion_ends-ends.ensures refl)
+    record {
+      terms = c.envelope.ensures.terms (variables n) (omega arith) (omega arith) (omega arith)
+          ∙ side_terms n c.args.path e o _ _ _ s numbers;
+      constant = c.envelope.ensures.constant;
+      kind = refl;
+    }

@@ -33,9 +33,11 @@ returns-clause-row c = λ b.
     let n = net_of c.args.net.now in
     let counts = c.sizes-counts.ensures.counts in
     let most = c.count_limits-most.ensures.count in
-    let place : c.args.n - c.sizes-counts.result.pools - c.sizes-counts.result.feeds - c.count_limits-most.result ≡ c.args.n - n.pools - n.feeds - length (most_limits n) = omega (arith, counts.pools, counts.feeds, most) in
+    let place : c.args.n - c.sizes-counts.result.pools - c.sizes-counts.result.feeds - c.count_limits-most.result
+    ≡ c.args.n - n.pools - n.feeds - length (most_limits n) = omega (arith, counts.pools, counts.feeds, most) in
     c.path_least.ensures.row n ∙ ap (path_least_row n) (c.limit_at-2.ensures.limit ∙ ap (λ (z : ℕ). get_or (least_limits n) z no_limit) place)
-    ∙ sym (at_least n b c.args.n (omega (arith, counts.pools)) (omega (arith, counts.pools, counts.feeds)) (omega (arith, counts.pools, counts.feeds, most)) (omega (arith, counts.pools, counts.feeds, most)))
+    ∙ sym (at_least n b c.args.n (omega (arith, counts.pools)) (omega (arith, counts.pools, counts.feeds))
+    (omega (arith, counts.pools, counts.feeds, most)) (omega (arith, counts.pools, counts.feeds, most)))
 
 pub returns-then-n-most-clause-table : goal.returns-then-n-most-clause-table
 returns-then-n-most-clause-table c = c.path_most.ensures.table (net_of c.args.net.now) c.limit_at.ensures.product c.limit_at.ensures.quality

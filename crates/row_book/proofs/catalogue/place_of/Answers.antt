@@ -15,10 +15,12 @@ returns-then-id-by_quality-clause-placed c =
 pub returns-then-id-by_proportion-clause-placed : goal.returns-then-id-by_proportion-clause-placed
 returns-then-id-by_proportion-clause-placed c =
     let n = net_of c.args.net.now in
-    placed-q n c.args.id c.count-network.result c.count-by_quality.result c.count-network.ensures.count (c.count-by_quality.ensures.count (root n)) (omega arith) (omega arith) (omega (arith, c.count-by_proportion.ensures.count (root n)))
+    placed-q n c.args.id c.count-network.result c.count-by_quality.result c.count-network.ensures.count (c.count-by_quality.ensures.count (root n))
+    (omega arith) (omega arith) (omega (arith, c.count-by_proportion.ensures.count (root n)))
 
 pub returns-clause-placed : goal.returns-clause-placed
 returns-clause-placed c =
     let n = net_of c.args.net.now in
-    placed-further n c.args.id c.count-network.result c.count-by_quality.result c.count-by_proportion.result c.count-network.ensures.count (c.count-by_quality.ensures.count (root n)) (c.count-by_proportion.ensures.count (root n))
+    placed-further n c.args.id c.count-network.result c.count-by_quality.result c.count-by_proportion.result c.count-network.ensures.count
+    (c.count-by_quality.ensures.count (root n)) (c.count-by_proportion.ensures.count (root n))
     (omega arith) (omega arith) (omega arith) c.requires

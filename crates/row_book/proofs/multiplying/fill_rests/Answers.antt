@@ -20,7 +20,8 @@ pub row_at-requires-clause-known : goal.row_at-requires-clause-known
 row_at-requires-clause-known c =
     omega (
       arith,
-      at_part (λ q. q.row < catalogue.rows (net_of c.args.net.now)) c.args.proof.now.parts.items c.loop-part.part-index (omega (arith, ap length c.deref-part-items.ensures.value)) c.requires.in_order.known,
+      at_part (λ q. q.row < catalogue.rows (net_of c.args.net.now)) c.args.proof.now.parts.items c.loop-part.part-index
+          (omega (arith, ap length c.deref-part-items.ensures.value)) c.requires.in_order.known,
       ap (λ xs. (get_or xs c.loop-part.part-index no_part).row) c.deref-part-items.ensures.value,
     )
 
@@ -43,7 +44,8 @@ subtract_row-requires-clause-room c =
     let same : t ≡ get_or parts k no_part = ap (λ xs. get_or xs k no_part) c.deref-part-items.ensures.value in
     simp to_z-of_z (λ i lt.
     let inside : i < variables n = omega (arith, c.loop-part.auto.rests, c.fill_costs.auto.rests, c.requires.places) in
-    rest_room (unsigned_abs (get_or c.loop-part.rests i (pos 0))) k (unsigned_abs t.mult) (size_in c.terms.result.now i) (c.loop-part.invariant.small i inside) (omega (arith, c.requires.few)) (size64 t.mult mult)
+    rest_room (unsigned_abs (get_or c.loop-part.rests i (pos 0))) k (unsigned_abs t.mult) (size_in c.terms.result.now i)
+    (c.loop-part.invariant.small i inside) (omega (arith, c.requires.few)) (size64 t.mult mult)
     (omega (arith, ap (λ ts. size_in ts i) c.terms.ensures, written-size n b t.row c.row_at.new.row c.row_at.ensures.written i inside)))
 
 pub more_product-constants-requires : goal.more_product-constants-requires

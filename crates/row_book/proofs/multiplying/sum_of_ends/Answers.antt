@@ -16,7 +16,8 @@ least_product-total-requires c =
     let rest : FitsSigned w128 (get_or c.args.rests.now i (pos 0)) = search rules in
     let low : FitsSigned w128 c.var_ends-low.result.0 = search rules in
     let high : FitsSigned w128 c.var_ends-low.result.1 = search rules in
-    simp to_z-of_z (room-here r (by_number n (lows n (shown_box c.args.v.now))) (by_number n (highs n (shown_box c.args.v.now))) i (variables n) lt _ _ c.var_ends-low.ensures.low c.var_ends-low.ensures.high c.requires.room)
+    simp to_z-of_z (room-here r (by_number n (lows n (shown_box c.args.v.now))) (by_number n (highs n (shown_box c.args.v.now))) i
+    (variables n) lt _ _ c.var_ends-low.ensures.low c.var_ends-low.ensures.high c.requires.room)
 
 pub overflow_add-total : goal.overflow_add-total
 overflow_add-total c =
@@ -28,7 +29,10 @@ overflow_add-total c =
     let low : FitsSigned w128 c.var_ends-low.result.0 = search rules in
     let high : FitsSigned w128 c.var_ends-low.result.1 = search rules in
     let more : FitsSigned w128 c.least_product-total.result = search rules in
-    let fits : FitsSigned w128 (to_z w128 c.loop-var.total-bits +ℤ c.least_product-total.result) = sum-more_fits r (by_number n (lows n (shown_box c.args.v.now))) (by_number n (highs n (shown_box c.args.v.now))) i (variables n) lt _ _ c.var_ends-low.ensures.low c.var_ends-low.ensures.high _ c.least_product-total.result c.loop-var.invariant (simp to_z-of_z at c.least_product-total.ensures) c.requires.room in
+    let fits : FitsSigned w128 (to_z w128 c.loop-var.total-bits +ℤ c.least_product-total.result) =
+    sum-more_fits r (by_number n (lows n (shown_box c.args.v.now))) (by_number n (highs n (shown_box c.args.v.now))) i
+    (variables n) lt _ _ c.var_ends-low.ensures.low c.var_ends-low.ensures.high _ c.least_product-total.result c.loop-var.invariant
+    (simp to_z-of_z at c.least_product-total.ensures) c.requires.room in
     simp to_z-of_z fits
 
 pub loop-var-preserved : goal.loop-var-preserved
@@ -41,5 +45,9 @@ loop-var-preserved c =
     let low : FitsSigned w128 c.var_ends-low.result.0 = search rules in
     let high : FitsSigned w128 c.var_ends-low.result.1 = search rules in
     let more : FitsSigned w128 c.least_product-total.result = search rules in
-    let fits : FitsSigned w128 (to_z w128 c.loop-var.total-bits +ℤ c.least_product-total.result) = sum-more_fits r (by_number n (lows n (shown_box c.args.v.now))) (by_number n (highs n (shown_box c.args.v.now))) i (variables n) lt _ _ c.var_ends-low.ensures.low c.var_ends-low.ensures.high _ c.least_product-total.result c.loop-var.invariant (simp to_z-of_z at c.least_product-total.ensures) c.requires.room in
-    simp to_z-of_z (sum-more r (by_number n (lows n (shown_box c.args.v.now))) (by_number n (highs n (shown_box c.args.v.now))) i (variables n) lt _ _ c.var_ends-low.ensures.low c.var_ends-low.ensures.high _ c.least_product-total.result c.loop-var.invariant (simp to_z-of_z at c.least_product-total.ensures))
+    let fits : FitsSigned w128 (to_z w128 c.loop-var.total-bits +ℤ c.least_product-total.result) =
+    sum-more_fits r (by_number n (lows n (shown_box c.args.v.now))) (by_number n (highs n (shown_box c.args.v.now))) i
+    (variables n) lt _ _ c.var_ends-low.ensures.low c.var_ends-low.ensures.high _ c.least_product-total.result c.loop-var.invariant
+    (simp to_z-of_z at c.least_product-total.ensures) c.requires.room in
+    simp to_z-of_z (sum-more r (by_number n (lows n (shown_box c.args.v.now))) (by_number n (highs n (shown_box c.args.v.now))) i
+    (variables n) lt _ _ c.var_ends-low.ensures.low c.var_ends-low.ensures.high _ c.least_product-total.result c.loop-var.invariant (simp to_z-of_z at c.least_product-total.ensures))

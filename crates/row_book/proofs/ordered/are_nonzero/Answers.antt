@@ -13,7 +13,8 @@ returns-then-part-eq0 c =
     (ap (λ xs. (get_or xs c.loop-part.part-index no_part).mult) (sym c.deref-part-items.ensures.value) ∙ sym (to_z-of_z w64 t.mult mult) ∙ ap (to_z w64) c.if-part-eq0.true))
 
 pub loop-part-preserved : goal.loop-part-preserved
-loop-part-preserved c = below_more _ _ c.loop-part.invariant (λ e. c.if-part-eq0.false (ap (λ xs. of_z w64 (get_or xs c.loop-part.part-index no_part).mult) c.deref-part-items.ensures.value ∙ ap (of_z w64) e))
+loop-part-preserved c =
+    below_more _ _ c.loop-part.invariant (λ e. c.if-part-eq0.false (ap (λ xs. of_z w64 (get_or xs c.loop-part.part-index no_part).mult) c.deref-part-items.ensures.value ∙ ap (of_z w64) e))
 
 pub returns : goal.returns
 returns c = always (all_parts (λ q. q.mult ≢ pos 0) c.args.proof.now.parts.items (λ k h. c.loop-part.invariant k (omega (arith, ap length c.deref-part-items.ensures.value))))

@@ -42,10 +42,12 @@ returns-then-not-are_rows-clause-fault c =
 
 pub returns-then-not-are_signed-clause-fault : goal.returns-then-not-are_signed-clause-fault
 returns-then-not-are_signed-clause-fault c =
-    first-sign (net_of c.args.net.now) (shown_box c.args.v.now) (shown_proof c.args.proof.now) (c.is_rising.ensures.0 c.if-not-is_rising.false) (known_is (shown_proof c.args.proof.now).parts c.rows-count.ensures.count (c.are_rows.ensures.0 c.if-not-are_rows.false))
+    first-sign (net_of c.args.net.now) (shown_box c.args.v.now) (shown_proof c.args.proof.now) (c.is_rising.ensures.0 c.if-not-is_rising.false)
+    (known_is (shown_proof c.args.proof.now).parts c.rows-count.ensures.count (c.are_rows.ensures.0 c.if-not-are_rows.false))
     (λ h. let yes : c.are_signed.result ≡ true = c.are_signed.ensures.1 h in cc)
 
 pub returns-then-not-are_nonzero-clause-fault : goal.returns-then-not-are_nonzero-clause-fault
 returns-then-not-are_nonzero-clause-fault c =
-    first-zero (net_of c.args.net.now) (shown_box c.args.v.now) (shown_proof c.args.proof.now) (c.is_rising.ensures.0 c.if-not-is_rising.false) (known_is (shown_proof c.args.proof.now).parts c.rows-count.ensures.count (c.are_rows.ensures.0 c.if-not-are_rows.false)) (c.are_signed.ensures.0 c.if-not-are_signed.false)
+    first-zero (net_of c.args.net.now) (shown_box c.args.v.now) (shown_proof c.args.proof.now) (c.is_rising.ensures.0 c.if-not-is_rising.false)
+    (known_is (shown_proof c.args.proof.now).parts c.rows-count.ensures.count (c.are_rows.ensures.0 c.if-not-are_rows.false)) (c.are_signed.ensures.0 c.if-not-are_signed.false)
     (λ h. let yes : c.are_nonzero.result ≡ true = c.are_nonzero.ensures.1 h in cc)

@@ -14,4 +14,5 @@ returns c = λ n h.
     let up : get_or lows k (pos 0) ≤ℤ c.args.low = omega (arith, ints, ap (λ (xs : List ℤ). get_or xs k (pos 0)) c.as_slice-lows.ensures.value) in
     let order : c.args.low ≤ℤ c.args.high = omega (arith, ints) in
     let down : c.args.high ≤ℤ get_or highs k (pos 0) = omega (arith, ints, ap (λ (xs : List ℤ). get_or xs k (pos 0)) c.as_slice-highs.ensures.value) in
-    simp to_z-of_z (narrowed n c.args.b.now _ k c.args.low c.args.high (omega (arith, ap (length {A = ℤ}) c.as_slice-lows.ensures.value)) (omega (arith, ap (length {A = ℤ}) c.as_slice-highs.ensures.value)) up order down refl refl h)
+    simp to_z-of_z (narrowed n c.args.b.now _ k c.args.low c.args.high (omega (arith, ap (length {A = ℤ}) c.as_slice-lows.ensures.value))
+    (omega (arith, ap (length {A = ℤ}) c.as_slice-highs.ensures.value)) up order down refl refl h)

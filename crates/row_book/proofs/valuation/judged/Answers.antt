@@ -24,11 +24,13 @@ returns-in_err-weigh-clause-fault c =
 pub returns-clause-ok : goal.returns-clause-ok
 returns-clause-ok c =
     let number : FitsSigned w128 c.number-number.result = search rules in
-    answer-ok (net_of c.args.net.now) (shown_box c.args.v.now) (shown_proof c.args.proof.now) c.number-number.result c.in_ok-check_parts.ensures.ok c.in_ok-weigh.ensures.narrow c.number-number.ensures.number
+    answer-ok (net_of c.args.net.now) (shown_box c.args.v.now)
+    (shown_proof c.args.proof.now) c.number-number.result c.in_ok-check_parts.ensures.ok c.in_ok-weigh.ensures.narrow c.number-number.ensures.number
     c.shown_by.result (simp to_z-of_z at c.shown_by.ensures.shown) (simp to_z-of_z at c.shown_by.ensures.above)
 
 pub returns-clause-fault : goal.returns-clause-fault
 returns-clause-fault c =
     let number : FitsSigned w128 c.number-number.result = search rules in
-    answer-fault (net_of c.args.net.now) (shown_box c.args.v.now) (shown_proof c.args.proof.now) c.number-number.result c.in_ok-check_parts.ensures.ok c.in_ok-weigh.ensures.narrow c.number-number.ensures.number
+    answer-fault (net_of c.args.net.now) (shown_box c.args.v.now)
+    (shown_proof c.args.proof.now) c.number-number.result c.in_ok-check_parts.ensures.ok c.in_ok-weigh.ensures.narrow c.number-number.ensures.number
     c.shown_by.result c.shown_by.ensures.fault (simp to_z-of_z at c.shown_by.ensures.nothing)

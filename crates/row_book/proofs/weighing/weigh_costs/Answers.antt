@@ -14,7 +14,8 @@ returns-in_err-add_product-clause-wide c =
     let n = net_of c.args.net.now in
     let ends = end_size n (shown_box c.args.v.now) in
     let cost : FitsSigned w64 c.var_cost.result = search rules in
-    let here = size_is c.args.scale c.scaled_size-cost.result c.end_size.result c.var_cost.result (by_number n (costs n) c.loop-var.var) (ends c.loop-var.var) (simp to_z-of_z at c.scaled_size-cost.ensures) c.var_cost.ensures.cost c.end_size.ensures in
+    let here = size_is c.args.scale c.scaled_size-cost.result c.end_size.result c.var_cost.result (by_number n (costs n) c.loop-var.var)
+    (ends c.loop-var.var) (simp to_z-of_z at c.scaled_size-cost.ensures) c.var_cost.ensures.cost c.end_size.ensures in
     on_err c.from_residual.result (omega (
       arith,
       c.in_err-add_product.ensures.wide,
@@ -28,5 +29,10 @@ pub loop-var-preserved : goal.loop-var-preserved
 loop-var-preserved c =
     let n = net_of c.args.net.now in
     let cost : FitsSigned w64 c.var_cost.result = search rules in
-    let here = size_is c.args.scale c.scaled_size-cost.result c.end_size.result c.var_cost.result (by_number n (costs n) c.loop-var.var) (end_size n (shown_box c.args.v.now) c.loop-var.var) (simp to_z-of_z at c.scaled_size-cost.ensures) c.var_cost.ensures.cost c.end_size.ensures in
-    record { weight = rw add-one (omega (arith, c.in_ok-add_product.ensures.added, c.loop-var.invariant.weight, here)); narrow = omega (arith, c.in_ok-add_product.ensures.added, c.in_ok-add_product.ensures.fits) }
+    let here = size_is c.args.scale c.scaled_size-cost.result c.end_size.result c.var_cost.result (by_number n (costs n) c.loop-var.var)
+    (end_size n (shown_box c.args.v.now) c.loop-var.var) (simp to_z-of_z at c.scaled_size-cost.ensures) c.var_cost.ensures.cost c.end_size.ensures in
+    record {
+      weight = rw add-one (omega (arith, c.in_ok-add_product.ensures.added, c.loop-var.invariant.weight, here));
+      narrow =
+          omega (arith, c.in_ok-add_product.ensures.added, c.in_ok-add_product.ensures.fits);
+    }

@@ -26,7 +26,8 @@ add_term-requires c =
     let f = λ (i : ℕ). term_of (number_of n c.args.block i) (factor_of n c.args.block c.args.factor i) in
     omega (
       arith,
-      one-room f c.args.self.now.terms c.loop-number.self.terms c.numbers_at-numbers.result.now c.loop-number.number-index 0 c.loop-number-test.true (λ i. length-term_of (number_of n c.args.block i) (factor_of n c.args.block c.args.factor i)) c.loop-number.invariant.terms,
+      one-room f c.args.self.now.terms c.loop-number.self.terms c.numbers_at-numbers.result.now c.loop-number.number-index 0 c.loop-number-test.true
+          (λ i. length-term_of (number_of n c.args.block i) (factor_of n c.args.block c.args.factor i)) c.loop-number.invariant.terms,
       numbers_at-few (key_of n c.args.key) c.args.node (count_of n c.args.key),
       ap (length {A = ℕ}) c.numbers_at-numbers.ensures.numbers,
       c.requires.known.1,
@@ -41,7 +42,9 @@ loop-number-preserved c =
     let coef : FitsSigned w128 c.coef_at-coef.result = search rules in
     record {
       terms = more f c.args.self.now.terms c.loop-number.self.terms c.add_term.new.self.terms c.numbers_at-numbers.result.now c.loop-number.number-index 0 c.loop-number-test.true c.loop-number.invariant.terms
-          ((simp to_z-of_z at c.add_term.ensures.terms) ∙ ap (λ (v : ℕ). c.loop-number.self.terms ++ term_of v c.coef_at-coef.result) c.variable_number.ensures ∙ ap (λ (z : ℤ). c.loop-number.self.terms ++ term_of (number_of n c.args.block i) z) c.coef_at-coef.ensures);
+          ((simp to_z-of_z at c.add_term.ensures.terms)
+          ∙ ap (λ (v : ℕ). c.loop-number.self.terms ++ term_of v c.coef_at-coef.result) c.variable_number.ensures
+          ∙ ap (λ (z : ℤ). c.loop-number.self.terms ++ term_of (number_of n c.args.block i) z) c.coef_at-coef.ensures);
       constant = c.add_term.ensures.constant ∙ c.loop-number.invariant.constant;
     }
 

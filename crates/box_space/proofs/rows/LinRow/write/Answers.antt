@@ -23,7 +23,8 @@ add_terms-requires-clause-room c =
     let three : length ts ≡ 3 = omega arith in
     omega (
       arith,
-      more-room (terms_of n) (most_of n) [] c.loop-terms.self.terms ts c.loop-terms.terms-index Nothing (omega arith) (λ i lt. short-terms n (get_or ts i Nothing) (known-at n ts i Nothing lt c.requires.known)) c.loop-terms.invariant.terms,
+      more-room (terms_of n) (most_of n) [] c.loop-terms.self.terms ts c.loop-terms.terms-index Nothing (omega arith)
+          (λ i lt. short-terms n (get_or ts i Nothing) (known-at n ts i Nothing lt c.requires.known)) c.loop-terms.invariant.terms,
       table-few n 0 ts c.sizes-sizes.ensures.limited c.sizes-sizes.ensures.paths c.requires.known c.requires.rising,
     )
 
@@ -32,7 +33,8 @@ loop-terms-preserved c =
     let ts = c.args.table.now.terms in
     let three : length ts ≡ 3 = omega arith in
     record {
-      terms = more (terms_of (net_of c.args.net.now)) [] c.loop-terms.self.terms c.add_terms.new.self.terms ts c.loop-terms.terms-index Nothing (omega arith) c.loop-terms.invariant.terms c.add_terms.ensures.terms;
+      terms = more (terms_of (net_of c.args.net.now)) [] c.loop-terms.self.terms c.add_terms.new.self.terms ts c.loop-terms.terms-index Nothing
+          (omega arith) c.loop-terms.invariant.terms c.add_terms.ensures.terms;
       constant = c.add_terms.ensures.constant ∙ c.loop-terms.invariant.constant;
     }
 
@@ -43,7 +45,8 @@ returns c =
     let three : length ts ≡ 3 = omega arith in
     let fits : FitsSigned w128 c.args.table.now.constant = search rules in
     record {
-      terms = c.loop-terms.invariant.terms ∙ ap (λ (us : List Terms). flat_map (terms_of n) us) (take_all c.loop-terms.terms-index ts (omega arith)) ∙ whole_terms n ts c.requires.known c.requires.rising;
+      terms = c.loop-terms.invariant.terms ∙ ap (λ (us : List Terms). flat_map (terms_of n) us) (take_all c.loop-terms.terms-index ts (omega arith))
+          ∙ whole_terms n ts c.requires.known c.requires.rising;
       constant = c.loop-terms.invariant.constant ∙ (simp to_z-of_z at c.set_constant.ensures.constant);
       kind = refl;
     }
