@@ -4,7 +4,7 @@ ghost use Rattle.std.specs.Prelude.{◌≡◌, ◌≢◌, ◌<◌, ◌↔◌, ge
 ghost use Rattle.std.specs.Option.{ForSome};
 ghost use Rattle.pool_model.specs.Network.{net_of};
 ghost use Rattle.row_model.specs.Trees.{is_cut};
-ghost use Rattle.row_model.specs.Entries.{after, improve as improve_lem, root_proof, IsEntryInOrder};
+ghost use Rattle.row_model.specs.Entries.{after, improve as improving, root_proof, IsEntryInOrder};
 ghost use Rattle.plan_core.specs.Views.{shown_plan};
 ghost use Rattle.box_space.specs.Views.{shown_proof};
 ghost use Rattle.row_book.specs.Fitting.{Fits};
@@ -46,8 +46,8 @@ impl Tree {
     /// Takes a plan that is cheaper than the best so far.
     fn improve(&mut self, net: &Network, plan: WrittenPlan) -> Result<(), EntryFault>
         requires { IsOf (net_of net.now) self.old }
-        ensures taken { IfOk result (λ _. IsTaken (net_of net.now) (improve_lem (shown_plan plan)) self.old.kept self.new.kept) }
-        ensures fault { IfErr result (λ f. f ≢ EntryFault.Memory → IsFirstFault (net_of net.now) (searched_of self.old.kept) (improve_lem (shown_plan plan)) f) }
+        ensures taken { IfOk result (λ _. IsTaken (net_of net.now) (improving (shown_plan plan)) self.old.kept self.new.kept) }
+        ensures fault { IfErr result (λ f. f ≢ EntryFault.Memory → IsFirstFault (net_of net.now) (searched_of self.old.kept) (improving (shown_plan plan)) f) }
         ensures unchanged { IfErr result (λ _. self.new.kept ≡ self.old.kept) }
         ensures scratch { self.new.scratch ≡ self.old.scratch }
     {
