@@ -8,7 +8,7 @@ use Rattle.integers.proofs.AtKey.{same_or_other, chosen, passed}
 use Rattle.row_model.specs.Multipliers.{Proof}
 use Rattle.row_model.specs.Trees.{Split, nodes}
 use Rattle.cert_format.specs.declared.certificate.NodeProof as declared
-use Rattle.cert_format.specs.Shown.{shown_node_proof}
+use Rattle.cert_format.specs.Views.{shown_node_proof}
 use Rattle.cert_format.specs.Cert.{NodeProof}
 use Rattle.cert_format.specs.Valid.{proof_of, no_proof, IsRising}
 use Rattle.cert_checker.specs.Refusals.{node_at, IsPlaced}

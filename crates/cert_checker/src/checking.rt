@@ -4,7 +4,7 @@ ghost use Rattle.std.specs.Prelude.{◌≡◌, ◌≢◌, IfOk, IfErr};
 ghost use Rattle.pool_model.specs.Network.{net_of, counts_of, IsLimited};
 ghost use Rattle.pool_model.specs.Claim.{Follows};
 ghost use Rattle.cert_format.specs.Cert.{Cert, IsCert};
-ghost use Rattle.cert_format.specs.Shown.{view};
+ghost use Rattle.cert_format.specs.Views.{shown_cert};
 ghost use Rattle.cert_format.specs.Valid.{IsValid};
 ghost use Rattle.cert_checker.specs.Answers.{Spells, IsAccepted, IsRefused, IsTakenAs, verdict_of};
 ghost use Rattle.cert_checker.specs.Refusals.{IsFirstRefusal};
@@ -36,11 +36,11 @@ pub fn check(alloc: Global, net: &Network, bytes: &[u8]) -> Result<Verdict, Refu
 }
 
 fn check_certificate(alloc: Global, net: &Network, cert: &Certificate) -> Result<Verdict, Refusal>
-    requires { IsCert (view cert.now) }
-    ensures valid { IfOk result (λ _. IsValid (net_of net.now) (view cert.now)) }
-    ensures verdict { IfOk result (λ v. v ≡ verdict_of (view cert.now).claim) }
-    ensures follows { IfOk result (λ _. Follows (net_of net.now) (view cert.now).claim) }
-    ensures refused { IfErr result (λ r. r ≢ Refusal.Memory → IsFirstRefusal (net_of net.now) (view cert.now) r) }
+    requires { IsCert (shown_cert cert.now) }
+    ensures valid { IfOk result (λ _. IsValid (net_of net.now) (shown_cert cert.now)) }
+    ensures verdict { IfOk result (λ v. v ≡ verdict_of (shown_cert cert.now).claim) }
+    ensures follows { IfOk result (λ _. Follows (net_of net.now) (shown_cert cert.now).claim) }
+    ensures refused { IfErr result (λ r. r ≢ Refusal.Memory → IsFirstRefusal (net_of net.now) (shown_cert cert.now) r) }
 {
     check_shape(net, &cert.shape)?;
     let cost = plan_cost(net, &cert.claim)?;

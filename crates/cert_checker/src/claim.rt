@@ -3,7 +3,7 @@
 ghost use Rattle.std.specs.Prelude.{◌≡◌, ◌≢◌, pos, ◌-ℤ◌, ◌*ℤ◌, FitsSigned, IfOk, IfErr};
 ghost use Rattle.std.specs.Int.{w128};
 ghost use Rattle.pool_model.specs.Network.{net_of};
-ghost use Rattle.cert_format.specs.Shown.{claimed};
+ghost use Rattle.cert_format.specs.Views.{shown_claim};
 ghost use Rattle.cert_checker.specs.Answers.{verdict_of};
 ghost use Rattle.cert_checker.specs.Claims.{IsClaimCost, IsPlanRefusal, IsClaimRefusal, IsBoundRefusal, AreClaimed, HasRoom};
 
@@ -15,8 +15,8 @@ use plan_core::{Cost, check_plan};
 
 /// What the plan that is claimed costs, where there is one; Plan, exactly where it breaks a rule.
 pub(crate) fn plan_cost(net: &Network, claim: &Claim) -> Result<Option<Cost>, Refusal>
-    ensures cost { IfOk result (IsClaimCost (net_of net.now) (claimed claim.now)) }
-    ensures fault { IfErr result (IsPlanRefusal (net_of net.now) (claimed claim.now)) }
+    ensures cost { IfOk result (IsClaimCost (net_of net.now) (shown_claim claim.now)) }
+    ensures fault { IfErr result (IsPlanRefusal (net_of net.now) (shown_claim claim.now)) }
 {
     match claim {
         Claim::Gap { plan, .. } => Ok(Some(check_plan(net, plan)?)),
@@ -31,9 +31,9 @@ pub(crate) fn check_claim(
     found: Option<i128>,
 ) -> Result<Verdict, Refusal>
     requires { HasRoom cost found }
-    ensures verdict { IfOk result (λ v. v ≡ verdict_of (claimed claim.now)) }
-    ensures claimed { IfOk result (λ _. AreClaimed cost found (claimed claim.now)) }
-    ensures refused { IfErr result (IsClaimRefusal cost found (claimed claim.now)) }
+    ensures verdict { IfOk result (λ v. v ≡ verdict_of (shown_claim claim.now)) }
+    ensures claimed { IfOk result (λ _. AreClaimed cost found (shown_claim claim.now)) }
+    ensures refused { IfErr result (IsClaimRefusal cost found (shown_claim claim.now)) }
 {
     match claim {
         Claim::NoPlan => check_no_plan(found),

@@ -9,7 +9,7 @@ ghost use Rattle.row_model.specs.Trees.{box_of, is_cut, nodes, own, split_at};
 ghost use Rattle.row_book.specs.Fitting.{Fits};
 ghost use Rattle.row_book.specs.Views.{shown_value};
 ghost use Rattle.split_tree.specs.Splits.{IsOf};
-ghost use Rattle.cert_format.specs.Shown.{shown_node_proof};
+ghost use Rattle.cert_format.specs.Views.{shown_node_proof};
 ghost use Rattle.cert_format.specs.Valid.{proof_of, IsRising};
 ghost use Rattle.cert_checker.specs.Judging.{AreJudged, IsNext};
 ghost use Rattle.cert_checker.specs.Refusals.{node_at};

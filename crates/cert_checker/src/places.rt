@@ -1,7 +1,7 @@
 //! The places of proofs in a tree.
 
 ghost use Rattle.std.specs.Prelude.{◌≡◌, ◌<◌, ◌^◌, ℕ, length, map, IfOk, IfErr};
-ghost use Rattle.cert_format.specs.Shown.{shown_node_proof};
+ghost use Rattle.cert_format.specs.Views.{shown_node_proof};
 ghost use Rattle.cert_checker.specs.Refusals.{IsPlaced};
 ghost use Rattle.cert_checker.specs.Trees.{IsFirstPlace};
 

@@ -5,7 +5,7 @@ ghost use Rattle.pool_model.specs.Network.{net_of, IsLimited};
 ghost use Rattle.pool_model.specs.Starting.{reach_bound};
 ghost use Rattle.box_space.specs.Views.{shown_split};
 ghost use Rattle.split_tree.specs.Splits.{IsOf};
-ghost use Rattle.cert_format.specs.Shown.{shown_node_proof};
+ghost use Rattle.cert_format.specs.Views.{shown_node_proof};
 ghost use Rattle.cert_checker.specs.Trees.{IsBoundOf, IsTreeRefusal, IsSplitRefusal};
 
 use crate::nodes::{least_bound, node_bounds};

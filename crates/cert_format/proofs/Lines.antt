@@ -10,7 +10,7 @@ use Rattle.edge_io.proofs.Writes.{front-list}
 use Rattle.row_model.specs.Multipliers.{Part}
 use Rattle.box_space.specs.Views.{shown_part}
 use Rattle.cert_format.specs.declared.certificate.NodeProof.{NodeProof}
-use Rattle.cert_format.specs.Shown.{shown_node_proof}
+use Rattle.cert_format.specs.Views.{shown_node_proof}
 use Rattle.cert_format.specs.Text.{field, line, part_fields, proof_line}
 
 -- a fault in a piece of a list, whose items are shown by `view`

@@ -13,7 +13,7 @@ use Rattle.cert_format.specs.declared.certificate.Certificate.{Certificate}
 use Rattle.cert_format.specs.Answers.{IsReadAs, IsTextFault, Halts, Comes}
 use Rattle.cert_format.specs.Cert.{Cert, IsCert}
 use Rattle.cert_format.specs.Reading.{cert_at}
-use Rattle.cert_format.specs.Shown.{view}
+use Rattle.cert_format.specs.Views.{shown_cert}
 use Rattle.cert_format.specs.Text.{text_of}
 use Rattle.cert_format.proofs.CertLaws.{cert_reads}
 
@@ -26,16 +26,16 @@ each-halts r n i front a (halts.Read e) broken total lt h k = each-stops r n i f
 
 -- ---- all of the bytes
 
-pub is_found : (bytes : List ℕ) (r : Result Certificate ReadCert) → Comes view r (whole cert_at bytes) → IfOk r (λ c. IsCert (view c) × (bytes ≡ text_of (view c)))
-is_found bytes (Ok c) h = whole_found Cert IsCert text_of cert_at cert_reads bytes (view c) h
+pub is_found : (bytes : List ℕ) (r : Result Certificate ReadCert) → Comes shown_cert r (whole cert_at bytes) → IfOk r (λ c. IsCert (shown_cert c) × (bytes ≡ text_of (shown_cert c)))
+is_found bytes (Ok c) h = whole_found Cert IsCert text_of cert_at cert_reads bytes (shown_cert c) h
 is_found bytes (Err e) h = tt
 
-pub is_only : (bytes : List ℕ) (r : Result Certificate ReadCert) → Comes view r (whole cert_at bytes) → (c : Cert) → IsCert c → bytes ≡ text_of c → IsReadAs c r
-is_only bytes (Ok r) h c is e = ok_is (view r) c (sym h ∙ whole_again Cert IsCert text_of cert_at cert_reads bytes c is e)
+pub is_only : (bytes : List ℕ) (r : Result Certificate ReadCert) → Comes shown_cert r (whole cert_at bytes) → (c : Cert) → IsCert c → bytes ≡ text_of c → IsReadAs c r
+is_only bytes (Ok r) h c is e = ok_is (shown_cert r) c (sym h ∙ whole_again Cert IsCert text_of cert_at cert_reads bytes c is e)
 is_only bytes (Err Memory) h c is e = tt
 is_only bytes (Err (Text f)) h c is e = absurd (let k = whole_again Cert IsCert text_of cert_at cert_reads bytes c is e in cc)
 
-pub is_fault : (bytes : List ℕ) (r : Result Certificate ReadCert) → Comes view r (whole cert_at bytes) → IfErr r (IsTextFault bytes)
+pub is_fault : (bytes : List ℕ) (r : Result Certificate ReadCert) → Comes shown_cert r (whole cert_at bytes) → IfErr r (IsTextFault bytes)
 is_fault bytes (Ok c) h = tt
 is_fault bytes (Err Memory) h = tt
 is_fault bytes (Err (Text f)) h = whole_fault Cert IsCert text_of cert_at cert_reads bytes f.line h

@@ -8,12 +8,12 @@ use Rattle.cert_format.specs.declared.fault.Halt.TheVariants as halts
 use Rattle.cert_format.specs.declared.fault.ReadCert.{ReadCert}
 use Rattle.cert_format.specs.declared.fault.ReadCert.TheVariants.{Memory, Text}
 use Rattle.cert_format.specs.Cert.{Cert, IsCert}
-use Rattle.cert_format.specs.Shown.{view}
+use Rattle.cert_format.specs.Views.{shown_cert}
 use Rattle.cert_format.specs.Text.{text_of}
 
 -- the certificate is what was read, unless memory ran out
 abbrev pub IsReadAs : Cert → Result Certificate ReadCert → Type 0
-IsReadAs c (Ok r) = view r ≡ c
+IsReadAs c (Ok r) = shown_cert r ≡ c
 IsReadAs c (Err Memory) = Unit {0}
 IsReadAs c (Err (Text f)) = ⊥
 
@@ -32,16 +32,16 @@ Halts (halts.Read s) broken read = Stops s broken read
 -- what a reader of the code gave, and where it left its source, unless memory ran out or its source is broken: what the
 -- reading function gives
 abbrev pub Yields : {X Y : Type 0} → (X → Y) → Result X Halt → At → Bool → Result (Y × At) ℕ → Type 0
-Yields view (Ok x) b broken read = read ≡ Ok (view x, b)
-Yields view (Err e) b broken read = Halts e broken read
+Yields shown_cert (Ok x) b broken read = read ≡ Ok (shown_cert x, b)
+Yields shown_cert (Err e) b broken read = Halts e broken read
 
 -- what a reader to the end of its source gave, in the same way
 abbrev pub Closes : {X Y : Type 0} → (X → Y) → Result X Halt → Bool → Result Y ℕ → Type 0
-Closes view (Ok x) broken read = read ≡ Ok (view x)
-Closes view (Err e) broken read = Halts e broken read
+Closes shown_cert (Ok x) broken read = read ≡ Ok (shown_cert x)
+Closes shown_cert (Err e) broken read = Halts e broken read
 
 -- what a reader of all of the bytes gave, unless memory ran out
 abbrev pub Comes : {X Y : Type 0} → (X → Y) → Result X ReadCert → Result Y ℕ → Type 0
-Comes view (Ok x) read = read ≡ Ok (view x)
-Comes view (Err Memory) read = Unit {0}
-Comes view (Err (Text f)) read = read ≡ Err f.line
+Comes shown_cert (Ok x) read = read ≡ Ok (shown_cert x)
+Comes shown_cert (Err Memory) read = Unit {0}
+Comes shown_cert (Err (Text f)) read = read ≡ Err f.line

@@ -1,5 +1,5 @@
 pub mod Cert
-pub mod Shown
+pub mod Views
 pub mod Text
 pub mod Answers
 pub mod Reading

@@ -5,7 +5,7 @@ ghost use Rattle.std.specs.Prelude.{◌<◌, ◌^◌, All};
 ghost use Rattle.plan_core.specs.Views.{shown_plan};
 ghost use Rattle.box_space.specs.Views.{shown_part, shown_split};
 ghost use Rattle.cert_format.specs.Cert.{IsShaped, IsPlanInRange, IsClaimInRange, IsSplitInRange, IsPartInRange, IsProofInRange, IsCert};
-ghost use Rattle.cert_format.specs.Shown.{claimed, shown_node_proof, view};
+ghost use Rattle.cert_format.specs.Views.{shown_claim, shown_node_proof, shown_cert};
 
 use crate::certificate::{Certificate, Claim, NodeProof};
 use box_space::{Part, Split};
@@ -14,8 +14,8 @@ use plan_core::WrittenPlan;
 /// A certificate that is held, and whose lists have the lengths that they should, has a text: what `write_cert` writes of it
 /// is read by `read_cert` as this certificate and as no other.
 pub fn cert_law(cert: &Certificate)
-    requires { IsShaped (view cert.now) }
-    ensures { IsCert (view cert.now) }
+    requires { IsShaped (shown_cert cert.now) }
+    ensures { IsCert (shown_cert cert.now) }
 {
     numbers(&cert.shape);
     claim(&cert.claim);
@@ -24,7 +24,7 @@ pub fn cert_law(cert: &Certificate)
 }
 
 fn claim(claim: &Claim)
-    ensures { IsClaimInRange (claimed claim.now) }
+    ensures { IsClaimInRange (shown_claim claim.now) }
 {
     match claim {
         Claim::Gap {

@@ -7,7 +7,7 @@ ghost use Rattle.cert_text.specs.Reading.{Gives, finished, whole, each_at};
 ghost use Rattle.cert_format.specs.Answers.{IsReadAs, IsTextFault, Yields, Closes, Comes};
 ghost use Rattle.cert_format.specs.Cert.{Cert, IsCert};
 ghost use Rattle.cert_format.specs.Reading.{kind_word_at, kind_at, shape_at, u32s_at, u64s_at, list_word_at, weights_at, flows_at, plan_at, opened, opened_at, split_line_at, splits_at, part_at, proof_line_at, proofs_at, bound_at, gap_at, claim_at, cert_at};
-ghost use Rattle.cert_format.specs.Shown.{claimed, shown_node_proof, view};
+ghost use Rattle.cert_format.specs.Views.{shown_claim, shown_node_proof, shown_cert};
 ghost use Rattle.cert_format.specs.Text.{text_of};
 
 use crate::certificate::{Certificate, Claim, NodeProof};
@@ -277,7 +277,7 @@ fn bound<S: Source>(src: &mut S) -> Result<i128, Stop>
 /// The lines of a cost, a bound and their gap, which has the base of the cost.
 #[tactic(auto, unfolding(crate::specs::Reading::gap_at))]
 fn gap<S: Source>(src: &mut S, plan: WrittenPlan) -> Result<Claim, Stop>
-    ensures { Gives claimed result (S.at src.new) (S.broken src.new) (gap_at (shown_plan plan) (S.at src.old)) }
+    ensures { Gives shown_claim result (S.at src.new) (S.broken src.new) (gap_at (shown_plan plan) (S.at src.old)) }
 {
     word(src, b"cost ")?;
     let cost = i128_then(src, Ends::Space)?;
@@ -298,7 +298,7 @@ fn gap<S: Source>(src: &mut S, plan: WrittenPlan) -> Result<Claim, Stop>
 /// The lines of the numbers that are claimed.
 #[tactic(auto, unfolding(crate::specs::Reading::claim_at))]
 fn claim<S: Source>(src: &mut S, opening: Opening) -> Result<Claim, Stop>
-    ensures { Gives claimed result (S.at src.new) (S.broken src.new) (claim_at (opened opening) (S.at src.old)) }
+    ensures { Gives shown_claim result (S.at src.new) (S.broken src.new) (claim_at (opened opening) (S.at src.old)) }
 {
     match opening {
         Opening::Gap(plan) => gap(src, plan),
@@ -313,7 +313,7 @@ fn claim<S: Source>(src: &mut S, opening: Opening) -> Result<Claim, Stop>
 /// A certificate, at the front of what the source has.
 #[tactic(auto, unfolding(crate::specs::Reading::cert_at))]
 fn certificate<S: Source>(alloc: Global, src: &mut S) -> Result<Certificate, Halt>
-    ensures { Yields view result (S.at src.new) (S.broken src.new) (cert_at (S.at src.old)) }
+    ensures { Yields shown_cert result (S.at src.new) (S.broken src.new) (cert_at (S.at src.old)) }
 {
     word(src, b"poolcert 1\n")?;
     let kind = kind_line(src)?;
@@ -333,7 +333,7 @@ fn certificate<S: Source>(alloc: Global, src: &mut S) -> Result<Certificate, Hal
 
 /// A certificate, and nothing behind it in the source.
 fn to_the_end<S: Source>(alloc: Global, src: &mut S) -> Result<Certificate, Halt>
-    ensures { Closes view result (S.broken src.new) (finished cert_at (S.at src.old)) }
+    ensures { Closes shown_cert result (S.broken src.new) (finished cert_at (S.at src.old)) }
 {
     let cert = certificate(alloc, src)?;
     let line = src.line();
@@ -346,7 +346,7 @@ fn to_the_end<S: Source>(alloc: Global, src: &mut S) -> Result<Certificate, Halt
 
 /// All of the bytes: a certificate and nothing behind it.
 fn all(alloc: Global, bytes: &[u8]) -> Result<Certificate, ReadCert>
-    ensures { Comes view result (whole cert_at bytes.now) }
+    ensures { Comes shown_cert result (whole cert_at bytes.now) }
 {
     let mut src = SliceSource::new(bytes);
     match to_the_end(alloc, &mut src) {
@@ -365,7 +365,7 @@ fn all(alloc: Global, bytes: &[u8]) -> Result<Certificate, ReadCert>
 /// of what is read.
 pub fn read_cert(alloc: Global, bytes: &[u8]) -> Result<Certificate, ReadCert>
     // What is read has this text.
-    ensures found { IfOk result (λ c. IsCert (view c) × (bytes.now ≡ text_of (view c))) }
+    ensures found { IfOk result (λ c. IsCert (shown_cert c) × (bytes.now ≡ text_of (shown_cert c))) }
     // What is the text of a certificate is read as that certificate, unless memory runs out.
     ensures only { (c : Cert) → IsCert c → bytes.now ≡ text_of c → IsReadAs c result }
     // A fault is that of the first faulty line.

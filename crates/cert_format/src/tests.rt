@@ -1,6 +1,6 @@
 ghost use Rattle.std.specs.Prelude.{IfOk};
 ghost use Rattle.cert_format.specs.Cert.{IsShaped};
-ghost use Rattle.cert_format.specs.Shown.{view};
+ghost use Rattle.cert_format.specs.Views.{shown_cert};
 
 use super::*;
 use edge_io::{MemSink, WriteFault};
@@ -22,7 +22,7 @@ const ROW_10: &[u8] =
 
 /// The certificate of a source with one direct to a product.
 fn one_direct(alloc: Global) -> Result<Certificate, AllocError>
-    ensures { IfOk result (λ c. IsShaped (view c)) }
+    ensures { IfOk result (λ c. IsShaped (shown_cert c)) }
 {
     let plan = WrittenPlan {
         base: 1,

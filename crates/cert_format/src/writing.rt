@@ -7,7 +7,7 @@ ghost use Rattle.edge_io.specs.Counts.{Grows, Rose};
 ghost use Rattle.edge_io.specs.Writing.{Wrote};
 ghost use Rattle.plan_core.specs.Views.{shown_plan};
 ghost use Rattle.cert_format.specs.Cert.{IsShaped};
-ghost use Rattle.cert_format.specs.Shown.{claimed, shown_node_proof, view};
+ghost use Rattle.cert_format.specs.Views.{shown_claim, shown_node_proof, shown_cert};
 ghost use Rattle.cert_format.specs.Text.{field, line, kind_of, head_lines, plan_lines, claimed_plan_lines, part_fields, split_line, split_lines, proof_line, proof_lines, gap_lines, number_lines, rest_lines, text_of};
 
 use crate::certificate::{Certificate, Claim, NodeProof};
@@ -56,7 +56,7 @@ fn write_line<K: Sink, N: Integer>(
 
 /// The line of a claim's kind.
 fn write_kind<K: Sink>(out: &mut K, claim: &Claim) -> Result<(), WriteFault>
-    ensures wrote { Wrote result (K.taken out.old) (line (codes "kind") (kind_of (claimed claim.now) ∷ [])) (K.taken out.new) }
+    ensures wrote { Wrote result (K.taken out.old) (line (codes "kind") (kind_of (shown_claim claim.now) ∷ [])) (K.taken out.new) }
     ensures failed { OnErr result (Rose (K.faults out.old) (K.faults out.new)) }
     ensures faults_grow { Grows (K.faults out.old) (K.faults out.new) }
 {
@@ -69,7 +69,7 @@ fn write_kind<K: Sink>(out: &mut K, claim: &Claim) -> Result<(), WriteFault>
 
 /// The first lines: what text this is, the kind of its claim, and the shape of the network.
 fn write_head<K: Sink>(out: &mut K, cert: &Certificate) -> Result<(), WriteFault>
-    ensures wrote { Wrote result (K.taken out.old) (head_lines (view cert.now)) (K.taken out.new) }
+    ensures wrote { Wrote result (K.taken out.old) (head_lines (shown_cert cert.now)) (K.taken out.new) }
     ensures failed { OnErr result (Rose (K.faults out.old) (K.faults out.new)) }
     ensures faults_grow { Grows (K.faults out.old) (K.faults out.new) }
 {
@@ -92,7 +92,7 @@ fn write_plan<K: Sink>(out: &mut K, plan: &WrittenPlan) -> Result<(), WriteFault
 
 /// The lines of the plan that is claimed, where there is one.
 fn write_claimed_plan<K: Sink>(out: &mut K, claim: &Claim) -> Result<(), WriteFault>
-    ensures wrote { Wrote result (K.taken out.old) (claimed_plan_lines (claimed claim.now)) (K.taken out.new) }
+    ensures wrote { Wrote result (K.taken out.old) (claimed_plan_lines (shown_claim claim.now)) (K.taken out.new) }
     ensures failed { OnErr result (Rose (K.faults out.old) (K.faults out.new)) }
     ensures faults_grow { Grows (K.faults out.old) (K.faults out.new) }
 {
@@ -212,7 +212,7 @@ fn write_gap<K: Sink>(
 
 /// The lines of the numbers that are claimed.
 fn write_numbers<K: Sink>(out: &mut K, claim: &Claim) -> Result<(), WriteFault>
-    ensures wrote { Wrote result (K.taken out.old) (number_lines (claimed claim.now)) (K.taken out.new) }
+    ensures wrote { Wrote result (K.taken out.old) (number_lines (shown_claim claim.now)) (K.taken out.new) }
     ensures failed { OnErr result (Rose (K.faults out.old) (K.faults out.new)) }
     ensures faults_grow { Grows (K.faults out.old) (K.faults out.new) }
 {
@@ -231,7 +231,7 @@ fn write_numbers<K: Sink>(out: &mut K, claim: &Claim) -> Result<(), WriteFault>
 
 /// The lines behind the plan: the tree, the numbers that are claimed, and the end.
 fn write_rest<K: Sink>(out: &mut K, cert: &Certificate) -> Result<(), WriteFault>
-    ensures wrote { Wrote result (K.taken out.old) (rest_lines (view cert.now)) (K.taken out.new) }
+    ensures wrote { Wrote result (K.taken out.old) (rest_lines (shown_cert cert.now)) (K.taken out.new) }
     ensures failed { OnErr result (Rose (K.faults out.old) (K.faults out.new)) }
     ensures faults_grow { Grows (K.faults out.old) (K.faults out.new) }
 {
@@ -245,8 +245,8 @@ fn write_rest<K: Sink>(out: &mut K, cert: &Certificate) -> Result<(), WriteFault
 ///
 /// `WriteFault` comes only where the sink's count of faults rose; the sink has taken a front of the text then.
 pub fn write_cert<K: Sink>(cert: &Certificate, out: &mut K) -> Result<(), WriteFault>
-    requires { IsShaped (view cert.now) }
-    ensures wrote { Wrote result (K.taken out.old) (text_of (view cert.now)) (K.taken out.new) }
+    requires { IsShaped (shown_cert cert.now) }
+    ensures wrote { Wrote result (K.taken out.old) (text_of (shown_cert cert.now)) (K.taken out.new) }
     ensures failed { OnErr result (Rose (K.faults out.old) (K.faults out.new)) }
     ensures faults_grow { Grows (K.faults out.old) (K.faults out.new) }
 {

@@ -6,7 +6,7 @@ ghost use Rattle.pool_model.specs.Starting.{HasNoMinima, IsCheapestStart};
 ghost use Rattle.plan_core.specs.Checks.{IsCostOf};
 ghost use Rattle.plan_core.specs.Views.{shown_plan};
 ghost use Rattle.cert_format.specs.Cert.{IsCert};
-ghost use Rattle.cert_format.specs.Shown.{view};
+ghost use Rattle.cert_format.specs.Views.{shown_cert};
 ghost use Rattle.pool_cli.specs.Solution.{HasMinimum, IsSolution};
 
 use blend_network::Network;
@@ -42,8 +42,8 @@ pub(crate) fn has_minimum(net: &Network) -> bool
 /// The certificate of the network's cheapest starting plan. Where no product must take something, there is one.
 pub(crate) fn solution_of(alloc: Global, net: &Network) -> Result<Solution, Memory>
     requires { HasNoMinima (net_of net.now) }
-    ensures solved { IfOk result (λ s. IsSolution (net_of net.now) s.closed (view s.certificate)) }
-    ensures certificate { IfOk result (λ s. IsCert (view s.certificate)) }
+    ensures solved { IfOk result (λ s. IsSolution (net_of net.now) s.closed (shown_cert s.certificate)) }
+    ensures certificate { IfOk result (λ s. IsCert (shown_cert s.certificate)) }
 {
     let found = cheapest_start(alloc, net)?;
     Ok(claimed(alloc, net, found.unwrap()))
@@ -54,8 +54,8 @@ fn claimed(alloc: Global, net: &Network, start: Start) -> Solution
     requires cost { IsCostOf (net_of net.now) (shown_plan start.plan) start.cost }
     requires cheapest { IsCheapestStart (net_of net.now) (shown_plan start.plan) }
     requires size { unsigned_abs start.cost.num ≤ 2 * 10 ^ 24 }
-    ensures solved { IsSolution (net_of net.now) result.closed (view result.certificate) }
-    ensures certificate { IsCert (view result.certificate) }
+    ensures solved { IsSolution (net_of net.now) result.closed (shown_cert result.certificate) }
+    ensures certificate { IsCert (shown_cert result.certificate) }
 {
     let Start { plan, cost } = start;
     let cost = cost.num;

@@ -3,7 +3,7 @@
 ghost use Rattle.std.specs.Prelude.{◌≡◌, ◌≢◌, ℕ, List, Option, IsTrue};
 ghost use Rattle.edge_io.specs.Counts.{Rose};
 ghost use Rattle.cert_format.specs.Cert.{IsCert};
-ghost use Rattle.cert_format.specs.Shown.{view};
+ghost use Rattle.cert_format.specs.Views.{shown_cert};
 ghost use Rattle.cert_format.specs.Text.{text_of};
 ghost use Rattle.pool_cli.specs.Reads.{Files, ReadsUnder};
 ghost use Rattle.pool_cli.specs.SolveEnds.{AnswersUnder, IsPrinted, SolveEnds, SolvesAs, solve_status};
@@ -86,8 +86,8 @@ fn solve_network<K: Sink>(alloc: Global, net: &Network, out: &mut K) -> SolveOut
 
 /// Writes a solution's certificate.
 fn print<K: Sink>(solution: &Solution, out: &mut K) -> SolveOutcome
-    requires { IsCert (view solution.now.certificate) }
-    ensures took { (files : Option Files) (name : List ℕ) → AnswersUnder files name solution.now.closed (text_of (view solution.now.certificate))
+    requires { IsCert (shown_cert solution.now.certificate) }
+    ensures took { (files : Option Files) (name : List ℕ) → AnswersUnder files name solution.now.closed (text_of (shown_cert solution.now.certificate))
         → Took (SolvesAs files name) (solve_status result) (K.taken out.old) (K.taken out.new) }
     ensures printed { IsPrinted (solve_status result) }
     ensures write_fault { solve_status result ≡ Status.WriteFault → Rose (K.faults out.old) (K.faults out.new) }

@@ -1,7 +1,7 @@
 use Rattle.std.proofs.Common.{◌≡◌, map, rules, subst}
 use Rattle.pool_model.specs.Network.{net_of}
 use Rattle.row_model.specs.Trees.{nodes}
-use Rattle.cert_format.specs.Shown.{shown_node_proof}
+use Rattle.cert_format.specs.Views.{shown_node_proof}
 use Rattle.cert_checker.specs.Trees.{AreProved, tree_with}
 use Rattle.cert_checker.proofs.nodes.node_bounds.Goals as goal
 

@@ -1,6 +1,6 @@
 use Rattle.std.proofs.Common.{map}
 use Rattle.pool_model.specs.Network.{net_of}
-use Rattle.cert_format.specs.Shown.{shown_node_proof}
+use Rattle.cert_format.specs.Views.{shown_node_proof}
 use Rattle.cert_checker.specs.Judging.{AreJudged}
 use Rattle.cert_checker.proofs.nodes.node_bounds.Given as goal
 

@@ -2,7 +2,7 @@
 use Rattle.std.proofs.Common.{◌≡◌, ◌<◌, ◌≤◌, ◌+◌, ℕ, List, length, map, get_or, inl, inr, arith, sym, ap, subst}
 use Rattle.integers.proofs.AtKey.{same_or_other}
 use Rattle.cert_format.specs.declared.certificate.NodeProof.{NodeProof}
-use Rattle.cert_format.specs.Shown.{shown_node_proof}
+use Rattle.cert_format.specs.Views.{shown_node_proof}
 use Rattle.cert_checker.specs.Refusals.{node_at, IsPlaced}
 use Rattle.cert_checker.proofs.Lines.{line-is}
 use Rattle.cert_checker.proofs.places.check_places.Goals as goal

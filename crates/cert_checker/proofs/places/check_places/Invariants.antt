@@ -1,5 +1,5 @@
 use Rattle.std.proofs.Common.{◌≡◌, ℕ, ◌+◌, ◌<◌, map}
-use Rattle.cert_format.specs.Shown.{shown_node_proof}
+use Rattle.cert_format.specs.Views.{shown_node_proof}
 use Rattle.cert_checker.specs.Refusals.{node_at, IsPlaced}
 use Rattle.cert_checker.proofs.places.check_places.Given as goal
 

@@ -4,7 +4,7 @@ use Rattle.std.proofs.lemmas.List.{length-map}
 use Rattle.std.proofs.lemmas.Result.{err_from_is_err_and}
 use Rattle.pool_model.specs.Network.{net_of}
 use Rattle.row_model.specs.Trees.{Split, nodes}
-use Rattle.cert_format.specs.Shown.{shown_node_proof}
+use Rattle.cert_format.specs.Views.{shown_node_proof}
 use Rattle.cert_checker.specs.Refusals.{IsPlaced}
 use Rattle.cert_checker.specs.Trees.{AreBounds, IsBoundOf, IsTreeRefusal, tree_with}
 use Rattle.cert_checker.proofs.Lines.{placed-all}

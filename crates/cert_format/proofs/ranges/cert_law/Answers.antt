@@ -2,7 +2,7 @@ use Rattle.std.proofs.Common.{All, subst, rules}
 use Rattle.std.proofs.lemmas.List.Elements.{All-map}
 use Rattle.box_space.specs.Views.{shown_split}
 use Rattle.cert_format.specs.Cert.{IsSplitInRange, IsProofInRange}
-use Rattle.cert_format.specs.Shown.{shown_node_proof}
+use Rattle.cert_format.specs.Views.{shown_node_proof}
 use Rattle.cert_format.proofs.ranges.cert_law.Goals as goal
 
 pub returns : goal.returns

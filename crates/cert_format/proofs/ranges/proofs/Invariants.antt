@@ -1,5 +1,5 @@
 use Rattle.std.proofs.Common.{All, take}
-use Rattle.cert_format.specs.Shown.{shown_node_proof}
+use Rattle.cert_format.specs.Views.{shown_node_proof}
 use Rattle.cert_format.specs.Cert.{IsProofInRange}
 use Rattle.cert_format.proofs.ranges.proofs.Given as goal
 

@@ -3,7 +3,7 @@ use Rattle.std.proofs.lemmas.List.{take_all}
 use Rattle.std.proofs.lemmas.Result.{err_from_is_err_and}
 use Rattle.edge_io.specs.Writing.{TookFront}
 use Rattle.cert_format.specs.declared.certificate.NodeProof.{NodeProof}
-use Rattle.cert_format.specs.Shown.{shown_node_proof}
+use Rattle.cert_format.specs.Views.{shown_node_proof}
 use Rattle.cert_format.specs.Text.{proof_line}
 use Rattle.cert_format.proofs.Lines.{front-shown, all-shown}
 use Rattle.cert_format.proofs.writing.write_proof_list.Goals as goal

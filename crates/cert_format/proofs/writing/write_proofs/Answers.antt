@@ -4,7 +4,7 @@ use Rattle.std.specs.List.{flat_map}
 use Rattle.std.proofs.lemmas.Result.{err_from_is_err_and}
 use Rattle.edge_io.specs.Writing.{Wrote, TookFront}
 use Rattle.edge_io.proofs.Writes.{front-first, wrote-behind}
-use Rattle.cert_format.specs.Shown.{shown_node_proof}
+use Rattle.cert_format.specs.Views.{shown_node_proof}
 use Rattle.cert_format.specs.Text.{line, proof_line}
 use Rattle.cert_format.proofs.Lines.{lines_text}
 use Rattle.cert_format.proofs.writing.write_proofs.Goals as goal

@@ -2,7 +2,7 @@ use Rattle.std.proofs.Common.{◌≡◌, ◌<◌, ◌^◌, ◌-ℤ◌, [], lengt
 use Rattle.std.proofs.lemmas.List.Elements.{All-nil}
 use Rattle.cert_format.specs.Cert.{NodeProof}
 use Rattle.box_space.specs.Views.{shown_split}
-use Rattle.cert_format.specs.Shown.{shown_node_proof}
+use Rattle.cert_format.specs.Views.{shown_node_proof}
 use Rattle.std.proofs.lemmas.Int.{ints, to_z-of_z}
 use mir.Syntax.{w128}
 use mir.Val.{to_z, of_z}

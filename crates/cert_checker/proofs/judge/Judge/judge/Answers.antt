@@ -2,7 +2,7 @@ use Rattle.std.proofs.Common.{◌∷◌, [], ◌++◌, map, Some, Option, ℤ, o
 use mir.Syntax.{w128}
 use Rattle.pool_model.specs.Network.{net_of}
 use Rattle.row_book.specs.Views.{shown_value}
-use Rattle.cert_format.specs.Shown.{shown_node_proof}
+use Rattle.cert_format.specs.Views.{shown_node_proof}
 use Rattle.cert_checker.proofs.Raising.{judged-next}
 use Rattle.cert_checker.proofs.judge.Judge.judge.Goals as goal
 

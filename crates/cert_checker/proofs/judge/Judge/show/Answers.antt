@@ -8,7 +8,7 @@ use Rattle.row_model.specs.Multipliers.{Proof, Shown, IsInOrder, shown_by}
 use Rattle.row_model.specs.Trees.{box_of}
 use Rattle.box_space.specs.Views.{shown_proof}
 use Rattle.cert_format.specs.Cert.{NodeProof}
-use Rattle.cert_format.specs.Shown.{shown_node_proof}
+use Rattle.cert_format.specs.Views.{shown_node_proof}
 use Rattle.cert_format.specs.Valid.{no_proof}
 use Rattle.cert_checker.specs.Refusals.{node_at}
 use Rattle.cert_checker.proofs.Lines.{named-some, unnamed-none, next-named, next-unnamed}

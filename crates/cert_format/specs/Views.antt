@@ -10,15 +10,15 @@ use Rattle.cert_format.specs.declared.certificate.Certificate.{Certificate}
 use Rattle.cert_format.specs.Cert.{Cert, NodeProof}
 
 -- what is claimed
-abbrev pub claimed : Claim → Claimed
-claimed (claims.Gap plan cost base bound gap) = with_gap (shown_plan plan) cost base bound gap
-claimed (claims.Bound bound) = with_bound bound
-claimed claims.NoPlan = no_plan
+abbrev pub shown_claim : Claim → Claimed
+shown_claim (claims.Gap plan cost base bound gap) = with_gap (shown_plan plan) cost base bound gap
+shown_claim (claims.Bound bound) = with_bound bound
+shown_claim claims.NoPlan = no_plan
 
 -- a node and its proof
 abbrev pub shown_node_proof : declared.NodeProof.NodeProof → NodeProof
 shown_node_proof p = record { node = p.node; proof = shown_proof p.proof }
 
 -- a certificate
-abbrev pub view : Certificate → Cert
-view c = record { shape = c.shape; claim = claimed c.claim; splits = map shown_split c.splits.items; proofs = map shown_node_proof c.proofs.items }
+abbrev pub shown_cert : Certificate → Cert
+shown_cert c = record { shape = c.shape; claim = shown_claim c.claim; splits = map shown_split c.splits.items; proofs = map shown_node_proof c.proofs.items }
