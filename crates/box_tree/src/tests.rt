@@ -76,8 +76,8 @@ fn out_of_order(
     let again = Entry::Improve(zero_plan(alloc, net)?);
     Ok([
         tree.apply(net, split(0, 1, 262_144)),
-        tree.apply(net, split(1, 0, 524_288)),
-        tree.apply(net, split(1, 4, 1)),
+        tree.apply(net, split(3, 0, 524_288)),
+        tree.apply(net, split(3, 4, 1)),
         tree.apply(net, Entry::Root(nothing)),
         tree.apply(net, again),
     ])
