@@ -72,7 +72,7 @@ pub(crate) fn write_refused<K: Sink>(refusal: &Refusal, out: &mut K) -> Result<(
 
 /// Writes the line of a node whose proof is refused.
 fn write_proof_fault<K: Sink>(node: u32, fault: &ProofFault, out: &mut K) -> Result<(), WriteFault>
-    ensures wrote { Wrote result (K.taken out.old) (labelled (codes "refused proof ") (pos node) ++ numbered (codes " ") (pos (proofs.place fault.now))) (K.taken out.new) }
+    ensures wrote { Wrote result (K.taken out.old) (labelled (codes "refused proof ") (pos node) ++ numbered (codes " ") (pos (proofs.number fault.now))) (K.taken out.new) }
     ensures failed { OnErr result (Rose (K.faults out.old) (K.faults out.new)) }
     ensures faults_grow { Grows (K.faults out.old) (K.faults out.new) }
 {
@@ -127,7 +127,7 @@ fn rule(fault: &PlanFault) -> u64
 
 /// The number of a fault of a proof.
 fn place(fault: &ProofFault) -> u64
-    ensures { result ≡ proofs.place fault.now }
+    ensures { result ≡ proofs.number fault.now }
 {
     match fault {
         ProofFault::Order => 1,
