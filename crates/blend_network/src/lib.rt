@@ -15,6 +15,9 @@
 //! - [`Network::reach_bound`]: a bound on cost that margins alone give.
 //!
 //! Where the rows come from, and what text they were, is left to the crates above.
+//!
+//! Proofs above may cite, of `proofs/`, what holds of the rows that a network is written as: `CanonicalArcs`, `CanonicalFaults`,
+//! `CanonicalSizes`.
 #![tactic(auto, unfolding(pool_model::specs::Network::net_of))]
 
 mod counts;

@@ -4,6 +4,9 @@
 //! at one. A [`Proof`] is multipliers on rows, which show a bound on what plans in a box cost.
 //!
 //! Contracts see these types as the data of `row_model`, by `specs/Views.antt`.
+//!
+//! Proofs above may cite, of `proofs/`: `Halving` (ends and their halves), and on rows that are written from tables `Writing`,
+//! `Segments` and `TermLists`.
 #![tactic(auto)]
 
 mod boxes;

@@ -8,6 +8,8 @@
 //! `specs/Lines.antt` says which line of a text is the faulty one, with no reader in it. `specs/Reading.antt` has the
 //! readers as functions on lists of bytes, which the contracts name. `proofs/Laws.antt` puts them together: a reader that is
 //! made of readers of formats reads a format, and its fault is at the faulty line.
+//! Proofs above may cite it, and beside it `PieceLaws` (words and numbers within a line), `NumberLaws` (the numbers of each type)
+//! and `Each` (a count of items).
 #![tactic(auto)]
 
 mod fault;

@@ -2,6 +2,7 @@
 //!
 //! [`envelope`] writes a side into a row, at the numbers of three variables. `proofs/BlockRows.antt` says which row of a network
 //! that is.
+//! `proofs/ThreeTerms.antt` is the same of a vector of coefficients; proofs above may cite both.
 #![tactic(auto)]
 
 mod sides;

@@ -5,8 +5,9 @@
 //! with the names of their ends looked up, and the paths through pools. `specs/Faults.antt` says when each fault holds, and
 //! `specs/FirstFault.antt` which is first; `IsChecked` of `specs/Checks.antt` is what rows without a fault are.
 //!
-//! The layer above may use these, and of the lemmas those on arcs between nodes (`proofs/Joined.antt`) and on lists that are seen
-//! through a map (`proofs/Mapped.antt`). What network the rows make is left to it.
+//! The layer above may use these, and of the lemmas those on arcs between nodes (`proofs/Joined.antt`), on names that are looked
+//! up (`proofs/Lookups.antt`) and on lists that are seen through a map (`proofs/Mapped.antt`). What network the rows make is left
+//! to it.
 #![tactic(auto, unfolding(pool_model::specs::Network::net_of))]
 
 mod arcs;

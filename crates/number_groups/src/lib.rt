@@ -5,6 +5,7 @@
 //! `numbers_at` of `integers`.
 //!
 //! What the numbers and the keys stand for is left to the layer above.
+//! Its proofs may cite `proofs/Grouped.antt`: numbers that have a key are below the count, and no more than that.
 #![tactic(auto)]
 
 mod groups;

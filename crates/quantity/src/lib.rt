@@ -7,6 +7,8 @@
 //!
 //! Which texts stand for which numbers is defined in `pool_model`, `specs/Quantity.antt`. What range a quantity may have
 //! is left to the layer above.
+//!
+//! Proofs above may cite, of `proofs/`: `Laws` (a text stands for one quantity) and `Spelled` (the shortest text stands for it).
 #![tactic(auto)]
 
 mod read;

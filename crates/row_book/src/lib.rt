@@ -8,6 +8,7 @@
 //! the memory that `value` works in; it is taken once for a network.
 //!
 //! The rows, and the number and the weight of a proof, are defined in `row_model`; `specs/Faults.antt` says when a fault holds.
+//! Proofs above may cite `proofs/AgreedFaults.antt`: a proof has the same faults in boxes with the same ends.
 #![tactic(auto)]
 
 mod catalogue;

@@ -13,6 +13,10 @@
 //! `root_law` and `halves_law` say that the boxes of a search leave no plan out. `row_law`, `ends_law` and `cost_law` say that a
 //! plan's point meets every row, lies between all ends and costs what the plan costs. `proof_law` is what follows: what
 //! multipliers show of a box is so. `tree_law` is what follows of a tree: its bound holds.
+//!
+//! Proofs above may cite the lemmas behind them, in `proofs/`: `RootBox` and `Halves`; `Numbering` and `PathSums` (coordinates,
+//! variables and paths by number); `Agreement` (what a proof shows rests on the ends of its box alone) and `Duality`; `TreeLaw`,
+//! `TreeBound` and `EntryLaw`.
 #![tactic(auto)]
 
 mod laws;

@@ -10,6 +10,7 @@
 //! node takes all the steps up to the root, and memory for the box. Nothing here recurses.
 //!
 //! Bounds, proofs and plans are left to the crates above.
+//! Their proofs may cite `proofs/Innermost.antt`: the box of a node by its innermost cuts.
 #![tactic(auto)]
 
 mod boxes;
