@@ -12,6 +12,7 @@ pub mod Written
 pub mod Answered
 pub mod WeightSums
 pub mod Parts
+pub mod Passing
 pub mod Least
 pub mod AgreedFaults
 pub mod Narrowing

@@ -6,7 +6,7 @@ use Rattle.std.proofs.Math.ListN.{get_or-map}
 use Rattle.std.proofs.Math.Nat.{mul-le-mul, mul-le-mul_right}
 use Rattle.std.proofs.lemmas.Int.{ints, unsigned_abs-mul, fits_signed_from_abs}
 use Rattle.std.proofs.lemmas.List.{length-map}
-use Rattle.std.proofs.lemmas.List.Sums.{sum_by_more_le}
+use Rattle.std.proofs.lemmas.List.Sums.{sum_by_more}
 use mir.Syntax.{w64, w128}
 use Rattle.integers.specs.Sums.{int_sum_below, sum_below}
 use Rattle.integers.proofs.Ring.{additive}
@@ -21,8 +21,9 @@ use Rattle.box_space.specs.Views.{shown_part}
 use Rattle.box_space.specs.declared.multipliers.Part.{Part}
 use Rattle.row_book.specs.Sizes.{end_size}
 use Rattle.row_book.specs.PartRows.{coef_at, constant_at}
-use Rattle.row_book.specs.PartSums.{constants_of, rest_of, rest_weight_of, number_of, weight_of}
+use Rattle.row_book.specs.PartSums.{constants_of, rest_of, rest_weight_of, number_of, weight_of, part_weight}
 use Rattle.row_book.proofs.Least.{least_size}
+use Rattle.row_book.proofs.WeightSums.{weight-parts}
 use Rattle.row_book.proofs.AllParts.{no_part}
 
 -- ---- sizes of a rest, whatever its variable's ends are
@@ -36,11 +37,11 @@ product_size m c h k = omega (arith, mul-le-mul h (le_of c k))
     le_of : (c : ℕ) → c < 2 ^ 48 → c ≤ 2 ^ 48
     le_of c k = omega arith
 
-pub rest_room : (r k m c : ℕ) → r ≤ 2 ^ 112 + k * 2 ^ 111 → k < 2 ^ 14 → m ≤ 2 ^ 63 → c < 2 ^ 48 → r + m * c ≤ 2 ^ 126
-rest_room r k m c h lt i j = omega (arith, product_size m c i j)
+pub part_room : (r m c : ℕ) → r + 2 ^ 111 ≤ 2 ^ 126 → m ≤ 2 ^ 63 → c < 2 ^ 48 → r + m * c ≤ 2 ^ 126
+part_room r m c h i j = omega (arith, product_size m c i j)
 
-pub rest_small : (z r m c : ℤ) (k : ℕ) → z ≡ r -ℤ m *ℤ c → unsigned_abs r ≤ 2 ^ 112 + k * 2 ^ 111 → unsigned_abs m ≤ 2 ^ 63 → unsigned_abs c < 2 ^ 48 → unsigned_abs z ≤ 2 ^ 112 + (k + 1) * 2 ^ 111
-rest_small z r m c k e h i j = omega (arith, ints, product_size (unsigned_abs m) (unsigned_abs c) i j, unsigned_abs-mul m c)
+pub rest_small : (z r m c : ℤ) → z ≡ r -ℤ m *ℤ c → unsigned_abs m ≤ 2 ^ 63 → unsigned_abs c < 2 ^ 48 → unsigned_abs z ≤ unsigned_abs r + 2 ^ 111
+rest_small z r m c e i j = omega (arith, ints, product_size (unsigned_abs m) (unsigned_abs c) i j, unsigned_abs-mul m c)
 
 -- ---- sizes within the weight
 module _ (n : Net) (b : Box) (scale : ℕ) (parts : List multipliers.Part) where
@@ -52,7 +53,7 @@ module _ (n : Net) (b : Box) (scale : ℕ) (parts : List multipliers.Part) where
     abs-int_sum_by (λ q. q.mult *ℤ coef_at n b q.row v) (λ q. unsigned_abs q.mult * unsigned_abs (coef_at n b q.row v)) parts (λ q. omega (arith, unsigned_abs-mul q.mult (coef_at n b q.row v))),
   )
 
-  constants_size : unsigned_abs (constants_of n b parts) ≤ sum_by (λ q. unsigned_abs q.mult * unsigned_abs (constant_at n b q.row)) parts
+  pub constants_size : unsigned_abs (constants_of n b parts) ≤ sum_by (λ q. unsigned_abs q.mult * unsigned_abs (constant_at n b q.row)) parts
   constants_size = abs-int_sum_by (λ q. q.mult *ℤ constant_at n b q.row) (λ q. unsigned_abs q.mult * unsigned_abs (constant_at n b q.row)) parts
       (λ q. omega (arith, unsigned_abs-mul q.mult (constant_at n b q.row)))
 
@@ -64,14 +65,6 @@ module _ (n : Net) (b : Box) (scale : ℕ) (parts : List multipliers.Part) where
     sum_below-le (λ v. unsigned_abs (r v) * end_size n b v) (λ v. rest_weight_of n b scale parts v * end_size n b v) (variables n)
         (λ v lt. mul-le-mul_right (end_size n b v) (let e : unsigned_abs (r v) ≤ rest_weight_of n b scale parts v = omega (arith, ap unsigned_abs (h v lt), rest_size v) in e)),
   )
-
-  pub number-read : (r : ℕ → ℤ) → ((v : ℕ) → v < variables n → r v ≡ rest_of n b scale parts v)
-      → int_sum_below (λ v. int_min (r v *ℤ by_number n (lows n b) v) (r v *ℤ by_number n (highs n b) v)) (variables n) -ℤ constants_of n b parts
-      ≡ number_of n b record { scale = scale; parts = parts }
-  number-read r h = ap (λ z. z -ℤ constants_of n b parts) (int_sum_below-same
-      (λ v. int_min (r v *ℤ by_number n (lows n b) v) (r v *ℤ by_number n (highs n b) v))
-      (λ v. int_min (rest_of n b scale parts v *ℤ by_number n (lows n b) v) (rest_of n b scale parts v *ℤ by_number n (highs n b) v)) (variables n)
-      (λ v lt. ap (λ z. int_min (z *ℤ by_number n (lows n b) v) (z *ℤ by_number n (highs n b) v)) (h v lt)))
 
   pub number-fits : weight_of n b record { scale = scale; parts = parts } ≤ 2 ^ 126 → FitsSigned w128 (number_of n b record { scale = scale; parts = parts })
   number-fits w =
@@ -86,6 +79,17 @@ module _ (n : Net) (b : Box) (scale : ℕ) (parts : List multipliers.Part) where
       small : (v : ℕ) → unsigned_abs
           (int_min (rest_of n b scale parts v *ℤ by_number n (lows n b) v) (rest_of n b scale parts v *ℤ by_number n (highs n b) v)) ≤ rest_weight_of n b scale parts v * end_size n b v
       small v = omega (arith, least_size (rest_of n b scale parts v) (by_number n (lows n b) v) (by_number n (highs n b) v), mul-le-mul_right (end_size n b v) (rest_size v))
+
+  -- the number, of what was read, where it is the rests
+  pub number-read : (r : ℕ → ℤ) (ends constants : ℤ) → ((v : ℕ) → v < variables n → r v ≡ rest_of n b scale parts v)
+      → ends ≡ int_sum_below (λ v. int_min (r v *ℤ by_number n (lows n b) v) (r v *ℤ by_number n (highs n b) v)) (variables n)
+      → constants ≡ constants_of n b parts → ends -ℤ constants ≡ number_of n b record { scale = scale; parts = parts }
+  number-read r ends constants h e c =
+      ap (λ z. z -ℤ constants) e ∙ ap (λ z. int_sum_below (λ v. int_min (r v *ℤ by_number n (lows n b) v) (r v *ℤ by_number n (highs n b) v)) (variables n) -ℤ z) c
+      ∙ ap (λ z. z -ℤ constants_of n b parts) (int_sum_below-same
+      (λ v. int_min (r v *ℤ by_number n (lows n b) v) (r v *ℤ by_number n (highs n b) v))
+      (λ v. int_min (rest_of n b scale parts v *ℤ by_number n (lows n b) v) (rest_of n b scale parts v *ℤ by_number n (highs n b) v)) (variables n)
+      (λ v lt. ap (λ z. int_min (z *ℤ by_number n (lows n b) v) (z *ℤ by_number n (highs n b) v)) (h v lt)))
 
 -- ---- one part more
 module _ (n : Net) (b : Box) (scale : ℕ) (parts : List Part) (k : ℕ) (lt : k < length parts) where
@@ -107,13 +111,12 @@ module _ (n : Net) (b : Box) (scale : ℕ) (parts : List Part) (k : ℕ) (lt : k
       let f : multipliers.Part → ℤ = λ q. q.mult *ℤ constant_at n b q.row in
       int_sum_by_more f (map shown_part parts) k (shown_part no_part) shown_lt ∙ ap (λ z. constants_of n b (take k (map shown_part parts)) +ℤ z) (ap f part_at)
 
-  pub constants-room : weight_of n b record { scale = scale; parts = map shown_part parts } ≤ 2 ^ 126
-      → unsigned_abs (constants_of n b (take k (map shown_part parts))) + unsigned_abs (get_or parts k no_part).mult * unsigned_abs (constant_at n b (get_or parts k no_part).row) ≤ 2 ^ 126
-  constants-room w =
-      let f : multipliers.Part → ℕ = λ q. unsigned_abs q.mult * unsigned_abs (constant_at n b q.row) in
-      omega (
-        arith,
-        constants_size n b scale (take k (map shown_part parts)),
-        sum_by_more_le f (map shown_part parts) k (shown_part no_part) shown_lt,
-        ap f part_at,
-      )
+  pub weight-more : weight_of n b record { scale = scale; parts = take (k + 1) (map shown_part parts) }
+      ≡ weight_of n b record { scale = scale; parts = take k (map shown_part parts) } + part_weight n b (shown_part (get_or parts k no_part))
+  weight-more = omega (
+    arith,
+    weight-parts (by_number n (costs n)) (end_size n b) (coef_at n b) (constant_at n b) (variables n) scale (take k (map shown_part parts)),
+    weight-parts (by_number n (costs n)) (end_size n b) (coef_at n b) (constant_at n b) (variables n) scale (take (k + 1) (map shown_part parts)),
+    sum_by_more (part_weight n b) (map shown_part parts) k (shown_part no_part) shown_lt,
+    ap (part_weight n b) part_at,
+  )

@@ -5,3 +5,4 @@ pub mod Fitting
 pub mod PartSums
 pub mod Views
 pub mod Sizes
+pub mod Passing

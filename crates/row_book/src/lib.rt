@@ -20,6 +20,8 @@ mod network_rows;
 mod ordered;
 mod scratch;
 mod shown;
+mod summing;
+mod sums;
 #[cfg(test)]
 mod tests;
 mod valuation;

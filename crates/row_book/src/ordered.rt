@@ -1,31 +1,25 @@
 //! Whether a proof's row numbers and multipliers are in order.
 
-ghost use Rattle.std.specs.Prelude.{◌≡◌, ◌≢◌, ◌^◌, ◌<◌, ◌≤◌, ◌↔◌, All, length, pos, IsTrue, IfOk, IfErr};
+ghost use Rattle.std.specs.Prelude.{◌≡◌, ◌≢◌, ◌^◌, ◌<◌, ◌≤◌, ◌↔◌, All, length, pos, IsTrue, OnOk, IfErr};
 ghost use Rattle.pool_model.specs.Network.{net_of, IsLimited};
+ghost use Rattle.row_model.specs.Boxes.{Box};
 ghost use Rattle.row_model.specs.Catalogue as catalogue;
 ghost use Rattle.row_model.specs.Multipliers.{IsRising, IsSigned};
-ghost use Rattle.box_space.specs.Views.{shown_proof, shown_box, IsView};
+ghost use Rattle.box_space.specs.Views.{shown_proof, shown_kind};
 ghost use Rattle.row_book.specs.Faults.{IsFirstFault};
-ghost use Rattle.row_book.specs.PartRows.{kind_at};
-ghost use Rattle.row_book.specs.PartSums.{AreInOrder};
 
-use crate::catalogue::{row_at, rows};
+use crate::catalogue::rows;
 use crate::fault::ProofFault;
 use blend_network::Network;
-use box_space::{BoxView, LinRow, Part, Proof, RowKind};
+use box_space::{Part, Proof, RowKind};
 
-/// The first of the faults that a look at the rows' numbers and the multipliers alone shows. `row` is written over.
-pub(crate) fn check_parts(
-    net: &Network,
-    v: &BoxView,
-    proof: &Proof,
-    row: &mut LinRow,
-) -> Result<(), ProofFault>
-    requires { IsView (net_of net.now) v.now }
+/// Order or UnknownRow, in whatever box, where the rows' numbers show one of them.
+pub(crate) fn check_rows(net: &Network, proof: &Proof) -> Result<(), ProofFault>
     ensures limited { IsLimited (net_of net.now) }
-    ensures ok { IfOk result (λ _. AreInOrder (net_of net.now) (shown_box v.now) (shown_proof proof.now)) }
-    ensures few { IfOk result (λ _. length proof.now.parts.items ≤ 2 ^ 14) }
-    ensures fault { IfErr result (IsFirstFault (net_of net.now) (shown_box v.now) (shown_proof proof.now)) }
+    ensures rising { OnOk result (IsRising (shown_proof proof.now).parts) }
+    ensures known { OnOk result (All (λ q. q.row < catalogue.rows (net_of net.now)) (shown_proof proof.now).parts) }
+    ensures few { OnOk result (length proof.now.parts.items ≤ 2 ^ 14) }
+    ensures fault { (b : Box) → IfErr result (IsFirstFault (net_of net.now) b (shown_proof proof.now)) }
 {
     let count = rows(net);
     if !is_rising(proof) {
@@ -33,12 +27,6 @@ pub(crate) fn check_parts(
     }
     if !are_rows(proof, count) {
         return Err(ProofFault::UnknownRow);
-    }
-    if !are_signed(net, v, proof, row) {
-        return Err(ProofFault::Sign);
-    }
-    if !are_nonzero(proof) {
-        return Err(ProofFault::ZeroPart);
     }
     Ok(())
 }
@@ -68,37 +56,18 @@ fn are_rows(proof: &Proof, count: u32) -> bool
     true
 }
 
-/// Whether no multiplier on a row that is at least 0 is below 0.
-fn are_signed(net: &Network, v: &BoxView, proof: &Proof, row: &mut LinRow) -> bool
-    requires view { IsView (net_of net.now) v.now }
-    requires known { All (λ q. q.row < catalogue.rows (net_of net.now)) (shown_proof proof.now).parts }
-    ensures { IsTrue result ↔ All (λ q. IsSigned (kind_at (net_of net.now) (shown_box v.now) q.row) q.mult) (shown_proof proof.now).parts }
+/// Whether a part's multiplier may stand on a row of this kind.
+pub(crate) fn may_stand(part: Part, kind: RowKind) -> bool
+    ensures { IsTrue result ↔ IsSigned (shown_kind kind) part.mult }
 {
-    for part in &proof.parts {
-        if !has_sign(net, v, *part, row) {
-            return false;
-        }
-    }
-    true
-}
-
-/// Whether a multiplier may stand on its row. The row is written only where the multiplier is below 0, for its kind.
-fn has_sign(net: &Network, v: &BoxView, part: Part, row: &mut LinRow) -> bool
-    requires view { IsView (net_of net.now) v.now }
-    requires known { part.row < catalogue.rows (net_of net.now) }
-    ensures { IsTrue result ↔ IsSigned (kind_at (net_of net.now) (shown_box v.now) part.row) part.mult }
-{
-    if part.mult >= 0 {
-        return true;
-    }
-    match row_at(net, v, part.row, row) {
-        RowKind::AtLeast => false,
+    match kind {
+        RowKind::AtLeast => part.mult >= 0,
         RowKind::Equal => true,
     }
 }
 
 /// Whether no multiplier is 0.
-fn are_nonzero(proof: &Proof) -> bool
+pub(crate) fn are_nonzero(proof: &Proof) -> bool
     ensures { IsTrue result ↔ All (λ q. q.mult ≢ pos 0) (shown_proof proof.now).parts }
 {
     for part in &proof.parts {

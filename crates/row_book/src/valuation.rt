@@ -11,17 +11,15 @@ ghost use Rattle.row_book.specs.Fitting.{Fits};
 ghost use Rattle.row_book.specs.Views as views;
 
 use crate::fault::ProofFault;
-use crate::multiplying::number;
-use crate::ordered::check_parts;
+use crate::ordered::check_rows;
 use crate::scratch::Scratch;
 use crate::shown::Shown;
-use crate::weighing::weigh;
+use crate::summing::number;
 use blend_network::Network;
 use box_space::{BoxView, Proof};
 
-/// What the proof shows of the box, or its first fault. It takes no memory. It goes twice over the terms of the proof's rows, for
-/// the weight and for the number, and once over those of each row whose multiplier is below 0, for the row's kind; and it goes
-/// four times over the network's variables.
+/// What the proof shows of the box, or its first fault. It takes no memory. It writes each of the proof's rows once, and goes once
+/// over its terms, for its kind, the weight and the number together; and it goes four times over the network's variables.
 pub fn value(
     net: &Network,
     v: &BoxView,
@@ -57,9 +55,8 @@ fn judged(
     ensures fault { IfErr result (IsFirstFault (net_of net.now) (shown_box v.now) (shown_proof proof.now)) }
     ensures fits { Fits (net_of net.now) scratch.new }
 {
-    check_parts(net, v, proof, &mut scratch.row)?;
-    weigh(net, v, proof, &mut scratch.row)?;
-    let number = number(net, v, proof, scratch);
+    check_rows(net, proof)?;
+    let number = number(net, v, proof, scratch)?;
     shown_by(proof.scale, number)
 }
 

@@ -1,36 +1,23 @@
-//! The weight of a proof.
+//! The weight of a proof, and what its rows take off the rests.
 
-ghost use Rattle.std.specs.Prelude.{◌≡◌, ℕ, ◌+◌, ◌*◌, ◌^◌, ◌<◌, ◌≤◌, All, unsigned_abs, OnOk, OnErr};
+ghost use Rattle.std.specs.Prelude.{◌≡◌, ℕ, ◌+◌, ◌*◌, ◌^◌, ◌<◌, ◌≤◌, All, length, get_or, pos, ◌-ℤ◌, ◌*ℤ◌, unsigned_abs, OnOk, OnErr};
 ghost use Rattle.pool_model.specs.Network.{net_of};
 ghost use Rattle.row_model.specs.Variables.{variables};
-ghost use Rattle.row_model.specs.Catalogue as catalogue;
-ghost use Rattle.box_space.specs.Views.{shown_proof, shown_box, IsView};
-ghost use Rattle.row_book.specs.PartSums.{weight_of};
+ghost use Rattle.box_space.specs.Views.{shown_box, IsView};
 ghost use Rattle.row_book.specs.Sizes as sizes;
 
-use crate::catalogue::row_at;
+use crate::multiplying::less_product;
 use blend_network::Network;
-use box_space::{BoxView, LinRow, Proof, var_cost, var_ends, vars};
+use box_space::{BoxView, LinRow, var_cost, var_ends, vars};
 use exact_num::{Weight, Wide};
 
-/// Wide exactly where the proof's weight passes 2^126. It goes once over the terms of the rows and over the variables.
-pub(crate) fn weigh(net: &Network, v: &BoxView, proof: &Proof, row: &mut LinRow) -> Result<(), Wide>
-    requires view { IsView (net_of net.now) v.now }
-    requires known { All (λ q. q.row < catalogue.rows (net_of net.now)) (shown_proof proof.now).parts }
-    ensures narrow { OnOk result (weight_of (net_of net.now) (shown_box v.now) (shown_proof proof.now) ≤ 2 ^ 126) }
-    ensures wide { OnErr result (2 ^ 126 < weight_of (net_of net.now) (shown_box v.now) (shown_proof proof.now)) }
-{
-    let mut weight = Weight::new();
-    weigh_costs(net, v, proof.scale, &mut weight)?;
-    for part in &proof.parts {
-        row_at(net, v, part.row, row);
-        weigh_row(net, v, part.mult, row, &mut weight)?;
-    }
-    Ok(())
-}
-
 /// Adds the scaled costs, each times the larger end of its variable.
-fn weigh_costs(net: &Network, v: &BoxView, scale: u64, weight: &mut Weight) -> Result<(), Wide>
+pub(crate) fn weigh_costs(
+    net: &Network,
+    v: &BoxView,
+    scale: u64,
+    weight: &mut Weight,
+) -> Result<(), Wide>
     requires view { IsView (net_of net.now) v.now }
     requires narrow { weight.old ≤ 2 ^ 126 }
     ensures added { OnOk result (weight.new ≡ weight.old + sizes.cost_weight (net_of net.now) (shown_box v.now) scale (variables (net_of net.now))) }
@@ -44,26 +31,35 @@ fn weigh_costs(net: &Network, v: &BoxView, scale: u64, weight: &mut Weight) -> R
     Ok(())
 }
 
-/// Adds a multiplied row: its constant, and its coefficients, each times the larger end of its variable.
-fn weigh_row(
+/// Adds a multiplied row to the weight, its constant and each coefficient times the larger end of its variable, and takes it off
+/// the rests. Once the weight would pass the limit, the rests say nothing any more.
+pub(crate) fn add_row(
     net: &Network,
     v: &BoxView,
     mult: i64,
     row: &LinRow,
+    rests: &mut [i128],
     weight: &mut Weight,
 ) -> Result<(), Wide>
     requires view { IsView (net_of net.now) v.now }
+    requires places { length rests.old ≡ variables (net_of net.now) }
     requires known { All (λ t. t.var < variables (net_of net.now)) row.now.terms }
     requires small { All (λ t. unsigned_abs t.coef < 2 ^ 48) row.now.terms }
+    requires room { (i : ℕ) → i < length rests.old
+        → unsigned_abs (get_or rests.old i (pos 0)) + unsigned_abs mult * sizes.size_in row.now.terms i ≤ 2 ^ 126 }
     ensures added { OnOk result (weight.new ≡ weight.old + sizes.line_weight (net_of net.now) (shown_box v.now) mult row.now) }
     ensures narrow { OnOk result (weight.new ≤ 2 ^ 126) }
     ensures wide { OnErr result (2 ^ 126 < weight.old + sizes.line_weight (net_of net.now) (shown_box v.now) mult row.now) }
+    ensures taken { OnOk result ((i : ℕ) → i < length rests.old
+        → get_or rests.new i (pos 0) ≡ get_or rests.old i (pos 0) -ℤ mult *ℤ sizes.coef_in row.now.terms i) }
 {
     weight.add_product(mult.unsigned_abs().into(), row.constant().unsigned_abs())?;
     let terms = row.terms();
     for term in terms {
         let size = multiplied_size(mult, term.coef);
         weight.add_product(size, end_size(net, v, term.var))?;
+        let rest = &mut rests[term.var as usize];
+        *rest = less_product(*rest, mult, term.coef);
     }
     Ok(())
 }
