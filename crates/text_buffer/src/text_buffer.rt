@@ -1,0 +1,56 @@
+//! The sink.
+
+ghost use Rattle.std.specs.Prelude.{◌≡◌, ◌^◌, ◌+◌, ◌<◌, ◌≤◌, [], ◌++◌, Some, length, IsErr, OnErr, IfOk};
+ghost use Rattle.edge_io.specs.Counts.{Grows, Rose};
+
+use arrayvec::ArrayVec;
+use edge_io::{Sink, SinkFailed};
+
+/// How many bytes it holds at the most.
+const ROOM: usize = 16_384;
+
+/// A sink of fixed room. A piece that doesn't fit is a counted fault, and nothing of it is taken.
+#[derive(Drop)]
+pub struct TextBuffer {
+    bytes: ArrayVec<u8, ROOM>,
+    faults: u64,
+}
+
+impl TextBuffer {
+    ghost use Rattle.text_buffer.specs.Buffers.{bytes_of};
+
+    /// A buffer with nothing in it.
+    pub fn new() -> TextBuffer
+        ensures { bytes_of result ≡ [] }
+    {
+        TextBuffer {
+            bytes: ArrayVec::new(),
+            faults: 0,
+        }
+    }
+
+    /// The bytes that it took.
+    pub fn text(&self) -> &[u8]
+        ensures { result.now ≡ bytes_of self.now }
+    {
+        self.bytes.as_slice()
+    }
+}
+
+impl Sink for TextBuffer {
+    ghost use Rattle.text_buffer.specs.Buffers.{bytes_of};
+
+    ghost taken = { λ b. Some (bytes_of b) };
+
+    ghost faults = { λ b. b.faults };
+
+    fn write(&mut self, bytes: &[u8]) -> Result<usize, SinkFailed> {
+        match self.bytes.try_extend_from_slice(bytes) {
+            Ok(()) => Ok(bytes.len()),
+            Err(_) => {
+                self.faults = self.faults.saturating_add(1);
+                Err(SinkFailed)
+            }
+        }
+    }
+}
