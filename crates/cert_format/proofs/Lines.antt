@@ -1,12 +1,12 @@
 -- Lines, piece by piece.
-use Rattle.std.proofs.Common.{◌≡◌, ℕ, ◌<◌, List, [], ◌∷◌, ◌++◌, length, take, get_or, Option, refl, sym, ap, subst, ◌∙◌, append_assoc}
+use Rattle.std.proofs.Common.{◌≡◌, ℕ, ◌<◌, List, [], ◌∷◌, ◌++◌, length, take, drop, get_or, Option, Result, refl, sym, ap, subst, ◌∙◌, append_assoc}
 use Rattle.std.specs.Prelude.{map, decimal, codes}
 use Rattle.std.specs.List.{flat_map}
-use Rattle.std.proofs.lemmas.List.{length-map}
+use Rattle.std.proofs.lemmas.List.{length-map, take-append-drop}
 use Rattle.std.proofs.lemmas.List.Concat.{flat_map-append}
 use Rattle.std.proofs.lemmas.List.Folds.{flat_map-map}
-use Rattle.edge_io.specs.Writing.{behind, TookFront}
-use Rattle.edge_io.proofs.Writes.{front-list}
+use Rattle.edge_io.specs.Writing.{behind, Wrote, TookFront}
+use Rattle.edge_io.proofs.Writes.{front-list, wrote-behind, wrote-same}
 use Rattle.row_model.specs.Multipliers.{Part}
 use Rattle.box_space.specs.Views.{shown_part}
 use Rattle.cert_format.specs.declared.certificate.NodeProof.{NodeProof}
@@ -23,6 +23,26 @@ front-shown f view xs i d old mid new lt e h =
 pub all-shown : {X Y : Type 0} (f : Y → List ℕ) (view : X → Y) (xs : List X) (i : ℕ) (old mid : Option (List ℕ)) → take i xs ≡ xs
     → mid ≡ behind old (flat_map (λ x. f (view x)) (take i xs)) → mid ≡ behind old (flat_map f (map view xs))
 all-shown {X} f view xs i old mid all e = e ∙ ap (λ (ys : List X). behind old (flat_map (λ x. f (view x)) ys)) all ∙ ap (behind old) (sym (flat_map-map f view xs))
+
+-- the pieces of the first items of a list, and those of the others
+pub halves : {X Y : Type 0} (f : Y → List ℕ) (view : X → Y) (xs : List X) (i : ℕ)
+    → flat_map f (map view (take i xs)) ++ flat_map f (map view (drop i xs)) ≡ flat_map f (map view xs)
+halves {X} f view xs i =
+    let piece : X → List ℕ = λ x. f (view x) in
+    ap (λ (w : List ℕ). w ++ flat_map f (map view (drop i xs))) (flat_map-map f view (take i xs))
+    ∙ ap (λ (w : List ℕ). flat_map piece (take i xs) ++ w) (flat_map-map f view (drop i xs))
+    ∙ sym (flat_map-append piece (take i xs) (drop i xs)) ∙ ap (flat_map piece) (take-append-drop i xs) ∙ sym (flat_map-map f view xs)
+
+-- both halves of a list were written
+pub wrote-halves : {X Y R E : Type 0} (r : Result R E) (f : Y → List ℕ) (view : X → Y) (xs ys zs : List X) (i : ℕ) (old mid new : Option (List ℕ))
+    → ys ≡ take i xs → zs ≡ drop i xs → mid ≡ behind old (flat_map f (map view ys)) → Wrote r mid (flat_map f (map view zs)) new
+    → Wrote r old (flat_map f (map view xs)) new
+wrote-halves {X} r f view xs ys zs i old mid new front back e h =
+    let parts : flat_map f (map view ys) ++ flat_map f (map view zs) ≡ flat_map f (map view xs) =
+    ap (λ (w : List X). flat_map f (map view w) ++ flat_map f (map view zs)) front
+    ∙ ap (λ (w : List X). flat_map f (map view (take i xs)) ++ flat_map f (map view w)) back ∙ halves f view xs i in
+    wrote-same r old (flat_map f (map view ys) ++ flat_map f (map view zs)) (flat_map f (map view xs)) new parts
+    (wrote-behind r old (flat_map f (map view ys)) mid (flat_map f (map view zs)) new e h)
 
 -- the pieces of pieces
 pub flat_map-flat_map : {X Y Z : Type 0} (f : Y → List Z) (g : X → List Y) (xs : List X) → flat_map f (flat_map g xs) ≡ flat_map (λ x. flat_map f (g x)) xs

@@ -1,9 +1,9 @@
-ghost use Rattle.std.specs.Prelude.{IfOk};
+ghost use Rattle.std.specs.Prelude.{IfOk, None};
 ghost use Rattle.cert_format.specs.Cert.{IsShaped};
 ghost use Rattle.cert_format.specs.Views.{shown_cert};
 
 use super::*;
-use edge_io::{MemSink, WriteFault};
+use edge_io::{MemSink, Sink, SinkFailed, WriteFault};
 use plan_core::WrittenPlan;
 use std::alloc::{AllocError, Global};
 use std::test::*;
@@ -82,6 +82,100 @@ fn reads_and_writes_again(rt: HostRuntime) {
             Err(_) => assert!(rt; false),
         }
     }
+}
+
+/// A sink that takes at most so many bytes in a call, and counts its calls.
+#[derive(Drop)]
+struct Counting {
+    bytes: Vec<u8>,
+    most: usize,
+    calls: u64,
+    faults: u64,
+}
+
+impl Sink for Counting {
+    ghost taken = { λ _. None };
+
+    ghost faults = { λ s. s.faults };
+
+    fn write(&mut self, bytes: &[u8]) -> Result<usize, SinkFailed> {
+        self.calls = self.calls.saturating_add(1);
+        let part = bytes.len().min(self.most.max(1));
+        if self.bytes.extend_from_slice(&bytes[..part]).is_err() {
+            self.faults = self.faults.saturating_add(1);
+            return Err(SinkFailed);
+        }
+        Ok(part)
+    }
+}
+
+/// A sink of that kind with nothing in it.
+fn sink_of(alloc: Global, most: usize) -> Counting {
+    Counting {
+        bytes: Vec::new(alloc),
+        most,
+        calls: 0,
+        faults: 0,
+    }
+}
+
+#[test]
+fn writes_a_small_certificate_at_once(rt: HostRuntime) -> Result<(), Fail> {
+    let alloc = rt.alloc();
+    let cert = one_direct(alloc)?;
+    let mut sink = sink_of(alloc, usize::MAX);
+    assert_eq!(rt; write_cert(&cert, &mut sink), Ok(()));
+    assert_eq!(rt; sink.bytes.as_slice(), ROW_1);
+    assert_eq!(rt; sink.calls, 1);
+    Ok(())
+}
+
+#[test]
+fn writes_to_a_sink_of_small_bites(rt: HostRuntime) -> Result<(), Fail> {
+    let alloc = rt.alloc();
+    let cert = one_direct(alloc)?;
+    let mut sink = sink_of(alloc, 3);
+    assert_eq!(rt; write_cert(&cert, &mut sink), Ok(()));
+    assert_eq!(rt; sink.bytes.as_slice(), ROW_1);
+    assert_eq!(rt; sink.calls, 54);
+    Ok(())
+}
+
+const SPLITS: u32 = 2_000;
+
+const PARTS: u32 = 6_000;
+
+/// The text of many splits and of a proof of many parts, of 88,971 bytes.
+fn long_text(alloc: Global) -> Result<String, AllocError> {
+    let mut text = String::from_str(
+        alloc,
+        "poolcert 1\nkind none\nshape 0 0 0 0 0 0 0\nsplits 2000\n",
+    )?;
+    for leaf in 0..SPLITS {
+        text.push_str(&format!(in alloc; "split {leaf} 0 1\n")?)?;
+    }
+    text.push_str("proofs 1\nproof 0 1 6000")?;
+    for _ in 0..PARTS {
+        text.push_str(" 7 -100000")?;
+    }
+    text.push_str("\nend\n")?;
+    Ok(text)
+}
+
+#[test]
+fn writes_a_long_certificate_in_few_pieces(rt: HostRuntime) -> Result<(), Fail> {
+    let alloc = rt.alloc();
+    let text = long_text(alloc)?;
+    let cert = read_cert(alloc, text.as_bytes())
+        .ok()
+        .ok_or("no certificate")?;
+    let mut sink = sink_of(alloc, usize::MAX);
+    assert_eq!(rt; write_cert(&cert, &mut sink), Ok(()));
+    assert_eq!(rt; sink.bytes.as_slice(), text.as_bytes());
+    // Three lines, the count of the splits, two halves of them, the count of the proofs, the word of the proof, its
+    // fields, its parts in quarters, the end of its line, and the last line.
+    assert_eq!(rt; sink.calls, 15);
+    Ok(())
 }
 
 /// The faulty line of a text.

@@ -15,6 +15,7 @@ use box_space::{Part, Split};
 use edge_io::{Sink, WriteFault, write_whole};
 use itoa::{Buffer, Integer};
 use plan_core::WrittenPlan;
+use text_buffer::TextBuffer;
 
 /// A number, with one space before it.
 fn write_field<K: Sink, N: Integer>(out: &mut K, n: N) -> Result<(), WriteFault>
@@ -27,8 +28,26 @@ fn write_field<K: Sink, N: Integer>(out: &mut K, n: N) -> Result<(), WriteFault>
     write_whole(out, buffer.format(n).as_bytes())
 }
 
-/// Numbers, with one space before each.
+/// Numbers, with one space before each, handed on as one piece, or by halves where that is too long.
 fn write_fields<K: Sink, N: Integer>(out: &mut K, numbers: &[N]) -> Result<(), WriteFault>
+    ensures wrote { Wrote result (K.taken out.old) (flat_map field (map N.text numbers.now)) (K.taken out.new) }
+    ensures failed { OnErr result (Rose (K.faults out.old) (K.faults out.new)) }
+    ensures faults_grow { Grows (K.faults out.old) (K.faults out.new) }
+{
+    let mut text = TextBuffer::new();
+    if put_fields(&mut text, numbers).is_ok() {
+        return write_whole(out, text.text());
+    }
+    if numbers.len() < 2 {
+        return put_fields(out, numbers);
+    }
+    let (first, second) = numbers.split_at(numbers.len() / 2);
+    write_fields(out, first)?;
+    write_fields(out, second)
+}
+
+/// Numbers, with one space before each, one after another.
+fn put_fields<K: Sink, N: Integer>(out: &mut K, numbers: &[N]) -> Result<(), WriteFault>
     ensures wrote { Wrote result (K.taken out.old) (flat_map field (map N.text numbers.now)) (K.taken out.new) }
     ensures failed { OnErr result (Rose (K.faults out.old) (K.faults out.new)) }
     ensures faults_grow { Grows (K.faults out.old) (K.faults out.new) }
@@ -39,12 +58,25 @@ fn write_fields<K: Sink, N: Integer>(out: &mut K, numbers: &[N]) -> Result<(), W
     Ok(())
 }
 
-/// A line of a word and numbers.
+/// A line of a word and numbers, handed on as one piece.
 fn write_line<K: Sink, N: Integer>(
     out: &mut K,
     word: &[u8],
     numbers: &[N],
 ) -> Result<(), WriteFault>
+    ensures wrote { Wrote result (K.taken out.old) (line word.now (map N.text numbers.now)) (K.taken out.new) }
+    ensures failed { OnErr result (Rose (K.faults out.old) (K.faults out.new)) }
+    ensures faults_grow { Grows (K.faults out.old) (K.faults out.new) }
+{
+    let mut text = TextBuffer::new();
+    match put_line(&mut text, word, numbers) {
+        Ok(()) => write_whole(out, text.text()),
+        Err(_) => put_line(out, word, numbers),
+    }
+}
+
+/// A line of a word and numbers, piece by piece.
+fn put_line<K: Sink, N: Integer>(out: &mut K, word: &[u8], numbers: &[N]) -> Result<(), WriteFault>
     ensures wrote { Wrote result (K.taken out.old) (line word.now (map N.text numbers.now)) (K.taken out.new) }
     ensures failed { OnErr result (Rose (K.faults out.old) (K.faults out.new)) }
     ensures faults_grow { Grows (K.faults out.old) (K.faults out.new) }
@@ -109,11 +141,29 @@ fn write_split<K: Sink>(out: &mut K, split: &Split) -> Result<(), WriteFault>
     ensures faults_grow { Grows (K.faults out.old) (K.faults out.new) }
 {
     let fields = [i64::from(split.leaf), i64::from(split.coord), split.cut];
-    write_line(out, b"split", &fields)
+    put_line(out, b"split", &fields)
 }
 
-/// The lines of splits.
+/// The lines of splits, handed on as one piece, or by halves where that is too long.
 fn write_split_list<K: Sink>(out: &mut K, splits: &[Split]) -> Result<(), WriteFault>
+    ensures wrote { Wrote result (K.taken out.old) (flat_map split_line (map shown_split splits.now)) (K.taken out.new) }
+    ensures failed { OnErr result (Rose (K.faults out.old) (K.faults out.new)) }
+    ensures faults_grow { Grows (K.faults out.old) (K.faults out.new) }
+{
+    let mut text = TextBuffer::new();
+    if put_split_list(&mut text, splits).is_ok() {
+        return write_whole(out, text.text());
+    }
+    if splits.len() < 2 {
+        return put_split_list(out, splits);
+    }
+    let (first, second) = splits.split_at(splits.len() / 2);
+    write_split_list(out, first)?;
+    write_split_list(out, second)
+}
+
+/// The lines of splits, one after another.
+fn put_split_list<K: Sink>(out: &mut K, splits: &[Split]) -> Result<(), WriteFault>
     ensures wrote { Wrote result (K.taken out.old) (flat_map split_line (map shown_split splits.now)) (K.taken out.new) }
     ensures failed { OnErr result (Rose (K.faults out.old) (K.faults out.new)) }
     ensures faults_grow { Grows (K.faults out.old) (K.faults out.new) }
@@ -140,11 +190,29 @@ fn write_part<K: Sink>(out: &mut K, part: &Part) -> Result<(), WriteFault>
     ensures failed { OnErr result (Rose (K.faults out.old) (K.faults out.new)) }
     ensures faults_grow { Grows (K.faults out.old) (K.faults out.new) }
 {
-    write_fields(out, &[i64::from(part.row), part.mult])
+    put_fields(out, &[i64::from(part.row), part.mult])
 }
 
-/// The fields of parts.
+/// The fields of parts, handed on as one piece, or by halves where that is too long.
 fn write_parts<K: Sink>(out: &mut K, parts: &[Part]) -> Result<(), WriteFault>
+    ensures wrote { Wrote result (K.taken out.old) (flat_map field (flat_map part_fields (map shown_part parts.now))) (K.taken out.new) }
+    ensures failed { OnErr result (Rose (K.faults out.old) (K.faults out.new)) }
+    ensures faults_grow { Grows (K.faults out.old) (K.faults out.new) }
+{
+    let mut text = TextBuffer::new();
+    if put_parts(&mut text, parts).is_ok() {
+        return write_whole(out, text.text());
+    }
+    if parts.len() < 2 {
+        return put_parts(out, parts);
+    }
+    let (first, second) = parts.split_at(parts.len() / 2);
+    write_parts(out, first)?;
+    write_parts(out, second)
+}
+
+/// The fields of parts, one after another.
+fn put_parts<K: Sink>(out: &mut K, parts: &[Part]) -> Result<(), WriteFault>
     ensures wrote { Wrote result (K.taken out.old) (flat_map field (flat_map part_fields (map shown_part parts.now))) (K.taken out.new) }
     ensures failed { OnErr result (Rose (K.faults out.old) (K.faults out.new)) }
     ensures faults_grow { Grows (K.faults out.old) (K.faults out.new) }
@@ -171,8 +239,26 @@ fn write_proof<K: Sink>(out: &mut K, proof: &NodeProof) -> Result<(), WriteFault
     write_whole(out, b"\n")
 }
 
-/// The lines of proofs.
+/// The lines of proofs, handed on as one piece, or by halves where that is too long.
 fn write_proof_list<K: Sink>(out: &mut K, proofs: &[NodeProof]) -> Result<(), WriteFault>
+    ensures wrote { Wrote result (K.taken out.old) (flat_map proof_line (map shown_node_proof proofs.now)) (K.taken out.new) }
+    ensures failed { OnErr result (Rose (K.faults out.old) (K.faults out.new)) }
+    ensures faults_grow { Grows (K.faults out.old) (K.faults out.new) }
+{
+    let mut text = TextBuffer::new();
+    if put_proof_list(&mut text, proofs).is_ok() {
+        return write_whole(out, text.text());
+    }
+    if proofs.len() < 2 {
+        return put_proof_list(out, proofs);
+    }
+    let (first, second) = proofs.split_at(proofs.len() / 2);
+    write_proof_list(out, first)?;
+    write_proof_list(out, second)
+}
+
+/// The lines of proofs, one after another.
+fn put_proof_list<K: Sink>(out: &mut K, proofs: &[NodeProof]) -> Result<(), WriteFault>
     ensures wrote { Wrote result (K.taken out.old) (flat_map proof_line (map shown_node_proof proofs.now)) (K.taken out.new) }
     ensures failed { OnErr result (Rose (K.faults out.old) (K.faults out.new)) }
     ensures faults_grow { Grows (K.faults out.old) (K.faults out.new) }
@@ -246,6 +332,19 @@ fn write_rest<K: Sink>(out: &mut K, cert: &Certificate) -> Result<(), WriteFault
 /// `WriteFault` comes only where the sink's count of faults rose; the sink has taken a front of the text then.
 pub fn write_cert<K: Sink>(cert: &Certificate, out: &mut K) -> Result<(), WriteFault>
     requires { IsShaped (shown_cert cert.now) }
+    ensures wrote { Wrote result (K.taken out.old) (text_of (shown_cert cert.now)) (K.taken out.new) }
+    ensures failed { OnErr result (Rose (K.faults out.old) (K.faults out.new)) }
+    ensures faults_grow { Grows (K.faults out.old) (K.faults out.new) }
+{
+    let mut text = TextBuffer::new();
+    match put_cert(cert, &mut text) {
+        Ok(()) => write_whole(out, text.text()),
+        Err(_) => put_cert(cert, out),
+    }
+}
+
+/// The text of a certificate, part by part.
+fn put_cert<K: Sink>(cert: &Certificate, out: &mut K) -> Result<(), WriteFault>
     ensures wrote { Wrote result (K.taken out.old) (text_of (shown_cert cert.now)) (K.taken out.new) }
     ensures failed { OnErr result (Rose (K.faults out.old) (K.faults out.new)) }
     ensures faults_grow { Grows (K.faults out.old) (K.faults out.new) }

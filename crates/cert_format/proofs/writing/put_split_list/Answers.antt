@@ -3,7 +3,7 @@ use Rattle.std.proofs.lemmas.Result.{err_from_is_err_and}
 use Rattle.box_space.specs.Views.{shown_split}
 use Rattle.cert_format.specs.Text.{split_line}
 use Rattle.cert_format.proofs.Lines.{front-shown, all-shown}
-use Rattle.cert_format.proofs.writing.write_split_list.Goals as goal
+use Rattle.cert_format.proofs.writing.put_split_list.Goals as goal
 
 pub returns-in_err-write_split-clause-wrote : goal.returns-in_err-write_split-clause-wrote
 returns-in_err-write_split-clause-wrote g c =

@@ -6,7 +6,7 @@ use Rattle.cert_format.specs.declared.certificate.NodeProof.{NodeProof}
 use Rattle.cert_format.specs.Views.{shown_node_proof}
 use Rattle.cert_format.specs.Text.{proof_line}
 use Rattle.cert_format.proofs.Lines.{front-shown, all-shown}
-use Rattle.cert_format.proofs.writing.write_proof_list.Goals as goal
+use Rattle.cert_format.proofs.writing.put_proof_list.Goals as goal
 
 pub returns-in_err-write_proof-clause-wrote : goal.returns-in_err-write_proof-clause-wrote
 returns-in_err-write_proof-clause-wrote g c =

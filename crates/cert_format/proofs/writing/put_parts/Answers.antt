@@ -5,7 +5,7 @@ use Rattle.edge_io.specs.Writing.{behind, TookFront}
 use Rattle.box_space.specs.Views.{shown_part}
 use Rattle.cert_format.specs.Text.{field, part_fields}
 use Rattle.cert_format.proofs.Lines.{part_text, front-shown, all-shown, flat_map-flat_map}
-use Rattle.cert_format.proofs.writing.write_parts.Goals as goal
+use Rattle.cert_format.proofs.writing.put_parts.Goals as goal
 
 pub returns-in_err-write_part-clause-wrote : goal.returns-in_err-write_part-clause-wrote
 returns-in_err-write_part-clause-wrote g c =

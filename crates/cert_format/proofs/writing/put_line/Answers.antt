@@ -3,7 +3,7 @@ use Rattle.std.specs.List.{flat_map}
 use Rattle.std.proofs.lemmas.Result.{err_from_is_err_and}
 use Rattle.edge_io.proofs.Writes.{front-first, front-second, wrote-three}
 use Rattle.cert_format.specs.Text.{field}
-use Rattle.cert_format.proofs.writing.write_line.Goals as goal
+use Rattle.cert_format.proofs.writing.put_line.Goals as goal
 
 pub returns-in_err-write_whole-clause-wrote : goal.returns-in_err-write_whole-clause-wrote
 returns-in_err-write_whole-clause-wrote g c =

@@ -4,7 +4,7 @@ use Rattle.edge_io.specs.Counts.{Grows}
 use Rattle.edge_io.specs.Writing.{behind}
 use Rattle.cert_format.specs.Views.{shown_node_proof}
 use Rattle.cert_format.specs.Text.{proof_line}
-use Rattle.cert_format.proofs.writing.write_proof_list.Given as goal
+use Rattle.cert_format.proofs.writing.put_proof_list.Given as goal
 
 abbrev pub invariant-loop-proof : goal.invariant-loop-proof
 invariant-loop-proof g l =

@@ -3,7 +3,7 @@ use Rattle.std.specs.List.{flat_map}
 use Rattle.edge_io.specs.Counts.{Grows}
 use Rattle.edge_io.specs.Writing.{behind}
 use Rattle.cert_format.specs.Text.{field}
-use Rattle.cert_format.proofs.writing.write_fields.Given as goal
+use Rattle.cert_format.proofs.writing.put_fields.Given as goal
 
 abbrev pub invariant-loop-n : goal.invariant-loop-n
 invariant-loop-n g l =

@@ -4,7 +4,7 @@ use Rattle.edge_io.specs.Counts.{Grows}
 use Rattle.edge_io.specs.Writing.{behind}
 use Rattle.box_space.specs.Views.{shown_part}
 use Rattle.cert_format.proofs.Lines.{part_text}
-use Rattle.cert_format.proofs.writing.write_parts.Given as goal
+use Rattle.cert_format.proofs.writing.put_parts.Given as goal
 
 abbrev pub invariant-loop-part : goal.invariant-loop-part
 invariant-loop-part g l =

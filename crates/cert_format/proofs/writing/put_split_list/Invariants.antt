@@ -4,7 +4,7 @@ use Rattle.edge_io.specs.Counts.{Grows}
 use Rattle.edge_io.specs.Writing.{behind}
 use Rattle.box_space.specs.Views.{shown_split}
 use Rattle.cert_format.specs.Text.{split_line}
-use Rattle.cert_format.proofs.writing.write_split_list.Given as goal
+use Rattle.cert_format.proofs.writing.put_split_list.Given as goal
 
 abbrev pub invariant-loop-split : goal.invariant-loop-split
 invariant-loop-split g l =

@@ -3,7 +3,7 @@ use Rattle.std.proofs.lemmas.Result.{err_from_is_err_and}
 use Rattle.edge_io.proofs.Writes.{front-first, front-second, wrote-three}
 use Rattle.cert_format.specs.Views.{shown_claim, shown_cert}
 use Rattle.cert_format.specs.Text.{head_lines, claimed_plan_lines, rest_lines}
-use Rattle.cert_format.proofs.writing.write_cert.Goals as goal
+use Rattle.cert_format.proofs.writing.put_cert.Goals as goal
 
 pub returns-in_err-write_head-clause-wrote : goal.returns-in_err-write_head-clause-wrote
 returns-in_err-write_head-clause-wrote g c =

@@ -4,7 +4,7 @@ use Rattle.std.proofs.lemmas.Result.{err_from_is_err_and}
 use Rattle.edge_io.specs.Writing.{TookFront}
 use Rattle.cert_format.specs.Text.{field}
 use Rattle.cert_format.proofs.Lines.{front-shown, all-shown}
-use Rattle.cert_format.proofs.writing.write_fields.Goals as goal
+use Rattle.cert_format.proofs.writing.put_fields.Goals as goal
 
 pub returns-in_err-write_field-clause-wrote : goal.returns-in_err-write_field-clause-wrote
 returns-in_err-write_field-clause-wrote g c =
