@@ -1,7 +1,7 @@
 -- What an outcome tells of the files, and what the files tell of the outcome.
-use Rattle.std.proofs.Common.{◌≡◌, ◌≢◌, ℕ, ◌<◌, ◌≤◌, inl, inr, List, length, Bool, true, false, Option, Some, Err, refl, sym, ap, subst, arith}
+use Rattle.std.proofs.Common.{◌≡◌, ℕ, inl, inr, List, length, Bool, true, false, Option, Some, refl, sym, ap, subst, arith}
 use Rattle.edge_io.specs.Files.{file_of}
-use Rattle.pool_model.specs.Network.{Network, Net, net_of}
+use Rattle.pool_model.specs.Network.{Network, net_of}
 use Rattle.cert_format.specs.Cert.{Cert}
 use Rattle.cert_format.specs.Valid.{IsValid}
 use Rattle.cert_checker.specs.Answers.{Spells}

@@ -1,7 +1,7 @@
 -- How a run ends, by what its words ask.
 use Rattle.std.specs.Prelude.{◌≡◌, ℕ, ◌^◌, pos, List, Option, None}
 use Rattle.box_space.specs.declared.coordinates.Form.TheVariants.{Pq}
-use Rattle.cli_words.specs.Requests.{Asked, Solving, solve, check, report, formulate, make, trial}
+use Rattle.cli_words.specs.Requests.{Asked, Solving, solve, check}
 use Rattle.cli_words.specs.declared.request.RuleName.TheVariants.{Widest}
 use Rattle.pool_cli.specs.Reads.{Files}
 use Rattle.pool_cli.specs.SolveEnds.{SolveDecided, SolveEnds, SolvesAs}

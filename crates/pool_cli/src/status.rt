@@ -11,6 +11,7 @@ use blend_network::NetFault;
 use cert_checker::Refusal;
 use edge_io::{Sink, WriteFault, write_number, write_whole};
 use network_json::ReadNet;
+use text_buffer::TextBuffer;
 
 /// How a run ended.
 #[derive(Debug, Drop)]
@@ -59,10 +60,22 @@ impl Status {
     }
 }
 
-/// Writes the status's line for standard error, or nothing where a certificate was printed. It takes no memory.
+/// Writes the status's line for standard error, as one piece, or nothing where a certificate was printed. It takes no memory.
 ///
 /// `WriteFault` comes only where the sink's count of faults rose; the sink has taken a front of the line then.
 pub fn write_message<K: Sink>(status: &Status, err: &mut K) -> Result<(), WriteFault>
+    ensures wrote { Wrote result (K.taken err.old) (message_of status.now) (K.taken err.new) }
+    ensures failed { OnErr result (Rose (K.faults err.old) (K.faults err.new)) }
+{
+    let mut line = TextBuffer::new();
+    match put_message(status, &mut line) {
+        Ok(()) => write_whole(err, line.text()),
+        Err(_) => put_message(status, err),
+    }
+}
+
+/// Writes the status's line, word by word.
+fn put_message<K: Sink>(status: &Status, err: &mut K) -> Result<(), WriteFault>
     ensures wrote { Wrote result (K.taken err.old) (message_of status.now) (K.taken err.new) }
     ensures failed { OnErr result (Rose (K.faults err.old) (K.faults err.new)) }
 {

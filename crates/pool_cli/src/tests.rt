@@ -136,7 +136,8 @@ fn solved(
 fn prints_the_cheapest_start(rt: HostRuntime) -> Result<(), Fail> {
     let alloc = rt.alloc();
     for (file, code, certificate) in SOLVED {
-        let mut sink = MemSink::new(alloc, Vec::new(alloc));
+        // A second write would fail.
+        let mut sink = MemSink::new(alloc, [1].to_vec(alloc)?);
         let status = solved(alloc, file, 1, &mut sink)?;
         assert_eq!(rt; status.code(), code);
         assert_eq!(rt; sink.taken(), certificate.as_bytes());
@@ -152,7 +153,8 @@ fn writes_one_line_for_a_refusal(rt: HostRuntime) -> Result<(), Fail> {
         let status = solved(alloc, file, 1, &mut sink)?;
         assert_eq!(rt; status.code(), code);
         assert_eq!(rt; sink.taken(), b"".as_slice());
-        let mut err = MemSink::new(alloc, Vec::new(alloc));
+        // A second write would fail.
+        let mut err = MemSink::new(alloc, [1].to_vec(alloc)?);
         assert!(rt; write_message(&status, &mut err).is_ok());
         assert_eq!(rt; err.taken(), message.as_bytes());
     }

@@ -12,9 +12,23 @@ use cert_checker::{Refusal, Verdict};
 use edge_io::{Sink, WriteFault, write_number, write_whole};
 use plan_core::PlanFault;
 use row_book::ProofFault;
+use text_buffer::TextBuffer;
 
-/// Writes the line of an accepted certificate.
+/// Writes the line of an accepted certificate, as one piece. It takes no memory.
 pub(crate) fn write_verdict<K: Sink>(verdict: &Verdict, out: &mut K) -> Result<(), WriteFault>
+    ensures wrote { Wrote result (K.taken out.old) (accepted_line verdict.now) (K.taken out.new) }
+    ensures failed { OnErr result (Rose (K.faults out.old) (K.faults out.new)) }
+    ensures faults_grow { Grows (K.faults out.old) (K.faults out.new) }
+{
+    let mut line = TextBuffer::new();
+    match put_verdict(verdict, &mut line) {
+        Ok(()) => write_whole(out, line.text()),
+        Err(_) => put_verdict(verdict, out),
+    }
+}
+
+/// Writes the line of an accepted certificate, word by word.
+fn put_verdict<K: Sink>(verdict: &Verdict, out: &mut K) -> Result<(), WriteFault>
     ensures wrote { Wrote result (K.taken out.old) (accepted_line verdict.now) (K.taken out.new) }
     ensures failed { OnErr result (Rose (K.faults out.old) (K.faults out.new)) }
     ensures faults_grow { Grows (K.faults out.old) (K.faults out.new) }
@@ -49,8 +63,21 @@ fn write_gap<K: Sink>(
     write_numbered(b" gap ", gap, out)
 }
 
-/// Writes the line of a refused certificate.
+/// Writes the line of a refused certificate, as one piece. It takes no memory.
 pub(crate) fn write_refused<K: Sink>(refusal: &Refusal, out: &mut K) -> Result<(), WriteFault>
+    ensures wrote { Wrote result (K.taken out.old) (refused_line refusal.now) (K.taken out.new) }
+    ensures failed { OnErr result (Rose (K.faults out.old) (K.faults out.new)) }
+    ensures faults_grow { Grows (K.faults out.old) (K.faults out.new) }
+{
+    let mut line = TextBuffer::new();
+    match put_refused(refusal, &mut line) {
+        Ok(()) => write_whole(out, line.text()),
+        Err(_) => put_refused(refusal, out),
+    }
+}
+
+/// Writes the line of a refused certificate, word by word.
+fn put_refused<K: Sink>(refusal: &Refusal, out: &mut K) -> Result<(), WriteFault>
     ensures wrote { Wrote result (K.taken out.old) (refused_line refusal.now) (K.taken out.new) }
     ensures failed { OnErr result (Rose (K.faults out.old) (K.faults out.new)) }
     ensures faults_grow { Grows (K.faults out.old) (K.faults out.new) }

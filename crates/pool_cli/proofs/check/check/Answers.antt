@@ -1,4 +1,4 @@
-use Rattle.std.proofs.Common.{ℕ, List, Option, subst, sym}
+use Rattle.std.proofs.Common.{Option, subst, sym}
 use Rattle.pool_cli.specs.Reads.{Files, ReadsUnder}
 use Rattle.pool_cli.specs.CheckEnds.{CheckEnds, check_status}
 use Rattle.pool_cli.proofs.check.check.Goals as goal

@@ -1,4 +1,4 @@
-use Rattle.std.proofs.Common.{◌≡◌, ◌∙◌, map, string_bytes, ap, ap₂, sym, subst}
+use Rattle.std.proofs.Common.{◌∙◌, map, string_bytes, ap, ap₂, sym, subst}
 use Rattle.cli_words.specs.Asks.{Asks}
 use Rattle.cli_words.specs.Requests.{solve, check}
 use Rattle.pool_cli.specs.Ends.{plain_solving}

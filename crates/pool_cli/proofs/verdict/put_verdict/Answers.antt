@@ -1,7 +1,7 @@
 use Rattle.std.proofs.Common.{FitsSigned, rules}
 use Rattle.std.specs.Int.{w128}
 use Rattle.std.proofs.lemmas.Int.{to_z-of_z}
-use Rattle.pool_cli.proofs.verdict.write_verdict.Goals as goal
+use Rattle.pool_cli.proofs.verdict.put_verdict.Goals as goal
 
 pub returns-in-BoundOnly-clause-wrote : goal.returns-in-BoundOnly-clause-wrote
 returns-in-BoundOnly-clause-wrote g c =

@@ -1,4 +1,4 @@
-use Rattle.pool_cli.proofs.verdict.write_refused.Goals as goal
+use Rattle.pool_cli.proofs.verdict.put_refused.Goals as goal
 
 pub returns-in-Plan-clause-wrote : goal.returns-in-Plan-clause-wrote
 returns-in-Plan-clause-wrote g c = rw c.in-Plan.is (rw c.rule.ensures at c.write_placed-in-Plan.ensures.wrote)
