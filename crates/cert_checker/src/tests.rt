@@ -54,7 +54,7 @@ fn proofs_on_a_chain(alloc: Global) -> Result<String, AllocError> {
         alloc,
         "poolcert 1\nkind bound\nshape 2 1 1 1 2 1 0\nsplits 600\n",
     )?;
-    for t in 0..600 {
+    for t in 0..600_u32 {
         text.push_str(format!(in alloc; "split {} 3 {}\n", 2 * t, t + 1)?.as_str())?;
     }
     text.push_str("proofs 1201\n")?;
