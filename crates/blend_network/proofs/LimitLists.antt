@@ -10,8 +10,8 @@ use Rattle.pool_model.specs.Limits as limits
 use Rattle.pool_model.specs.Limits.{product_limits, no_limit}
 use Rattle.pool_model.proofs.Limits.{product_limits-some, product_limits-none, limits-more, length-limits, limits-set}
 use Rattle.network_parts.specs.Faults.{no_product_row}
-use Rattle.blend_network.specs.Limits.{limit_of, side_limits, shown_limit, limits_in, product_limit, AreLimitsOf}
-use Rattle.blend_network.specs.Views.{shown_product}
+use Rattle.blend_network.specs.Limits.{limit_of, side_limits, limits_in, product_limit, AreLimitsOf}
+use Rattle.blend_network.specs.Views.{shown_limit, shown_product}
 use Rattle.blend_network.specs.declared.limits.LimitSide.{LimitSide}
 use Rattle.blend_network.specs.declared.limits.LimitSide.TheVariants.{Most, Least}
 use Rattle.blend_network.specs.declared.limits.Limit.{Limit}

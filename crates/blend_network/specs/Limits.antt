@@ -7,6 +7,7 @@ use Rattle.blend_network.specs.declared.limits.LimitSide.{LimitSide}
 use Rattle.blend_network.specs.declared.limits.LimitSide.TheVariants.{Most, Least}
 use Rattle.blend_network.specs.declared.limits.Limit.{Limit}
 use Rattle.blend_network.specs.declared.network.limits.Limits.{Limits}
+use Rattle.blend_network.specs.Views.{shown_limit}
 
 -- the limit of a product on a quality
 abbrev pub limit_of : Net → LimitSide → ℕ → ℕ → Option ℤ
@@ -16,9 +17,6 @@ limit_of n Least j k = n.least j k
 -- all that are set, by product and then by quality
 abbrev pub side_limits : Net → LimitSide → List limits.Limit
 side_limits n side = limits.limits (limit_of n side) n.products n.qualities
-
-abbrev pub shown_limit : Limit → limits.Limit
-shown_limit u = record { product = u.product; quality = u.quality; limit = u.limit }
 
 -- a product's limits of a kind, by quality
 abbrev pub limits_in : model.Product → LimitSide → List (Option ℤ)

@@ -1,6 +1,8 @@
 -- The fields of a network as the model sees them.
 use Rattle.std.specs.Prelude.{string_bytes}
 use Rattle.pool_model.specs.Network as model
+use Rattle.pool_model.specs.Limits as limits
+use Rattle.blend_network.specs.declared.limits.Limit.{Limit}
 use Rattle.blend_network.specs.declared.network.Source.{Source}
 use Rattle.blend_network.specs.declared.network.Pool.{Pool}
 use Rattle.blend_network.specs.declared.network.Product.{Product}
@@ -13,3 +15,6 @@ shown_pool p = record { name = string_bytes p.name; max = p.max }
 
 abbrev pub shown_product : Product → model.Product
 shown_product p = record { name = string_bytes p.name; price = p.price; min = p.min; max = p.max; least = p.least.items; most = p.most.items }
+
+abbrev pub shown_limit : Limit → limits.Limit
+shown_limit u = record { product = u.product; quality = u.quality; limit = u.limit }

@@ -1,13 +1,13 @@
 -- The answers of a call, carried from one form of a fraction to another.
 use Rattle.std.proofs.Common.{◌≡◌, ◌<◌, Result, Ok, Err, IfOk, IfErr, OnOk, refl, subst, sym}
 use Rattle.exact_num.specs.Fraction.{Fraction, IsSame, IsInRange, LeavesRange}
-use Rattle.exact_num.specs.Shown.{fraction_of}
+use Rattle.exact_num.specs.Views.{shown_frac}
 use Rattle.exact_num.specs.declared.frac.Frac.{Frac}
 use Rattle.exact_num.specs.declared.frac.FracFault.{FracFault}
 use Rattle.exact_num.specs.declared.frac.FracFault.TheVariants as faults
 use Rattle.exact_num.proofs.Laws.{IsSame-trans, LeavesRange-same}
 
-pub given_as : (r : Result Frac FracFault) (x z : Fraction) → IsSame x z → IfOk r (λ f. fraction_of f ≡ x) → IfOk r (λ f. IsSame (fraction_of f) z)
+pub given_as : (r : Result Frac FracFault) (x z : Fraction) → IsSame x z → IfOk r (λ f. shown_frac f ≡ x) → IfOk r (λ f. IsSame (shown_frac f) z)
 given_as (Ok f) x z s h = subst (λ y. IsSame y z) (sym h) s
 given_as (Err e) x z s h = h
 
@@ -15,8 +15,8 @@ pub refused_as : (r : Result Frac FracFault) (x z : Fraction) → 0 < z.den → 
 refused_as (Ok f) x z p s h = h
 refused_as (Err e) x z p s h = (h.0, LeavesRange-same x z p s h.1)
 
-pub same_as : (r : Result Frac FracFault) (x z : Fraction) → 0 < x.den → IsSame x z → IfOk r (λ f. IsSame (fraction_of f) x) → IfOk r (λ f. IsSame (fraction_of f) z)
-same_as (Ok f) x z p s h = IsSame-trans (fraction_of f) x z p h s
+pub same_as : (r : Result Frac FracFault) (x z : Fraction) → 0 < x.den → IsSame x z → IfOk r (λ f. IsSame (shown_frac f) x) → IfOk r (λ f. IsSame (shown_frac f) z)
+same_as (Ok f) x z p s h = IsSame-trans (shown_frac f) x z p h s
 same_as (Err e) x z p s h = h
 
 -- what is in the range is not refused

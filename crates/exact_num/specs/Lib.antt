@@ -1,3 +1,3 @@
 pub mod Fraction
-pub mod Shown
 pub mod Signed
+pub mod Views

@@ -35,33 +35,33 @@ const MOST: u128 = i128::MAX as u128;
 impl Frac {
     ghost use Rattle.std.specs.Ordering.{int_cmp};
     ghost use Rattle.exact_num.specs.Fraction.{order_of};
-    ghost use Rattle.exact_num.specs.Shown.{fraction_of};
+    ghost use Rattle.exact_num.specs.Views.{shown_frac};
 
     /// The numerator in lowest terms.
     pub fn num(self) -> i128
-        ensures { result ≡ (fraction_of self).num }
+        ensures { result ≡ (shown_frac self).num }
     {
         self.num
     }
 
     /// The denominator in lowest terms.
     pub fn den(self) -> i128
-        ensures { result ≡ pos (fraction_of self).den }
+        ensures { result ≡ pos (shown_frac self).den }
     {
         self.den as i128
     }
 
     /// The order of the two fractions.
     pub fn compare(self, other: Frac) -> Ordering
-        ensures { result ≡ order_of (fraction_of self) (fraction_of other) }
+        ensures { result ≡ order_of (shown_frac self) (shown_frac other) }
     {
         compare_ratio(self.num, self.den as i128, other.num, other.den as i128)
     }
 
     /// The greatest whole number that is not above the fraction.
     pub fn floor(self) -> i128
-        ensures not_above { (result *ℤ pos (fraction_of self).den) ≤ℤ (fraction_of self).num }
-        ensures greatest { (fraction_of self).num <ℤ ((result +ℤ pos 1) *ℤ pos (fraction_of self).den) }
+        ensures not_above { (result *ℤ pos (shown_frac self).den) ≤ℤ (shown_frac self).num }
+        ensures greatest { (shown_frac self).num <ℤ ((result +ℤ pos 1) *ℤ pos (shown_frac self).den) }
     {
         self.num.div_euclid(self.den as i128)
     }

@@ -5,7 +5,7 @@ ghost use Rattle.pool_model.specs.Network.{Net, net_of};
 ghost use Rattle.pool_model.specs.Limits.{most_limits, least_limits};
 ghost use Rattle.row_model.specs.Boxes.{Box};
 ghost use Rattle.row_model.specs.Catalogue.{p_families, row_in, mixing_row, mixed_most_row, mixed_least_row};
-ghost use Rattle.blend_network.specs.Limits.{shown_limit};
+ghost use Rattle.blend_network.specs.Views.{shown_limit};
 ghost use Rattle.box_space.specs.Tables.{row_of, IsTable};
 
 use blend_network::{Key, Limit, LimitSide, Network};

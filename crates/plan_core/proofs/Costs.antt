@@ -86,3 +86,6 @@ difference_is n w outflows inflows spent earned out in_ e f h k =
   where
     narrow : (a b : ℤ) → unsigned_abs a ≤ 2 ^ 122 → unsigned_abs b ≤ 2 ^ 122 → to_z w128 (of_z w128 (to_z w128 (of_z w128 a) -ℤ to_z w128 (of_z w128 b))) ≡ a -ℤ b
     narrow a b h k = omega (arith, ints)
+
+pub difference_small : (a b : ℤ) → unsigned_abs a ≤ 2 ^ 122 → unsigned_abs b ≤ 2 ^ 122 → unsigned_abs (to_z w128 (of_z w128 (to_z w128 (of_z w128 a) -ℤ to_z w128 (of_z w128 b)))) ≤ 2 ^ 123
+difference_small a b h k = omega (arith, ints)

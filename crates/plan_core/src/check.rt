@@ -24,6 +24,7 @@ const MAX_FLOW_BASE: u32 = 65_536;
 /// What the plan costs, or the first rule that it breaks. It goes over the arcs once for each quality, and takes no memory.
 pub fn check_plan(net: &Network, plan: &WrittenPlan) -> Result<Cost, PlanFault>
     ensures ok { IfOk result (IsCostOf (net_of net.now) (shown_plan plan.now)) }
+    ensures size { IfOk result (λ cost. unsigned_abs cost.num ≤ 2 ^ 123) }
     ensures fault { IfErr result (IsFirstFault (net_of net.now) (shown_plan plan.now)) }
 {
     check_shape(net, plan)?;

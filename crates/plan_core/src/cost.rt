@@ -36,6 +36,7 @@ pub(crate) fn cost(
     requires room { HasRoom (net_of net.now) (shown_plan plan.now) }
     ensures num { result.num ≡ cost_of (net_of net.now) (plan_of (net_of net.now) (shown_plan plan.now)) }
     ensures base { result.base ≡ plan.now.flow_base * plan.now.base }
+    ensures size { unsigned_abs result.num ≤ 2 ^ 123 }
 {
     Cost {
         num: purchases(net, outflows) - revenue(net, inflows),

@@ -1,6 +1,6 @@
 //! The rules that a written plan may break.
 
-ghost use Rattle.std.specs.Prelude.{◌∷◌};
+ghost use Rattle.std.specs.Prelude.{◌≡◌, ◌∷◌};
 ghost use Rattle.plan_core.specs.Checks.{number, about};
 
 use faults::Ranked;
@@ -28,4 +28,22 @@ pub enum PlanFault {
 
 impl Ranked for PlanFault {
     ghost rank = { λ f. number f ∷ about f };
+}
+
+impl PlanFault {
+    /// The number of the rule, as messages tell it: 1 for the first.
+    pub fn number(&self) -> u32
+        ensures { result ≡ number self.now }
+    {
+        match self {
+            PlanFault::Shape => 1,
+            PlanFault::WeightSum(_) => 2,
+            PlanFault::SourceOver(_) => 3,
+            PlanFault::PoolOver(_) => 4,
+            PlanFault::ProductOver(_) => 5,
+            PlanFault::ProductUnder(_) => 6,
+            PlanFault::QualityOver(_, _) => 7,
+            PlanFault::QualityUnder(_, _) => 8,
+        }
+    }
 }

@@ -29,3 +29,21 @@ impl From<PassesLimit> for ProofFault {
         ProofFault::Wide
     }
 }
+
+impl ProofFault {
+    ghost use Rattle.row_book.specs.Faults.{number};
+
+    /// The number of the cause, as messages tell it: 1 for the first.
+    pub fn number(&self) -> u32
+        ensures { result ≡ number self.now }
+    {
+        match self {
+            ProofFault::Order => 1,
+            ProofFault::UnknownRow => 2,
+            ProofFault::Sign => 3,
+            ProofFault::ZeroPart => 4,
+            ProofFault::Wide => 5,
+            ProofFault::ShowsNothing => 6,
+        }
+    }
+}

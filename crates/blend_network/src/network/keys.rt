@@ -5,7 +5,8 @@ ghost use Rattle.integers.specs.Numbers.{numbers_at};
 ghost use Rattle.pool_model.specs.Network.{net_of};
 ghost use Rattle.pool_model.specs.Limits.{no_limit};
 ghost use Rattle.blend_network.specs.Keys.{key_of, nodes_of, count_of, key_number};
-ghost use Rattle.blend_network.specs.Limits.{side_limits, shown_limit};
+ghost use Rattle.blend_network.specs.Limits.{side_limits};
+ghost use Rattle.blend_network.specs.Views.{shown_limit};
 
 use super::Network;
 use crate::keys::Key;

@@ -2,8 +2,8 @@
 
 ghost use Rattle.std.specs.Prelude.{◌≡◌, ◌≤◌, ◌++◌, ℕ, None, map, length, get_or, IfOk, All};
 ghost use Rattle.pool_model.specs.Limits as model;
-ghost use Rattle.blend_network.specs.Limits.{shown_limit, limits_in, product_limit, kept_limits};
-ghost use Rattle.blend_network.specs.Views.{shown_product};
+ghost use Rattle.blend_network.specs.Limits.{limits_in, product_limit, kept_limits};
+ghost use Rattle.blend_network.specs.Views.{shown_limit, shown_product};
 
 use super::Product;
 use crate::limits::{Limit, LimitSide};

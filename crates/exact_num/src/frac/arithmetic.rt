@@ -5,7 +5,7 @@ ghost use Rattle.std.specs.Int.{IsGcd};
 ghost use Rattle.integers.specs.Divisors.{IsCoprime};
 ghost use Rattle.exact_num.specs.Fraction.{IsSame, IsShort, IsShortSum, LeavesRange, sum_of, negative_of, difference_of, product_of, inverse_of, quotient_of};
 ghost use Rattle.exact_num.specs.Signed.{signed, signed_fraction};
-ghost use Rattle.exact_num.specs.Shown.{fraction_of};
+ghost use Rattle.exact_num.specs.Views.{shown_frac};
 ghost use Rattle.exact_num.specs.declared.frac.FracFault.TheVariants as faults;
 
 use super::making::{divided, pack};
@@ -16,9 +16,9 @@ impl Frac {
     /// The sum in lowest terms. With `g` the greatest common divisor of the denominators `b` and `d`, the sum of `a / b` and
     /// `c / d` is Wide exactly where `a * (d / g)`, `c * (b / g)`, `b * (d / g)` or the sum of the first two leaves the range.
     pub fn add(self, other: Frac) -> Result<Frac, FracFault>
-        ensures sum { IfOk result (λ f. IsSame (fraction_of f) (sum_of (fraction_of self) (fraction_of other))) }
-        ensures short { OnOk result (IsShortSum (fraction_of self) (fraction_of other)) }
-        ensures wide { IfErr result (λ fault. (fault ≡ FracFault.Wide) × ¬ IsShortSum (fraction_of self) (fraction_of other)) }
+        ensures sum { IfOk result (λ f. IsSame (shown_frac f) (sum_of (shown_frac self) (shown_frac other))) }
+        ensures short { OnOk result (IsShortSum (shown_frac self) (shown_frac other)) }
+        ensures wide { IfErr result (λ fault. (fault ≡ FracFault.Wide) × ¬ IsShortSum (shown_frac self) (shown_frac other)) }
     {
         let common = gcd(self.den, other.den);
         let (left_factor, right_factor) = (other.den / common, self.den / common);
@@ -33,9 +33,9 @@ impl Frac {
     /// The difference in lowest terms. It is Wide exactly where the sum with the negative of `other` is: where one of the three
     /// products, which have the same sizes, or the difference of the first two leaves the range.
     pub fn sub(self, other: Frac) -> Result<Frac, FracFault>
-        ensures difference { IfOk result (λ f. IsSame (fraction_of f) (difference_of (fraction_of self) (fraction_of other))) }
-        ensures short { OnOk result (IsShortSum (fraction_of self) (negative_of (fraction_of other))) }
-        ensures wide { IfErr result (λ fault. (fault ≡ FracFault.Wide) × ¬ IsShortSum (fraction_of self) (negative_of (fraction_of other))) }
+        ensures difference { IfOk result (λ f. IsSame (shown_frac f) (difference_of (shown_frac self) (shown_frac other))) }
+        ensures short { OnOk result (IsShortSum (shown_frac self) (negative_of (shown_frac other))) }
+        ensures wide { IfErr result (λ fault. (fault ≡ FracFault.Wide) × ¬ IsShortSum (shown_frac self) (negative_of (shown_frac other))) }
     {
         self.add(other.negated())
     }
@@ -43,8 +43,8 @@ impl Frac {
     /// The product in lowest terms. Each is freed first of what divides the other's denominator, so a product that fits in
     /// lowest terms is never refused: Wide exactly where it leaves the range in lowest terms.
     pub fn mul(self, other: Frac) -> Result<Frac, FracFault>
-        ensures product { IfOk result (λ f. IsSame (fraction_of f) (product_of (fraction_of self) (fraction_of other))) }
-        ensures wide { IfErr result (λ fault. (fault ≡ FracFault.Wide) × LeavesRange (product_of (fraction_of self) (fraction_of other))) }
+        ensures product { IfOk result (λ f. IsSame (shown_frac f) (product_of (shown_frac self) (shown_frac other))) }
+        ensures wide { IfErr result (λ fault. (fault ≡ FracFault.Wide) × LeavesRange (product_of (shown_frac self) (shown_frac other))) }
     {
         let negative = is_product_negative(self.num, other.num);
         let (left, right) = (self.num.unsigned_abs(), other.num.unsigned_abs());
@@ -58,9 +58,9 @@ impl Frac {
     /// The quotient in lowest terms. It is ZeroDivisor exactly where `other` is 0, and Wide exactly where the quotient in
     /// lowest terms leaves the range.
     pub fn div(self, other: Frac) -> Result<Frac, FracFault>
-        ensures quotient { IfOk result (λ f. IsSame (fraction_of f) (quotient_of (fraction_of self) (fraction_of other))) }
-        ensures zero_divisor { IsErrOf result FracFault.ZeroDivisor ↔ ((fraction_of other).num ≡ pos 0) }
-        ensures wide { IsErrOf result FracFault.Wide → LeavesRange (quotient_of (fraction_of self) (fraction_of other)) }
+        ensures quotient { IfOk result (λ f. IsSame (shown_frac f) (quotient_of (shown_frac self) (shown_frac other))) }
+        ensures zero_divisor { IsErrOf result FracFault.ZeroDivisor ↔ ((shown_frac other).num ≡ pos 0) }
+        ensures wide { IsErrOf result FracFault.Wide → LeavesRange (quotient_of (shown_frac self) (shown_frac other)) }
     {
         if other.num == 0 {
             return Err(FracFault::ZeroDivisor);
@@ -70,8 +70,8 @@ impl Frac {
 
     // One over a fraction that is not 0.
     fn inverse(self) -> Frac
-        requires { (fraction_of self).num ≢ pos 0 }
-        ensures { fraction_of result ≡ inverse_of (fraction_of self) }
+        requires { (shown_frac self).num ≢ pos 0 }
+        ensures { shown_frac result ≡ inverse_of (shown_frac self) }
     {
         let size = self.den as i128;
         Frac {
@@ -82,7 +82,7 @@ impl Frac {
 
     // The fraction with the other sign.
     fn negated(self) -> Frac
-        ensures { fraction_of result ≡ negative_of (fraction_of self) }
+        ensures { shown_frac result ≡ negative_of (shown_frac self) }
     {
         Frac {
             num: -self.num,
@@ -102,7 +102,7 @@ fn is_product_negative(a: i128, b: i128) -> bool
 fn pack_products(negative: bool, a: u128, b: u128, c: u128, d: u128) -> Result<Frac, FracFault>
     requires positive { 0 < c * d }
     requires lowest { IsCoprime (a * b) (c * d) }
-    ensures same { IfOk result (λ f. fraction_of f ≡ signed_fraction negative (a * b) (c * d)) }
+    ensures same { IfOk result (λ f. shown_frac f ≡ signed_fraction negative (a * b) (c * d)) }
     ensures wide { IfErr result (λ fault. (fault ≡ FracFault.Wide) × LeavesRange (signed_fraction negative (a * b) (c * d))) }
 {
     match (a.checked_mul(b), c.checked_mul(d)) {

@@ -5,7 +5,7 @@ ghost use Rattle.std.specs.Int.{IsGcd};
 ghost use Rattle.integers.specs.Divisors.{IsCoprime};
 ghost use Rattle.exact_num.specs.Fraction.{IsSame, LeavesRange, ratio_of};
 ghost use Rattle.exact_num.specs.Signed.{signed_fraction};
-ghost use Rattle.exact_num.specs.Shown.{fraction_of};
+ghost use Rattle.exact_num.specs.Views.{shown_frac};
 ghost use Rattle.exact_num.specs.declared.frac.FracFault.TheVariants as faults;
 
 use super::{Frac, FracFault, MOST};
@@ -15,7 +15,7 @@ impl Frac {
     /// `num / den` in lowest terms, for a `den` of either sign. It is ZeroDivisor exactly where `den` is 0, and Wide exactly
     /// where a number in lowest terms leaves the range.
     pub fn new(num: i128, den: i128) -> Result<Frac, FracFault>
-        ensures same { IfOk result (λ f. IsSame (fraction_of f) (ratio_of num den)) }
+        ensures same { IfOk result (λ f. IsSame (shown_frac f) (ratio_of num den)) }
         ensures zero_divisor { IsErrOf result FracFault.ZeroDivisor ↔ (den ≡ pos 0) }
         ensures wide { IsErrOf result FracFault.Wide → LeavesRange (ratio_of num den) }
     {
@@ -33,7 +33,7 @@ impl Frac {
 // The fraction of that sign and those sizes, brought to lowest terms.
 fn lowest(negative: bool, num: u128, den: u128) -> Result<Frac, FracFault>
     requires { 0 < den }
-    ensures same { IfOk result (λ f. IsSame (fraction_of f) (signed_fraction negative num den)) }
+    ensures same { IfOk result (λ f. IsSame (shown_frac f) (signed_fraction negative num den)) }
     ensures wide { IfErr result (λ fault. (fault ≡ FracFault.Wide) × LeavesRange (signed_fraction negative num den)) }
 {
     divided(negative, num, den, gcd(num, den))
@@ -43,7 +43,7 @@ fn lowest(negative: bool, num: u128, den: u128) -> Result<Frac, FracFault>
 pub(super) fn divided(negative: bool, num: u128, den: u128, common: u128) -> Result<Frac, FracFault>
     requires positive { 0 < den }
     requires greatest { IsGcd num den common }
-    ensures same { IfOk result (λ f. IsSame (fraction_of f) (signed_fraction negative num den)) }
+    ensures same { IfOk result (λ f. IsSame (shown_frac f) (signed_fraction negative num den)) }
     ensures wide { IfErr result (λ fault. (fault ≡ FracFault.Wide) × LeavesRange (signed_fraction negative num den)) }
 {
     pack(negative, num / common, den / common)
@@ -53,7 +53,7 @@ pub(super) fn divided(negative: bool, num: u128, den: u128, common: u128) -> Res
 pub(super) fn pack(negative: bool, num: u128, den: u128) -> Result<Frac, FracFault>
     requires positive { 0 < den }
     requires lowest { IsCoprime num den }
-    ensures same { IfOk result (λ f. fraction_of f ≡ signed_fraction negative num den) }
+    ensures same { IfOk result (λ f. shown_frac f ≡ signed_fraction negative num den) }
     ensures wide { IfErr result (λ fault. (fault ≡ FracFault.Wide) × LeavesRange (signed_fraction negative num den)) }
 {
     if num > MOST || den > MOST {

@@ -1,7 +1,8 @@
 use Rattle.std.proofs.Common.{◌≡◌, map, length, sym, ap, subst, ◌∙◌, arith}
 use Rattle.std.proofs.lemmas.List.{length-map}
 use Rattle.pool_model.specs.Network.{Network, net_of, IsLimited}
-use Rattle.blend_network.specs.Limits.{shown_limit, AreLimitsOf}
+use Rattle.blend_network.specs.Limits.{AreLimitsOf}
+use Rattle.blend_network.specs.Views.{shown_limit}
 use Rattle.blend_network.proofs.LimitLists.{few_limits}
 use Rattle.blend_network.proofs.network.Network.count_limits.Goals as goal
 

@@ -2,7 +2,8 @@ use Rattle.std.proofs.Common.{◌≡◌, ◌<◌, map, length, get_or, sym, ap, 
 use Rattle.std.proofs.lemmas.List.{length-map, get_or-map}
 use Rattle.pool_model.specs.Limits.{no_limit}
 use Rattle.pool_model.specs.Network.{Network, net_of}
-use Rattle.blend_network.specs.Limits.{shown_limit, AreLimitsOf}
+use Rattle.blend_network.specs.Limits.{AreLimitsOf}
+use Rattle.blend_network.specs.Views.{shown_limit}
 use Rattle.blend_network.proofs.LimitLists.{limits_known}
 use Rattle.blend_network.proofs.network.Network.limit_at.Goals as goal
 

@@ -1,7 +1,7 @@
 use Rattle.std.proofs.Common.{◌≡◌, map, get_or, None, Some, FitsSigned, rules}
 use Rattle.std.proofs.lemmas.Int.{to_z-of_z}
 use mir.Syntax.{w64}
-use Rattle.blend_network.specs.Limits.{shown_limit}
+use Rattle.blend_network.specs.Views.{shown_limit}
 use Rattle.blend_network.proofs.LimitLists.{limit_more, limit_none}
 use Rattle.blend_network.proofs.network.limits.add_limits.Goals as goal
 use Rattle.blend_network.proofs.network.limits.add_limits.Goals.{in-Some+in_ok-push, in_default}

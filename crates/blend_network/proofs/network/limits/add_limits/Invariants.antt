@@ -1,6 +1,6 @@
 use Rattle.std.proofs.Common.{◌≡◌, ◌++◌, map, get_or, None}
 use Rattle.pool_model.specs.Limits.{product_limits}
-use Rattle.blend_network.specs.Limits.{shown_limit}
+use Rattle.blend_network.specs.Views.{shown_limit}
 use Rattle.blend_network.proofs.network.limits.add_limits.Given as goal
 
 abbrev pub invariant-loop-quality : goal.invariant-loop-quality

@@ -2,8 +2,8 @@ use Rattle.std.proofs.Common.{length, map, sym, ap, ◌∙◌, arith}
 use Rattle.std.proofs.lemmas.List.{length-map}
 use Rattle.pool_model.specs.Network as model
 use Rattle.pool_model.specs.Network.{no_product}
-use Rattle.blend_network.specs.Limits.{shown_limit, limits_in}
-use Rattle.blend_network.specs.Views.{shown_product}
+use Rattle.blend_network.specs.Limits.{limits_in}
+use Rattle.blend_network.specs.Views.{shown_limit, shown_product}
 use Rattle.blend_network.specs.declared.network.Product.{Product}
 use Rattle.network_parts.proofs.Mapped.{read-map}
 use Rattle.blend_network.proofs.LimitLists.{product_more}

@@ -1,7 +1,7 @@
 use Rattle.std.proofs.Common.{◌≡◌, ℕ, map, length, All}
 use Rattle.pool_model.specs.Limits.{limits}
-use Rattle.blend_network.specs.Limits.{shown_limit, limits_in, product_limit}
-use Rattle.blend_network.specs.Views.{shown_product}
+use Rattle.blend_network.specs.Limits.{limits_in, product_limit}
+use Rattle.blend_network.specs.Views.{shown_limit, shown_product}
 use Rattle.blend_network.proofs.network.limits.limits_from.Given as goal
 
 abbrev pub invariant-loop-product : goal.invariant-loop-product

@@ -2,7 +2,7 @@ use Rattle.std.proofs.Common.{◌≡◌, ◌*◌, ◌/◌, ◌<◌, ◌∙◌, p
 use Rattle.std.proofs.lemmas.Int.{to_z-of_z}
 use Rattle.std.specs.Int.{IsGcd}
 use Rattle.exact_num.specs.Fraction.{Fraction, IsSame, IsShortOver, IsShortSum, IsInRange, sum_of}
-use Rattle.exact_num.specs.Shown.{fraction_of}
+use Rattle.exact_num.specs.Views.{shown_frac}
 use Rattle.exact_num.specs.Signed.{signed_fraction}
 use Rattle.exact_num.specs.declared.frac.FracFault.TheVariants as faults
 use Rattle.exact_num.proofs.Signs.{signed_fraction-of, positive-quotient}
@@ -24,7 +24,7 @@ returns-in_err-num-clause-wide c =
     let left = simp to_z-of_z at c.in_ok-left.ensures.value in
     let right = simp to_z-of_z at c.in_ok-right.ensures.value in
     let wide = rw (left, right) at (simp to_z-of_z at c.in_err-num.ensures.wide) in
-    let not_short : ¬ IsShortSum (fraction_of c.args.self) (fraction_of c.args.other) = λ short. wide.1 (short c.gcd-common.result c.gcd-common.ensures).sum in
+    let not_short : ¬ IsShortSum (shown_frac c.args.self) (shown_frac c.args.other) = λ short. wide.1 (short c.gcd-common.result c.gcd-common.ensures).sum in
     let exit = err_from_is_err_and c.from_residual-in_err-num.result c.from_residual-in_err-num.ensures.1 in rw (exit.1, exit.2) (wide.0, not_short)
 
 pub divided-requires-clause-positive : goal.divided-requires-clause-positive
@@ -57,7 +57,7 @@ divided-requires-clause-greatest c =
     (subst (λ n. IsGcd n (c.args.self.den * (c.args.other.den / c.gcd-common.result)) c.gcd.result) (sym size) whole)
 
 -- each step is short
-steps_short : (c : After-gcd) → IsShortOver (fraction_of c.args.self) (fraction_of c.args.other) c.gcd-common.result
+steps_short : (c : After-gcd) → IsShortOver (shown_frac c.args.self) (shown_frac c.args.other) c.gcd-common.result
 steps_short c =
     let left_fits : FitsSigned w128 c.in_ok-left.left = search rules in
     let right_fits : FitsSigned w128 c.in_ok-right.right = search rules in
@@ -92,15 +92,15 @@ pub returns-clause-sum : goal.returns-clause-sum
 unfolding whole
 returns-clause-sum c =
     let after = (goal.at.returns-clause-sum c).After-gcd in
-    let same : IsSame (whole after) (sum_of (fraction_of c.args.self) (fraction_of c.args.other)) =
+    let same : IsSame (whole after) (sum_of (shown_frac c.args.self) (shown_frac c.args.other)) =
     sum-same c.args.self.num c.args.other.num c.args.self.den c.args.other.den c.gcd-common.result c.args.other.positive c.gcd-common.ensures in
-    same_as c.divided.result (whole after) (sum_of (fraction_of c.args.self) (fraction_of c.args.other)) (positive_whole after) same
-    (subst (λ x. IfOk c.divided.result (λ f. IsSame (fraction_of f) x)) (made after) c.divided.ensures.same)
+    same_as c.divided.result (whole after) (sum_of (shown_frac c.args.self) (shown_frac c.args.other)) (positive_whole after) same
+    (subst (λ x. IfOk c.divided.result (λ f. IsSame (shown_frac f) x)) (made after) c.divided.ensures.same)
 
 pub returns-clause-short : goal.returns-clause-short
 returns-clause-short c =
-    on_ok c.divided.result (IsShortSum (fraction_of c.args.self) (fraction_of c.args.other))
-    (IsShortSum-from (fraction_of c.args.self) (fraction_of c.args.other) c.gcd-common.result c.gcd-common.ensures (steps_short ((goal.at.returns-clause-short c).After-gcd)))
+    on_ok c.divided.result (IsShortSum (shown_frac c.args.self) (shown_frac c.args.other))
+    (IsShortSum-from (shown_frac c.args.self) (shown_frac c.args.other) c.gcd-common.result c.gcd-common.ensures (steps_short ((goal.at.returns-clause-short c).After-gcd)))
 
 pub returns-clause-wide : goal.returns-clause-wide
 unfolding whole
@@ -108,4 +108,4 @@ returns-clause-wide c =
     let after = (goal.at.returns-clause-wide c).After-gcd in
     let short = steps_short after in
     let range : IsInRange (whole after) = record { num = short.sum; den = short.den; positive = positive_whole after } in
-    not_refused c.divided.result _ (whole after) (made after) range (λ fault. (fault ≡ faults.Wide) × ¬ IsShortSum (fraction_of c.args.self) (fraction_of c.args.other)) c.divided.ensures.wide
+    not_refused c.divided.result _ (whole after) (made after) range (λ fault. (fault ≡ faults.Wide) × ¬ IsShortSum (shown_frac c.args.self) (shown_frac c.args.other)) c.divided.ensures.wide

@@ -1,7 +1,7 @@
 use Rattle.std.proofs.Common.{◌*◌, ◌/◌, sym, FitsSigned, rules}
 use Rattle.std.proofs.lemmas.Int.{to_z-of_z}
 use Rattle.exact_num.specs.Fraction.{IsSame, product_of}
-use Rattle.exact_num.specs.Shown.{fraction_of}
+use Rattle.exact_num.specs.Views.{shown_frac}
 use Rattle.exact_num.specs.Signed.{signed_fraction}
 use Rattle.exact_num.proofs.Cancelling.{crossed-positive, crossed-lowest, crossed-fraction, positive-product}
 use Rattle.exact_num.proofs.Results.{given_as, refused_as}
@@ -23,14 +23,14 @@ pack_products-requires-clause-lowest c =
 -- the fraction of the cancelled numbers is the product
 same : (c : goal.After-pack_products)
     → IsSame (signed_fraction c.is_product_negative-negative.result ((c.unsigned_abs-left.result / c.gcd-left_common.result) * (c.unsigned_abs-right.result / c.gcd-right_common.result))
-    ((c.args.self.den / c.gcd-right_common.result) * (c.args.other.den / c.gcd-left_common.result))) (product_of (fraction_of c.args.self) (fraction_of c.args.other))
+    ((c.args.self.den / c.gcd-right_common.result) * (c.args.other.den / c.gcd-left_common.result))) (product_of (shown_frac c.args.self) (shown_frac c.args.other))
 same c =
     let left_fits : FitsSigned w128 c.args.self.num = search rules in
     let right_fits : FitsSigned w128 c.args.other.num = search rules in
     let left = simp to_z-of_z at c.unsigned_abs-left.ensures.value in
     let right = simp to_z-of_z at c.unsigned_abs-right.ensures.value in
     let sign = simp to_z-of_z at c.is_product_negative-negative.ensures in
-    crossed-fraction _ (fraction_of c.args.self) (fraction_of c.args.other) _ _ _ _ left right c.args.self.positive c.args.other.positive
+    crossed-fraction _ (shown_frac c.args.self) (shown_frac c.args.other) _ _ _ _ left right c.args.self.positive c.args.other.positive
     c.gcd-left_common.ensures c.gcd-right_common.ensures sign
 
 pub returns-clause-product : goal.returns-clause-product

@@ -3,5 +3,5 @@ use Rattle.exact_num.specs.Fraction.{Fraction}
 use Rattle.exact_num.specs.declared.frac.Frac.{Frac}
 
 -- its numbers, which are in lowest terms
-abbrev pub fraction_of : Frac → Fraction
-fraction_of f = record { num = f.num; den = f.den }
+abbrev pub shown_frac : Frac → Fraction
+shown_frac f = record { num = f.num; den = f.den }
