@@ -2,9 +2,5 @@ pub mod Lists
 pub mod Each
 pub mod Bytes
 pub mod Widths
-pub mod CanonicalReads
-pub mod WrittenReads
-pub mod CanonicalSteps
-pub mod CanonicalSize
-pub mod CanonicalText
 pub mod Found
+pub mod OneNetwork

@@ -1,5 +1,4 @@
 pub mod Walk
 pub mod Format
 pub mod Reading
-pub mod Canonical
 pub mod NetCause

@@ -1,4 +1,4 @@
-use Rattle.network_json.proofs.CanonicalText.{one_network}
+use Rattle.network_json.proofs.OneNetwork.{one_network}
 use Rattle.network_json.proofs.laws.one_network_law.Goals as goal
 
 pub returns : goal.returns

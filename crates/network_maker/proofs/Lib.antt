@@ -1,0 +1,4 @@
+pub mod Steps
+pub mod Tests
+pub mod Numbers
+pub mod Faultless

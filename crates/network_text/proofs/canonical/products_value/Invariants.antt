@@ -1,0 +1,7 @@
+use Rattle.std.proofs.Common.{◌≡◌, map, take}
+use Rattle.serde_json.specs.View.{view}
+use Rattle.network_text.specs.Canonical.{product_data}
+use Rattle.network_text.proofs.canonical.products_value.Given as goal
+
+abbrev pub invariant-loop-n : goal.invariant-loop-n
+invariant-loop-n l = map view l.list.items ≡ map (product_data l.net.qualities) (take l.n l.net.products)
