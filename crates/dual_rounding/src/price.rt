@@ -1,0 +1,54 @@
+//! The price proof: each pool's balance, times what its cheapest feed costs.
+
+ghost use Rattle.std.specs.Prelude.{◌≡◌, IfOk};
+ghost use Rattle.pool_model.specs.Network.{net_of};
+ghost use Rattle.pool_model.specs.Starting as starting;
+ghost use Rattle.box_space.specs.Views.{shown_proof};
+ghost use Rattle.dual_rounding.specs.Price as prices;
+
+use crate::multipliers::add_part;
+use blend_network::Network;
+use box_space::Proof;
+use std::alloc::{AllocError, Global};
+
+/// What flows through a pool costs at least what its cheapest feed costs. The rows that say that a pool sends what it takes
+/// stand behind those of the sources.
+pub(crate) fn price_proof(alloc: Global, net: &Network) -> Result<Proof, AllocError>
+    ensures { IfOk result (λ p. shown_proof p ≡ prices.price_proof (net_of net.now)) }
+{
+    let counts = net.sizes();
+    let mut parts = Vec::new(alloc);
+    for pool in 0..counts.pools {
+        add_part(&mut parts, counts.sources + pool, feed_cost(net, pool))?;
+    }
+    Ok(Proof { scale: 1, parts })
+}
+
+/// The least cost of a unit that is fed to the pool, in millionths of money; 0 where nothing feeds it.
+fn feed_cost(net: &Network, pool: u32) -> i64
+    ensures { result ≡ prices.feed_cost (net_of net.now) pool }
+{
+    let counts = net.sizes();
+    let mut least = None;
+    for feed in 0..counts.feeds {
+        let (source, to) = net.feed(feed);
+        let cost = if to == pool {
+            Some(net.source_cost(source))
+        } else {
+            None
+        };
+        least = lesser(least, cost);
+    }
+    least.unwrap_or(0)
+}
+
+/// The lesser of two costs that may be absent.
+fn lesser(a: Option<i64>, b: Option<i64>) -> Option<i64>
+    ensures { result ≡ starting.lesser a b }
+{
+    match (a, b) {
+        (None, b) => b,
+        (Some(a), None) => Some(a),
+        (Some(a), Some(b)) => Some(a.min(b)),
+    }
+}
