@@ -18,4 +18,4 @@ mod tests;
 mod tree;
 
 pub use entry::{Entry, EntryFault};
-pub use tree::Tree;
+pub use tree::{Best, Tree, TreeParts};

@@ -19,9 +19,20 @@ use std::marker::Model;
 
 /// The cheapest plan so far, and what it costs.
 #[derive(Debug, Drop)]
-pub(crate) struct Best {
-    pub(crate) plan: WrittenPlan,
-    pub(crate) cost: Cost,
+pub struct Best {
+    pub plan: WrittenPlan,
+    pub cost: Cost,
+}
+
+/// What a tree holds, taken apart.
+#[derive(Debug, Drop)]
+pub struct TreeParts {
+    /// The splits, by number.
+    pub splits: Vec<Split>,
+    /// Of each node its proof, where it has one.
+    pub proofs: Vec<Option<Proof>>,
+    /// The cheapest plan, where there is one.
+    pub best: Option<Best>,
 }
 
 /// A tree of boxes. Node 0 is the root, which holds all plans; split number t, from 0, cuts its node into the nodes 2t + 1, left,
@@ -128,6 +139,20 @@ impl Tree {
         match self.bounds.get(node as usize) {
             Some(bound) => *bound,
             None => None,
+        }
+    }
+
+    /// The splits, the proofs and the cheapest plan, out of the tree.
+    pub fn into_parts(self) -> TreeParts
+        ensures splits { map shown_split result.splits.items ≡ self.kept.splits.list }
+        ensures proofs { map (option_map shown_proof) result.proofs.items ≡ self.kept.proofs }
+        ensures plan { option_map (λ b. shown_plan b.plan) result.best ≡ self.kept.best }
+        ensures cost { option_map (λ b. b.cost) result.best ≡ self.kept.cost }
+    {
+        TreeParts {
+            splits: self.splits.into_splits(),
+            proofs: self.proofs,
+            best: self.best,
         }
     }
 }

@@ -74,6 +74,13 @@ impl SplitTree {
         self.splits.as_slice()
     }
 
+    /// The splits, by number, without what is kept beside them.
+    pub fn into_splits(self) -> Vec<Split>
+        ensures { map shown_split result.items ≡ self.list }
+    {
+        self.splits
+    }
+
     /// Whether a split cuts the node.
     pub fn is_cut(&self, node: u32) -> bool
         ensures { result ≡ trees.is_cut self.now.list node }

@@ -1,0 +1,3 @@
+-- Lemmas behind the contracts.
+pub mod Lines
+pub mod Found
