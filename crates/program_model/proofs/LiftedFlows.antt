@@ -1,0 +1,116 @@
+-- The flows of a plan's point: through pools, and the qualities that they bring.
+use Rattle.std.proofs.Common.{◌≡◌, ℕ, ◌*◌, ◌<◌, inl, inr, ℤ, pos, ◌*ℤ◌, arith, refl, sym, ap, ◌∙◌}
+use Rattle.std.proofs.Math.IntN.{*ℤ-zero}
+use Rattle.integers.specs.Sums.{product_below, product_but, int_sum_at, sum_at}
+use Rattle.integers.proofs.Ring.{additive, sorted, mul_left_comm_ℤ}
+use Rattle.integers.proofs.Order.{same_pos}
+use Rattle.integers.proofs.AtKey.{same_or_other, int_sum_at-same, int_sum_at-mul, pos-sum_at, product_but_is}
+use Rattle.integers.proofs.ByNode.{int_sum_at-nothing}
+use Rattle.pool_model.specs.Network.{Net, IsLimited}
+use Rattle.pool_model.specs.Plan.{Plan, Carries, outflow, product_inflow, mix, factor, quality_inflow, quality_room}
+use Rattle.row_model.specs.Variables.{path_count, path_feed, path_out}
+use Rattle.row_model.specs.Lift.{lift, others}
+use Rattle.row_model.proofs.PathSums.{HasFeedPools, paths_at_key}
+use Rattle.row_model.proofs.Shares.{no_feed, feed-le}
+use Rattle.row_model.proofs.QRows.{others-flow, paths_from_feed}
+use Rattle.program_model.specs.Programs.{mixed_inflow, path_inflow}
+use Rattle.program_model.specs.Lifted.{factors, proportion_point, quality_point}
+use Rattle.program_model.proofs.Scaled.{scaled, mix-scaled, direct_mix-scaled, product_inflow-scaled}
+
+-- ---- along paths
+
+-- the quality that flows along paths to a product is what reaches it through the pools
+path_quality-sum : (n : Net) (p : Plan) (j k : ℕ) → HasFeedPools n
+    → int_sum_at (λ a. n.out_product (path_out n a)) j (λ a. n.source_quality (n.feed_source (path_feed n a)) k *ℤ (lift n p).w a) (path_count n)
+    ≡ int_sum_at n.out_product j (λ o. others n p (n.out_pool o) *ℤ mix n p (n.out_pool o) k *ℤ pos (p.out o)) n.outs
+path_quality-sum n p j k h =
+    let quality = λ (e : ℕ). n.source_quality (n.feed_source e) k in
+    let of_pair = λ (e o : ℕ). quality e *ℤ (others n p (n.out_pool o) *ℤ (pos (p.feed e) *ℤ pos (p.out o))) in
+    paths_at_key n of_pair n.out_product j h
+    ∙ int_sum_at-same n.out_product j (λ o. int_sum_at n.feed_pool (n.out_pool o) (λ e. of_pair e o) n.feeds) (λ o. others n p (n.out_pool o) *ℤ mix n p (n.out_pool o) k *ℤ pos (p.out o)) n.outs
+    (λ o lo is.
+    int_sum_at-same n.feed_pool (n.out_pool o) (λ e. of_pair e o) (λ e. (others n p (n.out_pool o) *ℤ pos (p.out o)) *ℤ (quality e *ℤ pos (p.feed e))) n.feeds
+    (λ e le at. regroup (quality e) (others n p (n.out_pool o)) (pos (p.feed e)) (pos (p.out o)))
+    ∙ int_sum_at-mul n.feed_pool (n.out_pool o) (others n p (n.out_pool o) *ℤ pos (p.out o)) (λ e. quality e *ℤ pos (p.feed e)) n.feeds
+    ∙ last (others n p (n.out_pool o)) (pos (p.out o)) (mix n p (n.out_pool o) k))
+  where
+    regroup : (q b x y : ℤ) → q *ℤ (b *ℤ (x *ℤ y)) ≡ (b *ℤ y) *ℤ (q *ℤ x)
+    regroup q b x y = simp sorted refl
+
+    last : (b y m : ℤ) → (b *ℤ y) *ℤ m ≡ b *ℤ m *ℤ y
+    last b y m = simp sorted refl
+
+-- what reaches a product at the point is what reaches it in the plan, times all factors
+pub path_inflow-lifted : (n : Net) (p : Plan) (j k : ℕ) → IsLimited n → path_inflow n (proportion_point n p) j k ≡ quality_inflow n p j k
+path_inflow-lifted n p j k lim =
+    omega (arith, additive, path_quality-sum n p j k record { each = lim.feed_pools }, direct_mix-scaled n (factors n p) p j k)
+
+pub room-lifted : (n : Net) (p : Plan) (j : ℕ) (u : ℤ) → u *ℤ pos (product_inflow n (scaled (factors n p) p) j) ≡ quality_room n p j u
+room-lifted n p j u = ap (λ z. u *ℤ pos z) (product_inflow-scaled n (factors n p) p j) ∙ mul_left_comm_ℤ u (pos (factors n p)) (pos (product_inflow n p j))
+
+-- what a feed brings goes along its paths
+pub feeds-lifted : (n : Net) (p : Plan) (e : ℕ) → IsLimited n → Carries n p → e < n.feeds
+    → (proportion_point n p).feed e ≡ sum_at (path_feed n) e (proportion_point n p).path (path_count n)
+feeds-lifted n p e lim c lt =
+    let l = n.feed_pool e in
+    let b = product_but l (factor n p) n.pools in
+    same_pos (factors n p * p.feed e) (sum_at (path_feed n) e (proportion_point n p).path (path_count n))
+    (ap pos (sym (others-flow b (outflow n p l) (factors n p) (p.feed e) (product_but_is l (factor n p) n.pools (lim.feed_pools e lt)) (feed-le n p e lim c lt)))
+    ∙ sym (paths_from_feed n p e record { each = lim.feed_pools } lt)
+    ∙ pos-sum_at (path_feed n) e (proportion_point n p).path (path_count n))
+
+-- ---- through pools
+
+-- what reaches a product through pools is what mixed variables bring
+pub mixed_inflow-lifted : (n : Net) (p : Plan) (j k : ℕ) → mixed_inflow n (quality_point n p) j k ≡ quality_inflow n p j k
+mixed_inflow-lifted n p j k =
+    omega (
+      arith,
+      additive,
+      int_sum_at-same n.out_product j (λ o. others n p (n.out_pool o) *ℤ (mix n p (n.out_pool o) k *ℤ pos (p.out o))) (λ o. others n p (n.out_pool o) *ℤ mix n p (n.out_pool o) k *ℤ pos (p.out o)) n.outs
+          (λ o lo is. grouped (others n p (n.out_pool o)) (mix n p (n.out_pool o) k) (pos (p.out o))),
+      direct_mix-scaled n (factors n p) p j k,
+    )
+  where
+    grouped : (b m y : ℤ) → b *ℤ (m *ℤ y) ≡ b *ℤ m *ℤ y
+    grouped b m y = simp sorted refl
+
+-- nothing flows into a pool that sends nothing
+mix-nothing : (n : Net) (p : Plan) (l k : ℕ) → IsLimited n → Carries n p → outflow n p l ≡ 0 → mix n p l k ≡ pos 0
+mix-nothing n p l k lim c z =
+    int_sum_at-same n.feed_pool l (λ e. n.source_quality (n.feed_source e) k *ℤ pos (p.feed e)) (λ e. pos 0) n.feeds
+    (λ e lt is. ap (λ x. n.source_quality (n.feed_source e) k *ℤ pos x) (no_feed n p e lim c lt (ap (outflow n p) is ∙ z)) ∙ *ℤ-zero (n.source_quality (n.feed_source e) k))
+    ∙ int_sum_at-nothing n.feed_pool l (λ e. pos 0) n.feeds (λ e lt. refl)
+
+-- times all factors, what flows in is the mean times what the pool sends and the other factors
+mix-out : (n : Net) (p : Plan) (l k : ℕ) → IsLimited n → Carries n p → l < n.pools
+    → pos (product_below (factor n p) n.pools) *ℤ mix n p l k ≡ (others n p l *ℤ mix n p l k) *ℤ pos (outflow n p l)
+mix-out n p l k lim c lt = elim (same_or_other (outflow n p l) 0) [
+  | inl z ↦
+      let m = pos (product_below (factor n p) n.pools) in
+      let none = mix-nothing n p l k lim c z in
+      ap (λ x. m *ℤ x) none ∙ *ℤ-zero m ∙ sym (ap (λ y. (others n p l *ℤ mix n p l k) *ℤ pos y) z ∙ *ℤ-zero (others n p l *ℤ mix n p l k))
+  | inr d ↦
+      let b = product_but l (factor n p) n.pools in
+      let same : factor n p l ≡ outflow n p l = omega arith in
+      ap (λ x. pos x *ℤ mix n p l k) (sym (product_but_is l (factor n p) n.pools lt) ∙ ap (λ y. b * y) same)
+      ∙ turned (pos b) (pos (outflow n p l)) (mix n p l k)
+]
+  where
+    turned : (b t m : ℤ) → (b *ℤ t) *ℤ m ≡ (b *ℤ m) *ℤ t
+    turned b t m = simp sorted refl
+
+-- the quality that flows into a pool flows out of it
+pub mixing-lifted : (n : Net) (p : Plan) (l k : ℕ) → IsLimited n → Carries n p → l < n.pools
+    → mix n (scaled (factors n p) p) l k ≡ int_sum_at n.out_pool l (λ o. (quality_point n p).mixed o k) n.outs
+mixing-lifted n p l k lim c lt =
+    let mean = others n p l *ℤ mix n p l k in
+    mix-scaled n (factors n p) p l k
+    ∙ mix-out n p l k lim c lt
+    ∙ ap (λ z. mean *ℤ z) (sym (pos-sum_at n.out_pool l p.out n.outs))
+    ∙ sym (int_sum_at-mul n.out_pool l mean (λ o. pos (p.out o)) n.outs)
+    ∙ int_sum_at-same n.out_pool l (λ o. mean *ℤ pos (p.out o)) (λ o. (quality_point n p).mixed o k) n.outs
+    (λ o lo is. grouped (others n p l) (mix n p l k) (pos (p.out o)) ∙ sym (ap (λ i. others n p i *ℤ (mix n p i k *ℤ pos (p.out o))) is))
+  where
+    grouped : (b m y : ℤ) → (b *ℤ m) *ℤ y ≡ b *ℤ (m *ℤ y)
+    grouped b m y = simp sorted refl

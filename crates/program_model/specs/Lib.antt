@@ -1,0 +1,4 @@
+pub mod Points
+pub mod Programs
+pub mod Lifted
+pub mod Rows

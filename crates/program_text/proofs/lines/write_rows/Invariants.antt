@@ -1,0 +1,13 @@
+use Rattle.std.proofs.Common.{◌≡◌, ◌+◌}
+use Rattle.edge_io.specs.Counts.{Grows}
+use Rattle.edge_io.specs.Writing.{behind}
+use Rattle.pool_model.specs.Network.{net_of}
+use Rattle.box_space.specs.Views.{shown_box}
+use Rattle.program_text.specs.Pieces.{each_below}
+use Rattle.program_text.specs.Lines.{row_line}
+use Rattle.program_text.proofs.lines.write_rows.Given as goal
+
+abbrev pub invariant-loop-n : goal.invariant-loop-n
+invariant-loop-n g l =
+    (g.K.Sink.taken l.out ≡ behind (g.K.Sink.taken l.fn.out) (each_below (λ i. row_line (net_of l.net) (shown_box l.v) (l.first + i)) l.n))
+    × Grows (g.K.Sink.faults l.fn.out) (g.K.Sink.faults l.out)

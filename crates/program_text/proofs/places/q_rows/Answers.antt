@@ -1,0 +1,14 @@
+use Rattle.std.proofs.Common.{arith}
+use Rattle.pool_model.specs.Network.{net_of}
+use Rattle.row_model.specs.Boxes.{root}
+use Rattle.row_book.proofs.Placing.{rows_is}
+use Rattle.program_text.proofs.places.q_rows.Goals as goal
+
+pub returns-clause-first : goal.returns-clause-first
+returns-clause-first c = let n = net_of c.args.net.now in omega (arith, c.network_rows.ensures.count, c.count.ensures.count (root n))
+
+pub returns-clause-fits : goal.returns-clause-fits
+returns-clause-fits c =
+    let n = net_of c.args.net.now in
+    let counts = c.sizes-counts.ensures.counts in
+    omega (arith, rows_is n, c.network_rows.ensures.count, c.count.ensures.count (root n), counts.pools, counts.feeds, c.limits.ensures.count)

@@ -1,0 +1,6 @@
+pub mod Pieces
+pub mod Names
+pub mod Lines
+pub mod Programs
+pub mod Outcomes
+pub mod Written
