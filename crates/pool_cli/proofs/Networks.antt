@@ -4,8 +4,7 @@ use Rattle.std.proofs.lemmas.Bool.Decides.{nat_tests}
 use Rattle.edge_io.specs.Files.{file_of, IsTooLong}
 use Rattle.pool_model.specs.Rows.{Rows}
 use Rattle.pool_model.specs.Naming.{network_of}
-use Rattle.pool_model.specs.Network.{Network, net_of}
-use Rattle.pool_model.specs.Starting.{HasNoMinima}
+use Rattle.pool_model.specs.Network.{Network}
 use Rattle.network_parts.specs.Faults.{IsFaultless}
 use Rattle.network_parts.specs.FirstFault.{Holds}
 use Rattle.network_parts.specs.declared.fault.NetFault.{NetFault}
@@ -14,7 +13,6 @@ use Rattle.network_json.specs.declared.fault.ReadNet.{ReadNet}
 use Rattle.network_json.specs.declared.fault.ReadNet.TheVariants as causes
 use Rattle.network_json.specs.Reading.{IsRefusal}
 use Rattle.network_json.specs.Format.{rows_in}
-use Rattle.pool_cli.specs.Solution.{HasMinimum}
 use Rattle.pool_cli.specs.Reads.{Files, IsOwnCause, IsRefusedAs, most_network, ReadsUnder, RefusesUnder}
 
 pub some_same : {X : Type 0} (o : Option X) (a b : X) → o ≡ Some a → o ≡ Some b → a ≡ b
@@ -67,10 +65,6 @@ pub refused_unread : (told : Files) (name : List ℕ) (cause : ReadNet) (network
 refused_unread told name cause network own r s =
     refused_rows r.bytes cause s.reads.rows r.refused own
     (subst (λ (b : List ℕ). rows_in b ≡ Ok s.reads.rows) (some_same (file_of told name) s.bytes r.bytes s.file r.file) s.reads.read) s.reads.faultless
-
--- a product that must take something, in a network where none must
-pub none_and_some : (n : Network) → HasNoMinima (net_of n) → HasMinimum (net_of n) → ⊥
-none_and_some n none (j, lt, more) = omega (arith, none j lt, more)
 
 -- ---- a file past the limit
 

@@ -1,53 +1,122 @@
 -- What an outcome tells of the files, and what the files tell of the outcome.
-use Rattle.std.proofs.Common.{◌≡◌, ℕ, inl, inr, List, length, Bool, true, false, Option, Some, refl, sym, ap, subst, arith}
+use Rattle.std.proofs.Common.{◌≡◌, ℕ, ◌*◌, inl, inr, List, length, Bool, true, false, if◌then◌else◌, Option, None, Some, ℤ, pos, int_le, refl, sym, ap, subst, arith}
 use Rattle.edge_io.specs.Files.{file_of}
 use Rattle.pool_model.specs.Network.{Network, net_of}
 use Rattle.cert_format.specs.Cert.{Cert}
 use Rattle.cert_format.specs.Valid.{IsValid}
 use Rattle.cert_checker.specs.Answers.{Spells}
-use Rattle.cli_words.specs.Requests.{Asked, solve, check}
+use Rattle.box_space.specs.declared.coordinates.Form.{Form}
+use Rattle.cli_words.specs.Requests.{Asked, solve, check, formulate, make}
 use Rattle.network_json.specs.declared.fault.ReadNet.{ReadNet}
-use Rattle.pool_model.specs.Starting.{HasNoMinima}
+use Rattle.pool_model.specs.Plan.{Written, plan_of}
+use Rattle.pool_model.specs.Claim.{Claimed, with_gap, with_bound, no_plan, Follows, HasNoPlan}
+use Rattle.row_model.specs.Trees.{tree_bound}
+use Rattle.tree_certificate.specs.Certificates.{claim_of}
 use Rattle.pool_cli.specs.Ends.{AnswersAs, DecidedAs, plain_solving}
-use Rattle.pool_cli.specs.Reads.{Files, IsRefusedAs, ReadsNone, ReadsUnder}
-use Rattle.pool_cli.specs.Took.{Took}
-use Rattle.pool_cli.specs.SolveEnds.{AnswersUnder, DemandsUnder, FreeUnder, SolveDecided, SolveEnds, SolvesAs}
+use Rattle.pool_cli.specs.Reads.{Files, IsRefusedAs, ReadsNone, ReadsSome, ReadsUnder}
+use Rattle.edge_io.specs.Writing.{behind}
+use Rattle.pool_cli.specs.Solution.{CoversStarts, HasNoStart, IsSolution, asked_gap, end_of}
+use Rattle.pool_cli.specs.Took.{Part, whole, printed_by, Took, TookPart}
+use Rattle.pool_cli.specs.SolveEnds.{EndsWith, IsPlanned, IsPrinted, NoPlanUnder, NoStartUnder, SolveDecided, SolveEnds, SolvesAs, StartUnder}
+use Rattle.pool_cli.specs.FormulateEnds.{FormulateDecided, FormulateEnds, FormulatesAs}
+use Rattle.pool_cli.specs.MakeEnds.{MakeDecided, MakeEnds, MakesAs}
 use Rattle.pool_cli.specs.CheckEnds.{AreRead, CheckDecided, CheckEnds, ChecksAs, JudgedUnder, LongUnder}
 use Rattle.pool_cli.specs.declared.status.Status.{Status}
 use Rattle.pool_cli.specs.declared.status.Status.TheVariants as statuses
-use Rattle.pool_cli.proofs.Networks.{none_and_some, one_network, refused_unread, some_same}
+use Rattle.pool_cli.proofs.Networks.{one_network, refused_unread, some_same}
 
 -- ---- a certificate of `solve` was printed, or a front of it
 
-pub printed_answers : (files : Option Files) (name : List ℕ) (closed : Bool) (text : List ℕ) → AnswersUnder files name closed text → (other : Status) × SolvesAs files name other text
-printed_answers files name true text h = (statuses.Closed, h)
-printed_answers files name false text h = (statuses.Stopped, h)
+printed_if : (closed : Bool) → printed_by (if closed then statuses.Closed else statuses.Stopped) ≡ whole
+printed_if true = refl
+printed_if false = refl
+
+-- a run that claims something prints all of its certificate
+printed_end : (claim : Claimed) → printed_by (end_of claim) ≡ whole
+printed_end (with_gap plan cost base bound gap) = printed_if (int_le gap (pos (asked_gap * base)))
+printed_end (with_bound bound) = refl
+printed_end no_plan = refl
+
+pub took_whole : (files : Option Files) (name : List ℕ) (claim : Claimed) (status : Status) (text : List ℕ) (old new : Option (List ℕ)) → status ≡ end_of claim → SolvesAs files name (end_of claim) text → new ≡ behind old text
+    → Took (SolvesAs files name) status old new
+took_whole files name claim status text old new is answers e =
+    subst (λ (s : Status). Took (SolvesAs files name) s old new) (sym is)
+    (subst (λ (p : Part). TookPart p (SolvesAs files name) (end_of claim) old new) (sym (printed_end claim)) (text, answers, e))
+
+-- how a certificate's claim ends, of a network that was read
+module _ (files : Option Files) (name : List ℕ) (network : Network) (reads : ReadsUnder files name network) where
+  by_gap : (before after : ℕ) (closed : Bool) → SolveEnds files name before after (if closed then statuses.Closed else statuses.Stopped)
+  by_gap before after true = record { network = network; reads = reads }
+  by_gap before after false = record { network = network; reads = reads }
+
+  no_start : (best : Option Written) (bound : Option ℤ) (z : ℤ) → with_bound z ≡ claim_of (net_of network) best bound → CoversStarts (net_of network) best → HasNoStart (net_of network)
+  no_start best None z e covers = cc
+  no_start None (Some x) z e covers = covers
+  no_start (Some w) (Some x) z e covers = cc
+
+  by_claim : (before after : ℕ) (claim : Claimed) (best : Option Written) (bound : Option ℤ) → claim ≡ claim_of (net_of network) best bound → CoversStarts (net_of network) best → Follows (net_of network) claim
+      → SolveEnds files name before after (end_of claim)
+  by_claim before after (with_gap plan cost base z gap) best bound e covers follows = by_gap before after (int_le gap (pos (asked_gap * base)))
+  by_claim before after (with_bound z) best bound e covers follows = record { network = network; reads = reads; none = no_start best bound z e covers }
+  by_claim before after no_plan best bound e covers follows = record { network = network; reads = reads; none = follows }
+
+  pub solution_ends : (before after : ℕ) (c : Cert) (status : Status) → IsSolution (net_of network) (end_of c.claim) c → EndsWith (end_of c.claim) status → SolveEnds files name before after status
+  solution_ends before after c status s ends = elim ends [
+    | inl is ↦ subst (SolveEnds files name before after) (sym is)
+        (by_claim before after c.claim s.found.best (tree_bound (net_of network) s.found.tree) (ap (λ (x : Cert). x.claim) s.is) s.search.starts s.follows)
+    | inr is ↦ subst (SolveEnds files name before after) (sym is) (record { network = network; reads = reads })
+  ]
 
 -- ---- what the told files decide of `solve`
 
 module _ (told : Files) (name : List ℕ) where
-  same_network : (n m : Network) → ReadsUnder (Some told) name n → ReadsUnder (Some told) name m → n ≡ m
-  same_network n m = one_network told name n m
+  same_net : (n m : Network) → ReadsUnder (Some told) name n → ReadsUnder (Some told) name m → n ≡ m
+  same_net n m = one_network told name n m
 
-  free_and_bound : FreeUnder (Some told) name → DemandsUnder (Some told) name → ⊥
-  free_and_bound f d = none_and_some d.network (subst (λ n. HasNoMinima (net_of n)) (same_network f.network d.network f.reads d.reads) f.minima) d.minimum
+  read_decides : (status : Status) (network : Network) → ReadsUnder (Some told) name network → IsPrinted status → (StartUnder (Some told) name → IsPlanned status) → SolveDecided told name status
+  read_decides status network reads printed planned = record { no_network = λ none. absurd (none network reads); some_network = λ f. inl printed; some_start = λ s. inl (planned s) }
+
+  no_plan_starts : NoPlanUnder (Some told) name → StartUnder (Some told) name → ⊥
+  no_plan_starts h s = subst (λ n. HasNoPlan (net_of n)) (same_net h.network s.network h.reads s.reads) h.none (plan_of (net_of s.network) s.plan) s.obeys
+
+  none_starts : NoStartUnder (Some told) name → StartUnder (Some told) name → ⊥
+  none_starts h s = subst (λ n. HasNoStart (net_of n)) (same_net h.network s.network h.reads s.reads) h.none s.plan s.starting s.obeys
 
   decided_solve : (before after : ℕ) (status : Status) → SolveEnds (Some told) name before after status → SolveDecided told name status
-  decided_solve before after statuses.Closed h = record { no_network = λ none. absurd (none h.network h.reads); some_minimum = λ d. absurd (free_and_bound h d); no_minimum = λ f. inl tt }
-  decided_solve before after statuses.Stopped h = record { no_network = λ none. absurd (none h.network h.reads); some_minimum = λ d. absurd (free_and_bound h d); no_minimum = λ f. inl tt }
-  decided_solve before after statuses.WriteFault h = record { no_network = λ none. absurd (none h.network h.reads); some_minimum = λ d. absurd (free_and_bound h d); no_minimum = λ f. inl tt }
-  decided_solve before after statuses.MinimumNotYet h = record { no_network = λ none. absurd (none h.network h.reads); some_minimum = λ d. inl refl; no_minimum = λ f. absurd (free_and_bound f h) }
+  decided_solve before after statuses.Closed h = read_decides statuses.Closed h.network h.reads tt (λ s. tt)
+  decided_solve before after statuses.Stopped h = read_decides statuses.Stopped h.network h.reads tt (λ s. tt)
+  decided_solve before after statuses.Infeasible h = read_decides statuses.Infeasible h.network h.reads tt (λ s. absurd (no_plan_starts h s))
+  decided_solve before after statuses.Undecided h = read_decides statuses.Undecided h.network h.reads tt (λ s. absurd (none_starts h s))
+  decided_solve before after statuses.WriteFault h = read_decides statuses.WriteFault h.network h.reads tt (λ s. tt)
   decided_solve before after (statuses.NetworkRefused cause) h = record {
     no_network = λ none. inl tt;
-    some_minimum = λ d. absurd (refused_unread told name cause d.network h.own (h.told told refl) d.reads);
-    no_minimum = λ f. absurd (refused_unread told name cause f.network h.own (h.told told refl) f.reads);
+    some_network = λ f. absurd (refused_unread told name cause f.network h.own (h.told told refl) f.reads);
+    some_start = λ f. absurd (refused_unread told name cause f.network h.own (h.told told refl) f.reads);
   }
-  decided_solve before after statuses.ReadFault h = record { no_network = λ none. inr tt; some_minimum = λ d. inr tt; no_minimum = λ f. inr tt }
-  decided_solve before after statuses.OutOfMemory h = record { no_network = λ none. inr tt; some_minimum = λ d. inr tt; no_minimum = λ f. inr tt }
+  decided_solve before after statuses.ReadFault h = record { no_network = λ none. inr tt; some_network = λ f. inr tt; some_start = λ s. inr tt }
+  decided_solve before after statuses.OutOfMemory h = record { no_network = λ none. inr tt; some_network = λ f. inr tt; some_start = λ s. inr tt }
   decided_solve before after status h = absurd h
 
 solve_decided : (files : Option Files) (told : Files) (name : List ℕ) (before after : ℕ) (status : Status) → files ≡ Some told → SolveEnds files name before after status → SolveDecided told name status
 solve_decided files told name before after status is h = decided_solve told name before after status (subst (λ f. SolveEnds f name before after status) is h)
+
+-- ---- what the told files decide of `formulate`
+
+module _ (told : Files) (name : List ℕ) where
+  decided_formulate : (before after : ℕ) (status : Status) → FormulateEnds (Some told) name before after status → FormulateDecided told name status
+  decided_formulate before after statuses.Done h = record { no_network = λ none. absurd (none h.network h.reads); some_network = λ f. inl tt }
+  decided_formulate before after statuses.WriteFault h = record { no_network = λ none. absurd (none h.network h.reads); some_network = λ f. inl tt }
+  decided_formulate before after (statuses.NetworkRefused cause) h = record {
+    no_network = λ none. inl tt;
+    some_network = λ f. absurd (refused_unread told name cause f.network h.own (h.told told refl) f.reads);
+  }
+  decided_formulate before after statuses.ReadFault h = record { no_network = λ none. inr tt; some_network = λ f. inr tt }
+  decided_formulate before after statuses.OutOfMemory h = record { no_network = λ none. inr tt; some_network = λ f. inr tt }
+  decided_formulate before after status h = absurd h
+
+formulate_decided : (files : Option Files) (told : Files) (name : List ℕ) (before after : ℕ) (status : Status) → files ≡ Some told → FormulateEnds files name before after status → FormulateDecided told name status
+formulate_decided files told name before after status is h =
+    decided_formulate told name before after status (subst (λ f. FormulateEnds f name before after status) is h)
 
 -- ---- what the told files decide of `check`
 
@@ -126,3 +195,15 @@ module _ (files : Option Files) (net : List ℕ) (asked : Asked) (s t : Status) 
 
   pub check_decides : (cert : List ℕ) (told : Files) (before after : ℕ) → asked ≡ check net cert → files ≡ Some told → CheckEnds files net cert before after t → DecidedAs told asked s
   check_decides cert told before after a f h = subst (λ x. DecidedAs told x s) (sym a) (subst (CheckDecided told net cert) (sym is) (check_decided files told net cert before after t f h))
+
+  pub formulate_took : (form : Form) (old new : Option (List ℕ)) → asked ≡ formulate net form → Took (FormulatesAs files net form) t old new → Took (AnswersAs files asked) s old new
+  formulate_took form old new a h = subst (λ x. Took (AnswersAs files x) s old new) (sym a) (subst (λ x. Took (FormulatesAs files net form) x old new) (sym is) h)
+
+  pub formulate_decides : (form : Form) (told : Files) (before after : ℕ) → asked ≡ formulate net form → files ≡ Some told → FormulateEnds files net before after t → DecidedAs told asked s
+  formulate_decides form told before after a f h = subst (λ x. DecidedAs told x s) (sym a) (subst (FormulateDecided told net) (sym is) (formulate_decided files told net before after t f h))
+
+  pub make_took : (number : ℕ) (old new : Option (List ℕ)) → asked ≡ make number → Took (MakesAs number) t old new → Took (AnswersAs files asked) s old new
+  make_took number old new a h = subst (λ x. Took (AnswersAs files x) s old new) (sym a) (subst (λ x. Took (MakesAs number) x old new) (sym is) h)
+
+  pub make_decides : (number : ℕ) (told : Files) → asked ≡ make number → MakeEnds t → DecidedAs told asked s
+  make_decides number told a h = subst (λ x. DecidedAs told x s) (sym a) (subst MakeDecided (sym is) h)

@@ -1,5 +1,7 @@
 pub mod CheckEnds
 pub mod Ends
+pub mod FormulateEnds
+pub mod MakeEnds
 pub mod Messages
 pub mod Reads
 pub mod Solution

@@ -21,6 +21,11 @@ pub record ReadsUnder (files : Option Files) (name : List ℕ) (network : Networ
   pub file : HasFile files name bytes
   pub reads : ReadAs bytes network
 
+-- a network is read from the file of this name
+pub record ReadsSome (files : Option Files) (name : List ℕ) : Type 0 where
+  pub network : Network
+  pub reads : ReadsUnder files name network
+
 -- no network is read from the file of this name
 abbrev pub ReadsNone : Files → List ℕ → Type 0
 ReadsNone told name = (network : Network) → ¬ ReadsUnder (Some told) name network

@@ -16,8 +16,11 @@ pub data Part : Type 0 where
 abbrev pub printed_by : Status → Part
 printed_by statuses.Closed = whole
 printed_by statuses.Accepted = whole
+printed_by statuses.Done = whole
 printed_by (statuses.Refused refusal) = whole
 printed_by statuses.Stopped = whole
+printed_by statuses.Infeasible = whole
+printed_by statuses.Undecided = whole
 printed_by statuses.WriteFault = front
 printed_by status = nothing
 

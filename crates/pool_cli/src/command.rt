@@ -3,13 +3,16 @@
 ghost use Rattle.std.specs.Prelude.{◌≡◌, ◌⊎◌, List, ℕ, Some, IsTrue, map, string_bytes};
 ghost use Rattle.edge_io.specs.Counts.{Rose};
 ghost use Rattle.pool_model.specs.Network.{Network};
+ghost use Rattle.box_space.specs.declared.coordinates.Form.{Form};
 ghost use Rattle.cli_words.specs.Asks.{Asks};
-ghost use Rattle.cli_words.specs.Requests.{Asked, Solving, solve, check};
+ghost use Rattle.cli_words.specs.Requests.{Asked, Solving, solve, check, formulate};
 ghost use Rattle.pool_cli.specs.Ends.{AnswersAs, DecidedAs, EndsAs, IsServed, IsUnanswered};
 ghost use Rattle.pool_cli.specs.Reads.{Files, ReadsUnder};
 ghost use Rattle.pool_cli.specs.Took.{Took};
 
 use crate::check::check;
+use crate::formulate::formulate;
+use crate::make::make;
 use crate::solve::solve;
 use crate::status::Status;
 use crate::words::{Command, command_of};
@@ -20,18 +23,21 @@ use std::alloc::Global;
 /// Runs the program on the words behind its name: takes files from the shelf, and gives what it prints to the sink.
 ///
 /// `solve NET` prints the certificate of the network in the file NET. `check NET CERT` prints what the certificate in the
-/// file CERT says of the network in the file NET, or why it is refused.
+/// file CERT says of the network in the file NET, or why it is refused. `formulate NET` prints an exact program of the
+/// network in the file NET, and `make N` the network of the number N.
 pub fn run<S: Shelf, K: Sink>(alloc: Global, words: &[String], shelf: &mut S, out: &mut K) -> Status
     requires solve { (s : Solving) → Asks (map string_bytes words.now) (solve s) → IsTrue (S.admits shelf.old s.net) }
     requires check { (net cert : List ℕ) → Asks (map string_bytes words.now) (check net cert) → IsTrue (S.admits shelf.old net) }
+
+    requires formulate { (net : List ℕ) (form : Form) → Asks (map string_bytes words.now) (formulate net form) → IsTrue (S.admits shelf.old net) }
 
     // The certificate is asked for only where a network is read.
     requires certificate { (net cert : List ℕ) (network : Network) → Asks (map string_bytes words.now) (check net cert)
         → ReadsUnder (S.files shelf.old) net network → IsTrue (S.admits shelf.old cert) }
 
-    // What the sink took: under `Closed` and `Stopped` the text of a certificate that answers the words, under `Accepted`
-    // and `Refused` the line on the certificate that they name, under `WriteFault` a front of such a text, and under every
-    // other status nothing.
+    // What the sink took: under `Closed`, `Stopped`, `Infeasible` and `Undecided` the text of a certificate that answers the
+    // words, under `Accepted` and `Refused` the line on the certificate that they name, under `Done` the program or the network, under
+    // `WriteFault` a front of such a text, and under every other status nothing.
     ensures took { (asked : Asked) → Asks (map string_bytes words.now) asked → Took (AnswersAs (S.files shelf.old) asked) result (K.taken out.old) (K.taken out.new) }
     ensures unanswered { IsUnanswered result → K.taken out.new ≡ K.taken out.old }
 
@@ -50,6 +56,10 @@ pub fn run<S: Shelf, K: Sink>(alloc: Global, words: &[String], shelf: &mut S, ou
         Ok(Command::Check(net, cert)) => {
             Status::from(check(alloc, net.as_str(), cert.as_str(), shelf, out))
         }
+        Ok(Command::Formulate(net, form)) => {
+            Status::from(formulate(alloc, net.as_str(), form, shelf, out))
+        }
+        Ok(Command::Make(number)) => Status::from(make(alloc, number, out)),
         Err(WordsFault::Usage) => Status::Usage,
         Err(WordsFault::Memory) => Status::OutOfMemory,
     }

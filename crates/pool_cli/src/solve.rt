@@ -3,17 +3,18 @@
 ghost use Rattle.std.specs.Prelude.{◌≡◌, ◌≢◌, ℕ, List, Option, IsTrue};
 ghost use Rattle.edge_io.specs.Counts.{Rose};
 ghost use Rattle.cert_format.specs.Cert.{IsCert};
-ghost use Rattle.cert_format.specs.Views.{shown_cert};
+ghost use Rattle.cert_format.specs.Views.{shown_cert, shown_claim};
 ghost use Rattle.cert_format.specs.Text.{text_of};
 ghost use Rattle.pool_cli.specs.Reads.{Files, ReadsUnder};
-ghost use Rattle.pool_cli.specs.SolveEnds.{AnswersUnder, IsPrinted, SolveEnds, SolvesAs, solve_status};
+ghost use Rattle.pool_cli.specs.Solution.{end_of};
+ghost use Rattle.pool_cli.specs.SolveEnds.{EndsWith, SolveEnds, SolvesAs, solve_status};
 ghost use Rattle.pool_cli.specs.Took.{Took};
 
 use crate::reading::{Unread, network_under};
-use crate::solution::{Solution, has_minimum, solution_of};
+use crate::solution::{ASKED_GAP, solution_of};
 use crate::status::Status;
 use blend_network::Network;
-use cert_format::write_cert;
+use cert_format::{Certificate, Claim, write_cert};
 use edge_io::{Memory, Shelf, Sink};
 use std::alloc::Global;
 
@@ -24,8 +25,10 @@ pub(crate) enum SolveOutcome {
     Closed,
     /// A plan was printed, and its gap is above the asked one.
     Stopped,
-    /// A product must take something; such networks are not solved yet.
-    MinimumNotYet,
+    /// No plan obeys.
+    Infeasible,
+    /// No plan was found, and none was ruled out.
+    Undecided,
     /// No network was read.
     Unread(Unread),
     /// Memory ran out.
@@ -41,7 +44,8 @@ impl From<SolveOutcome> for Status {
         match outcome {
             SolveOutcome::Closed => Status::Closed,
             SolveOutcome::Stopped => Status::Stopped,
-            SolveOutcome::MinimumNotYet => Status::MinimumNotYet,
+            SolveOutcome::Infeasible => Status::Infeasible,
+            SolveOutcome::Undecided => Status::Undecided,
             SolveOutcome::Unread(why) => Status::from(why),
             SolveOutcome::Memory => Status::OutOfMemory,
             SolveOutcome::WriteFault => Status::WriteFault,
@@ -75,26 +79,39 @@ fn solve_network<K: Sink>(alloc: Global, net: &Network, out: &mut K) -> SolveOut
     ensures read { solve_status result ≢ Status.ReadFault }
     ensures write_fault { solve_status result ≡ Status.WriteFault → Rose (K.faults out.old) (K.faults out.new) }
 {
-    if has_minimum(net) {
-        return SolveOutcome::MinimumNotYet;
-    }
     match solution_of(alloc, net) {
-        Ok(solution) => print(&solution, out),
+        Ok(certificate) => print(&certificate, out),
         Err(Memory) => SolveOutcome::Memory,
     }
 }
 
-/// Writes a solution's certificate.
-fn print<K: Sink>(solution: &Solution, out: &mut K) -> SolveOutcome
-    requires { IsCert (shown_cert solution.now.certificate) }
-    ensures took { (files : Option Files) (name : List ℕ) → AnswersUnder files name solution.now.closed (text_of (shown_cert solution.now.certificate))
+/// Writes a certificate.
+fn print<K: Sink>(certificate: &Certificate, out: &mut K) -> SolveOutcome
+    requires { IsCert (shown_cert certificate.now) }
+    ensures took { (files : Option Files) (name : List ℕ) → SolvesAs files name (end_of (shown_cert certificate.now).claim) (text_of (shown_cert certificate.now))
         → Took (SolvesAs files name) (solve_status result) (K.taken out.old) (K.taken out.new) }
-    ensures printed { IsPrinted (solve_status result) }
+    ensures ended { EndsWith (end_of (shown_cert certificate.now).claim) (solve_status result) }
     ensures write_fault { solve_status result ≡ Status.WriteFault → Rose (K.faults out.old) (K.faults out.new) }
 {
-    match write_cert(&solution.certificate, out) {
+    match write_cert(certificate, out) {
         Err(_) => SolveOutcome::WriteFault,
-        Ok(()) if solution.closed => SolveOutcome::Closed,
-        Ok(()) => SolveOutcome::Stopped,
+        Ok(()) => outcome_of(&certificate.claim),
+    }
+}
+
+/// How `solve` ends by what was claimed.
+fn outcome_of(claim: &Claim) -> SolveOutcome
+    ensures { solve_status result ≡ end_of (shown_claim claim.now) }
+{
+    match claim {
+        Claim::NoPlan => SolveOutcome::Infeasible,
+        Claim::Bound { .. } => SolveOutcome::Undecided,
+        Claim::Gap { gap, base, .. } => {
+            if *gap <= ASKED_GAP * i128::from(*base) {
+                SolveOutcome::Closed
+            } else {
+                SolveOutcome::Stopped
+            }
+        }
     }
 }

@@ -5,7 +5,7 @@ ghost use Rattle.std.specs.Fmt.{signed_decimal};
 ghost use Rattle.edge_io.specs.Counts.{Grows, Rose};
 ghost use Rattle.edge_io.specs.Writing.{Wrote};
 ghost use Rattle.network_parts.specs.FirstFault as faults;
-ghost use Rattle.pool_cli.specs.Messages.{cause_number, code_of, message_of, reason_of};
+ghost use Rattle.pool_cli.specs.Messages.{code_of, message_of, reason_of};
 
 use blend_network::NetFault;
 use cert_checker::Refusal;
@@ -20,6 +20,8 @@ pub enum Status {
     Closed,
     /// The certificate is valid for the network.
     Accepted,
+    /// What was asked for was written.
+    Done,
     /// The certificate is refused.
     Refused(Refusal),
     /// The words ask nothing that the program does.
@@ -30,14 +32,16 @@ pub enum Status {
     CertTooLong,
     /// A plan was printed, and its gap is above the asked one.
     Stopped,
+    /// No plan obeys the network.
+    Infeasible,
+    /// No plan was found, and none was ruled out.
+    Undecided,
     /// The shelf failed.
     ReadFault,
     /// The sink failed.
     WriteFault,
     /// Memory ran out.
     OutOfMemory,
-    /// A product must take something; such networks are not solved yet.
-    MinimumNotYet,
 }
 
 impl Status {
@@ -46,16 +50,17 @@ impl Status {
         ensures { result ≡ code_of self.now }
     {
         match self {
-            Status::Closed | Status::Accepted => 0,
+            Status::Closed | Status::Accepted | Status::Done => 0,
             Status::Refused(_) => 1,
             Status::Usage => 2,
             Status::NetworkRefused(_) => 3,
             Status::CertTooLong => 5,
             Status::Stopped => 10,
+            Status::Infeasible => 12,
+            Status::Undecided => 13,
             Status::ReadFault => 20,
             Status::WriteFault => 21,
             Status::OutOfMemory => 23,
-            Status::MinimumNotYet => 41,
         }
     }
 }
@@ -80,16 +85,19 @@ fn put_message<K: Sink>(status: &Status, err: &mut K) -> Result<(), WriteFault>
     ensures failed { OnErr result (Rose (K.faults err.old) (K.faults err.new)) }
 {
     match status {
-        Status::Closed | Status::Stopped | Status::Accepted | Status::Refused(_) => {
-            write_whole(err, b"")
-        }
+        Status::Closed
+        | Status::Stopped
+        | Status::Infeasible
+        | Status::Undecided
+        | Status::Accepted
+        | Status::Done
+        | Status::Refused(_) => write_whole(err, b""),
         Status::Usage => write_whole(err, USAGE),
         Status::NetworkRefused(cause) => write_refusal(cause, err),
         Status::CertTooLong => write_whole(err, b"pool: certificate too long\n"),
         Status::ReadFault => write_whole(err, b"pool: read fault\n"),
         Status::WriteFault => write_whole(err, b"pool: write fault\n"),
         Status::OutOfMemory => write_whole(err, b"pool: out of memory\n"),
-        Status::MinimumNotYet => write_whole(err, b"pool: minimum not yet\n"),
     }
 }
 
@@ -114,7 +122,7 @@ fn write_reason<K: Sink>(cause: &ReadNet, err: &mut K) -> Result<(), WriteFault>
 {
     match cause {
         ReadNet::Net(fault) => write_rows_fault(fault, err),
-        cause => write_number(err, number_of(cause)),
+        cause => write_number(err, i128::from(cause.number())),
     }
 }
 
@@ -125,44 +133,5 @@ fn write_rows_fault<K: Sink>(fault: &NetFault, err: &mut K) -> Result<(), WriteF
     ensures faults_grow { Grows (K.faults err.old) (K.faults err.new) }
 {
     write_whole(err, b"9 ")?;
-    write_number(err, fault_number(fault))
-}
-
-/// The number of a reason to refuse a file.
-fn number_of(cause: &ReadNet) -> i128
-    ensures { result ≡ pos (cause_number cause.now) }
-{
-    match cause {
-        ReadNet::TooLong => 1,
-        ReadNet::NotJson => 2,
-        ReadNet::WrongKind(_) => 3,
-        ReadNet::UnknownMember(_) => 4,
-        ReadNet::Missing(_) => 5,
-        ReadNet::WrongVersion => 6,
-        ReadNet::NotWhole(_) => 7,
-        ReadNet::BadQuantity(_) => 8,
-        ReadNet::Net(_) => 9,
-        ReadNet::Memory => 10,
-    }
-}
-
-/// The number of a fault of rows.
-fn fault_number(fault: &NetFault) -> i128
-    ensures { result ≡ pos (faults.number fault.now) }
-{
-    match fault {
-        NetFault::TooMany(_) => 1,
-        NetFault::BadName(_, _) => 2,
-        NetFault::DuplicateName(_, _) => 3,
-        NetFault::UnknownName(_) => 4,
-        NetFault::ArcBackwards(_) => 5,
-        NetFault::PoolToPool(_) => 6,
-        NetFault::DuplicateArc(_) => 7,
-        NetFault::PoolWithoutInput(_) => 8,
-        NetFault::PoolWithoutOutput(_) => 9,
-        NetFault::TooManyPaths => 10,
-        NetFault::OutOfRange(_, _) => 11,
-        NetFault::LeastAboveMost(_) => 12,
-        NetFault::Memory => 13,
-    }
+    write_number(err, i128::from(fault.number()))
 }

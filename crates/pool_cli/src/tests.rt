@@ -15,10 +15,9 @@ pub(crate) const TWO_FEEDS: &str =
 pub(crate) const HAVERLY_1: &str =
     r#"{"version":1,"title":"Haverly 1","qualities":["sulfur"],"sources":[{"name":"A","cost":6,"quality":{"sulfur":3}},{"name":"B","cost":16,"quality":{"sulfur":1}},{"name":"C","cost":10,"quality":{"sulfur":2}}],"pools":[{"name":"P"}],"products":[{"name":"X","price":9,"max":100,"most":{"sulfur":"2.5"}},{"name":"Y","price":15,"max":200,"most":{"sulfur":"1.5"}}],"arcs":[["A","P"],["B","P"],["P","X"],["P","Y"],["C","X"],["C","Y"]]}"#;
 
-/// Networks, and what `solve` answers and prints: one product; one that takes nothing; nothing at all; two sources that
-/// feed a pool; the first network of Haverly (1978), of which no way alone earns; and waste water, where a path and a direct
-/// earn the same, and the path goes first.
-const SOLVED: [(&str, u8, &str); 6] = [
+/// Networks whose cheapest starting plan costs the reach bound, and what `solve` answers and prints: one product; one that takes
+/// nothing; nothing at all; and two sources that feed a pool.
+const SOLVED: [(&str, u8, &str); 4] = [
     (
         ONE_PRODUCT,
         0,
@@ -39,20 +38,38 @@ const SOLVED: [(&str, u8, &str); 6] = [
         0,
         "poolcert 1\nkind gap\nshape 2 1 1 1 2 1 0\nplan 1 1\nweights 1 0\noutflows 100000000\ndirect\nsplits 0\nproofs 0\ncost -300000000000000 1\nbound -300000000000000\ngap 0 1\nend\n",
     ),
-    (
-        HAVERLY_1,
-        10,
-        "poolcert 1\nkind gap\nshape 3 1 2 1 2 2 2\nplan 1 1\nweights 1 0\noutflows 0 0\ndirect 0 0\nsplits 0\nproofs 0\ncost 0 1\nbound -2100000000000000\ngap 2100000000000000 1\nend\n",
-    ),
+];
+
+/// Networks, what `solve` ends with, and how the line begins that `check` prints of its certificate: the first network of
+/// Haverly (1978), of which no way alone earns, and whose bound by rows of PQ is -500 at the root; waste water, where a path
+/// and a direct earn the same, and the path goes first; a product that must take 10 of a source that is too sour; one that must
+/// take something, and can't be reached; and one that must take 10 of two sources, of which none has so much.
+const FOUND: [(&str, u8, &str); 5] = [
+    (HAVERLY_1, 10, "accepted gap cost 0 base 1 bound -50000000"),
     (
         r#"{"version":1,"title":"Outlets of site 4, loads in mg/l, flows in m3/h","qualities":["load"],"sources":[{"name":"W1","cost":1,"max":40,"quality":{"load":120}},{"name":"W2","cost":0,"max":60,"quality":{"load":30}},{"name":"fresh","cost":"0.35","quality":{"load":0}}],"pools":[{"name":"basin 1"},{"name":"basin 2"}],"products":[{"name":"river","price":3,"max":80,"most":{"load":50}},{"name":"sewer","price":1,"max":100,"most":{"load":90}}],"arcs":[["W1","basin 1"],["W2","basin 1"],["W2","basin 2"],["fresh","basin 2"],["basin 1","river"],["basin 1","sewer"],["basin 2","river"],["basin 2","sewer"],["fresh","river"]]}"#,
         10,
-        "poolcert 1\nkind gap\nshape 3 2 2 1 4 4 1\nplan 1 1\nweights 1 0 0 1\noutflows 0 0 80000000 0\ndirect 0\nsplits 0\nproofs 0\ncost -212000000000000 1\nbound -340000000000000\ngap 128000000000000 1\nend\n",
+        "accepted gap cost -212000000000000 base 1 bound -",
+    ),
+    (
+        r#"{"version":1,"qualities":["sulfur"],"sources":[{"name":"A","cost":1,"quality":{"sulfur":3}}],"products":[{"name":"X","price":2,"min":10,"max":100,"most":{"sulfur":2}}],"arcs":[["A","X"]]}"#,
+        12,
+        "accepted none\n",
+    ),
+    (
+        r#"{"version":1,"sources":[],"products":[{"name":"X","price":2,"min":"0.000001","max":1}],"arcs":[]}"#,
+        12,
+        "accepted none\n",
+    ),
+    (
+        r#"{"version":1,"sources":[{"name":"A","cost":1,"max":6,"quality":{}},{"name":"B","cost":1,"max":6,"quality":{}}],"products":[{"name":"X","price":2,"min":10,"max":10}],"arcs":[["A","X"],["B","X"]]}"#,
+        13,
+        "accepted bound -10000000000000\n",
     ),
 ];
 
 /// Files of which no certificate is printed, with the code and the line on standard error.
-const REFUSED: [(&str, u8, &str); 4] = [
+const REFUSED: [(&str, u8, &str); 3] = [
     ("no network", 3, "pool: network refused: 2\n"),
     (
         r#"{"version":1,"sources":[{"name":"A","cost":1,"quality":{}}],"products":[{"name":"A","price":2,"max":1}],"arcs":[]}"#,
@@ -64,11 +81,6 @@ const REFUSED: [(&str, u8, &str); 4] = [
         3,
         "pool: network refused: 9 12\n",
     ),
-    (
-        r#"{"version":1,"sources":[],"products":[{"name":"X","price":2,"min":"0.000001","max":1}],"arcs":[]}"#,
-        41,
-        "pool: minimum not yet\n",
-    ),
 ];
 
 /// Words, parted at each space, and the code that they end with over one file of the name `net`.
@@ -79,8 +91,11 @@ solve net --form p 2
 solve net --nodes 20001 2
 solve net --journal j 2
 report net cert 2
-formulate net 2
-make 7 2
+formulate net 0
+formulate net --form p 0
+formulate other 20
+make 7 0
+make 18446744073709551616 2
 trial 7 2
 help 2
 solve other 20
@@ -141,6 +156,45 @@ fn prints_the_cheapest_start(rt: HostRuntime) -> Result<(), Fail> {
         let status = solved(alloc, file, 1, &mut sink)?;
         assert_eq!(rt; status.code(), code);
         assert_eq!(rt; sink.taken(), certificate.as_bytes());
+    }
+    Ok(())
+}
+
+/// What `check` prints of a certificate in one sink of the network in `file`.
+fn checked(
+    alloc: Global,
+    file: &str,
+    certificate: &MemSink,
+    line: &mut MemSink,
+) -> Result<Status, AllocError> {
+    let mut words = Vec::new(alloc);
+    for word in ["check", "net", "cert"] {
+        words.push(String::from_str(alloc, word)?)?;
+    }
+    let mut files = Vec::new(alloc);
+    files.push((
+        String::from_str(alloc, "net")?,
+        Vec::from_slice(alloc, file.as_bytes())?,
+    ))?;
+    files.push((
+        String::from_str(alloc, "cert")?,
+        Vec::from_slice(alloc, certificate.taken())?,
+    ))?;
+    let mut shelf = MemShelf::new(files, Vec::new(alloc));
+    Ok(run(alloc, &words, &mut shelf, line))
+}
+
+#[test]
+fn accepts_what_it_finds(rt: HostRuntime) -> Result<(), Fail> {
+    let alloc = rt.alloc();
+    for (file, code, front) in FOUND {
+        let mut certificate = MemSink::new(alloc, Vec::new(alloc));
+        let status = solved(alloc, file, 1, &mut certificate)?;
+        assert_eq!(rt; status.code(), code);
+        let mut line = MemSink::new(alloc, Vec::new(alloc));
+        let status = checked(alloc, file, &certificate, &mut line)?;
+        assert_eq!(rt; status.code(), 0);
+        assert!(rt; line.taken().starts_with(front.as_bytes()));
     }
     Ok(())
 }

@@ -3,14 +3,12 @@
 ghost use Rattle.std.specs.Prelude.{◌≡◌, ◌++◌, codes, pos, OnErr};
 ghost use Rattle.edge_io.specs.Counts.{Grows, Rose};
 ghost use Rattle.edge_io.specs.Writing.{Wrote};
-ghost use Rattle.plan_core.specs.Checks as plans;
 ghost use Rattle.row_book.specs.Faults as proofs;
 ghost use Rattle.cert_checker.specs.declared.verdict.Verdict.TheVariants as verdicts;
 ghost use Rattle.pool_cli.specs.Verdicts.{accepted_line, labelled, numbered, refused_line};
 
 use cert_checker::{Refusal, Verdict};
 use edge_io::{Sink, WriteFault, write_number, write_whole};
-use plan_core::PlanFault;
 use row_book::ProofFault;
 use text_buffer::TextBuffer;
 
@@ -85,7 +83,7 @@ fn put_refused<K: Sink>(refusal: &Refusal, out: &mut K) -> Result<(), WriteFault
     match refusal {
         Refusal::Text(fault) => write_placed(b"refused text ", fault.line, out),
         Refusal::Shape => write_whole(out, b"refused shape\n"),
-        Refusal::Plan(fault) => write_placed(b"refused plan ", rule(fault), out),
+        Refusal::Plan(fault) => write_placed(b"refused plan ", u64::from(fault.number()), out),
         Refusal::Split(t) => write_placed(b"refused split ", u64::from(*t), out),
         Refusal::ProofPlace(k) => write_placed(b"refused place ", u64::from(*k), out),
         Refusal::Proof(node, fault) => write_proof_fault(*node, fault, out),
@@ -104,7 +102,7 @@ fn write_proof_fault<K: Sink>(node: u32, fault: &ProofFault, out: &mut K) -> Res
     ensures faults_grow { Grows (K.faults out.old) (K.faults out.new) }
 {
     write_labelled(b"refused proof ", i128::from(node), out)?;
-    write_placed(b" ", place(fault), out)
+    write_placed(b" ", u64::from(fault.number()), out)
 }
 
 /// Writes a line that ends with the number of a place or a cause.
@@ -134,34 +132,4 @@ fn write_labelled<K: Sink>(word: &[u8], n: i128, out: &mut K) -> Result<(), Writ
 {
     write_whole(out, word)?;
     write_number(out, n)
-}
-
-/// The number of a rule that a plan breaks.
-fn rule(fault: &PlanFault) -> u64
-    ensures { result ≡ plans.number fault.now }
-{
-    match fault {
-        PlanFault::Shape => 1,
-        PlanFault::WeightSum(_) => 2,
-        PlanFault::SourceOver(_) => 3,
-        PlanFault::PoolOver(_) => 4,
-        PlanFault::ProductOver(_) => 5,
-        PlanFault::ProductUnder(_) => 6,
-        PlanFault::QualityOver(_, _) => 7,
-        PlanFault::QualityUnder(_, _) => 8,
-    }
-}
-
-/// The number of a fault of a proof.
-fn place(fault: &ProofFault) -> u64
-    ensures { result ≡ proofs.number fault.now }
-{
-    match fault {
-        ProofFault::Order => 1,
-        ProofFault::UnknownRow => 2,
-        ProofFault::Sign => 3,
-        ProofFault::ZeroPart => 4,
-        ProofFault::Wide => 5,
-        ProofFault::ShowsNothing => 6,
-    }
 }

@@ -17,6 +17,10 @@ pub(crate) enum Command {
     Solve(String),
     /// To check a certificate: the names of the network's file and of the certificate's.
     Check(String, String),
+    /// To write the exact program of the network in the file of this name, in this form.
+    Formulate(String, Form),
+    /// To make the network of this number.
+    Make(u64),
 }
 
 /// The command that the words ask.
@@ -34,7 +38,7 @@ pub(crate) fn command_of(alloc: Global, words: &[String]) -> Result<Command, Wor
     }
 }
 
-/// What of a request the program does today: `solve` by its defaults, and `check`.
+/// What of a request the program does today: `solve` by its defaults, `check`, `formulate`, and `make`.
 fn served(request: Request) -> Option<Command>
     ensures some { IfSome result (λ c. shown_request request ≡ asked_of c) }
     ensures none { IfNone result (¬ IsServed (shown_request request)) }
@@ -42,6 +46,8 @@ fn served(request: Request) -> Option<Command>
     match request {
         Request::Solve(words) => plain_solve(words),
         Request::Check(net, cert) => Some(Command::Check(net, cert)),
+        Request::Formulate(net, form) => Some(Command::Formulate(net, form)),
+        Request::Make(number) => Some(Command::Make(number)),
         _ => None,
     }
 }

@@ -1,10 +1,12 @@
-use Rattle.std.proofs.Common.{◌∙◌, map, string_bytes, ap, ap₂, sym, subst}
+use Rattle.std.proofs.Common.{[], ◌∙◌, map, string_bytes, ap, ap₂, sym, subst}
 use Rattle.cli_words.specs.Asks.{Asks}
-use Rattle.cli_words.specs.Requests.{solve, check}
+use Rattle.cli_words.specs.Requests.{solve, check, formulate}
 use Rattle.pool_cli.specs.Ends.{plain_solving}
+use Rattle.pool_cli.specs.FormulateEnds.{formulate_status}
+use Rattle.pool_cli.specs.MakeEnds.{make_status}
 use Rattle.pool_cli.specs.SolveEnds.{solve_status}
 use Rattle.pool_cli.specs.CheckEnds.{check_status}
-use Rattle.pool_cli.proofs.Outcomes.{check_decides, check_took, solve_decides, solve_took}
+use Rattle.pool_cli.proofs.Outcomes.{check_decides, check_took, formulate_decides, formulate_took, make_decides, make_took, solve_decides, solve_took}
 use Rattle.pool_cli.proofs.command.run.Goals as goal
 
 pub check-requires-clause-certificate : goal.check-requires-clause-certificate
@@ -36,3 +38,25 @@ returns-in-Ok-Check-clause-decided g c = λ told asked is asks served.
     let only = rw c.in-Ok-Check.field-0-is at c.in-Ok-Check.ensures.only in
     let named = only asked asks ∙ ap₂ check (sym c.as_str-in-Ok-Check.ensures.value) (sym c.as_str-in-Ok-Check-2.ensures.value) in
     check_decides (g.S.Shelf.files c.args.shelf.now) c.as_str-in-Ok-Check.result.now asked c.from-in-Ok-Check.result (check_status c.check.result) c.from-in-Ok-Check.ensures c.as_str-in-Ok-Check-2.result.now told (g.S.Shelf.taken c.args.shelf.now) (g.S.Shelf.taken c.check.new.shelf) named is c.check.ensures.ends
+
+pub returns-in-Ok-Formulate-clause-took : goal.returns-in-Ok-Formulate-clause-took
+returns-in-Ok-Formulate-clause-took g c = λ asked asks.
+    let only = rw c.in-Ok-Formulate.field-0-is at c.in-Ok-Formulate.ensures.only in
+    let named = only asked asks ∙ ap (λ n. formulate n c.in-Ok-Formulate.form) (sym c.as_str-in-Ok-Formulate.ensures.value) in
+    formulate_took (g.S.Shelf.files c.args.shelf.now) c.as_str-in-Ok-Formulate.result.now asked c.from-in-Ok-Formulate.result (formulate_status c.formulate.result) c.from-in-Ok-Formulate.ensures c.in-Ok-Formulate.form (g.K.Sink.taken c.args.out.now) (g.K.Sink.taken c.formulate.new.out) named c.formulate.ensures.took
+
+pub returns-in-Ok-Formulate-clause-decided : goal.returns-in-Ok-Formulate-clause-decided
+returns-in-Ok-Formulate-clause-decided g c = λ told asked is asks served.
+    let only = rw c.in-Ok-Formulate.field-0-is at c.in-Ok-Formulate.ensures.only in
+    let named = only asked asks ∙ ap (λ n. formulate n c.in-Ok-Formulate.form) (sym c.as_str-in-Ok-Formulate.ensures.value) in
+    formulate_decides (g.S.Shelf.files c.args.shelf.now) c.as_str-in-Ok-Formulate.result.now asked c.from-in-Ok-Formulate.result (formulate_status c.formulate.result) c.from-in-Ok-Formulate.ensures c.in-Ok-Formulate.form told (g.S.Shelf.taken c.args.shelf.now) (g.S.Shelf.taken c.formulate.new.shelf) named is c.formulate.ensures.ends
+
+pub returns-in-Ok-Make-clause-took : goal.returns-in-Ok-Make-clause-took
+returns-in-Ok-Make-clause-took g c = λ asked asks.
+    let only = rw c.in-Ok-Make.field-0-is at c.in-Ok-Make.ensures.only in
+    make_took (g.S.Shelf.files c.args.shelf.now) [] asked c.from-in-Ok-Make.result (make_status c.make.result) c.from-in-Ok-Make.ensures c.in-Ok-Make.number (g.K.Sink.taken c.args.out.now) (g.K.Sink.taken c.make.new.out) (only asked asks) c.make.ensures.took
+
+pub returns-in-Ok-Make-clause-decided : goal.returns-in-Ok-Make-clause-decided
+returns-in-Ok-Make-clause-decided g c = λ told asked is asks served.
+    let only = rw c.in-Ok-Make.field-0-is at c.in-Ok-Make.ensures.only in
+    make_decides (g.S.Shelf.files c.args.shelf.now) [] asked c.from-in-Ok-Make.result (make_status c.make.result) c.from-in-Ok-Make.ensures c.in-Ok-Make.number told (only asked asks) c.make.ensures.ends

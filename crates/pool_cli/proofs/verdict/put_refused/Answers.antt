@@ -1,10 +1,10 @@
 use Rattle.pool_cli.proofs.verdict.put_refused.Goals as goal
 
 pub returns-in-Plan-clause-wrote : goal.returns-in-Plan-clause-wrote
-returns-in-Plan-clause-wrote g c = rw c.in-Plan.is (rw c.rule.ensures at c.write_placed-in-Plan.ensures.wrote)
+returns-in-Plan-clause-wrote g c = rw c.in-Plan.is (rw c.number.ensures at (rw c.from.ensures at c.write_placed-in-Plan.ensures.wrote))
 
 pub returns-in-Split-clause-wrote : goal.returns-in-Split-clause-wrote
-returns-in-Split-clause-wrote g c = rw c.in-Split.is (rw c.from.ensures at c.write_placed-in-Split.ensures.wrote)
+returns-in-Split-clause-wrote g c = rw c.in-Split.is (rw c.from-in-Split.ensures at c.write_placed-in-Split.ensures.wrote)
 
 pub returns-in-ProofPlace-clause-wrote : goal.returns-in-ProofPlace-clause-wrote
 returns-in-ProofPlace-clause-wrote g c = rw c.in-ProofPlace.is (rw c.from-in-ProofPlace.ensures at c.write_placed-in-ProofPlace.ensures.wrote)

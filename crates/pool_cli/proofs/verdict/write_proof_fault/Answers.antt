@@ -16,4 +16,4 @@ returns-in_err-write_labelled-clause-wrote g c =
 pub returns-clause-wrote : goal.returns-clause-wrote
 returns-clause-wrote g c =
     let fits : FitsSigned w128 (pos c.args.node) = search rules in
-    wrote-behind c.write_placed.result (g.K.Sink.taken c.args.out.now) (labelled (codes "refused proof ") (pos c.args.node)) (g.K.Sink.taken c.write_labelled.new.out) (numbered (codes " ") (pos (proofs.number c.args.fault.now))) (g.K.Sink.taken c.write_placed.new.out) (simp to_z-of_z at (rw c.from.ensures at c.in_ok-write_labelled.ensures.wrote)) (rw c.place.ensures at c.write_placed.ensures.wrote)
+    wrote-behind c.write_placed.result (g.K.Sink.taken c.args.out.now) (labelled (codes "refused proof ") (pos c.args.node)) (g.K.Sink.taken c.write_labelled.new.out) (numbered (codes " ") (pos (proofs.number c.args.fault.now))) (g.K.Sink.taken c.write_placed.new.out) (simp to_z-of_z at (rw c.from.ensures at c.in_ok-write_labelled.ensures.wrote)) (rw c.number.ensures at (rw c.from-2.ensures at c.write_placed.ensures.wrote))
