@@ -209,16 +209,16 @@ def row_in_box(constant, coefficients, low, high):          # what they are in t
             3: (-aU * bL, {f: -scale, a: bL, b: aU}), 4: (-aL * bU, {f: -scale, a: bU, b: aL})}[constant]
 
 # THE TREE AND ITS PROOFS
-def grow_tree(net, splits):                                 # low and high ends of each node's box, and the cut nodes
-    lows, highs, cut_nodes = [net.low], [net.high], set()
-    for t, (leaf, coord, cut) in enumerate(splits):
-        refuse(t > 19_999 or leaf > 2 * t or leaf in cut_nodes or coord >= net.coordinates, f"split {t}")
-        low, high = lows[leaf], highs[leaf]
-        refuse(not low[coord] < cut < high[coord], f"split {t}")                                    # cuts the box
-        lows += [low, low[:coord] + [cut] + low[coord + 1:]]
-        highs += [high[:coord] + [cut] + high[coord + 1:], high]
-        cut_nodes.add(leaf)
-    return lows, highs, cut_nodes
+def new_tree(net):                                          # low and high ends of each node's box, and the cut nodes
+    return types.SimpleNamespace(lows=[net.low], highs=[net.high], cut_nodes=set())
+def cut_leaf(net, tree, leaf, coord, cut):
+    t, nodes = len(tree.cut_nodes), len(tree.lows)
+    refuse(t > 19_999 or leaf >= nodes or leaf in tree.cut_nodes or coord >= net.coordinates, f"split {t}")
+    low, high = tree.lows[leaf], tree.highs[leaf]
+    refuse(not low[coord] < cut < high[coord], f"split {t}")                                        # cuts the box
+    tree.lows += [low, low[:coord] + [cut] + low[coord + 1:]]
+    tree.highs += [high[:coord] + [cut] + high[coord + 1:], high]
+    tree.cut_nodes.add(leaf)
 def proof_number(net, proof, low, high):
     node, scale, rows, multipliers = proof[0], proof[1], proof[3::2], proof[4::2]
     refuse(any(a >= b for a, b in zip(rows, rows[1:])), f"proof {node} 1")                          # rows rise strictly
@@ -246,18 +246,19 @@ def reach_bound(net):
     margins = [(j, net.products[j].price - net.sources[s].cost)
                for s, j in net.directs + [(net.feeds[e][0], net.outs[o][1]) for e, o in net.paths]]
     return -sum(p.max * max([0] + [margin for end, margin in margins if end == j]) for j, p in enumerate(net.products))
+def node_bound(net, bound, proof, low, high):               # of the parent's bound, or None where it holds no plan
+    if proof is None: return bound
+    number, scale = proof_number(net, proof, low, high), proof[1]
+    return None if scale == 0 or bound is None else max(bound, number // scale)
 def tree_bound(net, cert):                                  # the least bound of the leaves that have one, or None
-    lows, highs, cut_nodes = grow_tree(net, cert.splits)
+    tree, bounds, proofs = new_tree(net), [], {proof[0]: proof for proof in cert.proofs}
+    for split in cert.splits: cut_leaf(net, tree, *split)
     for line, (node, *_) in enumerate(cert.proofs):
-        refuse(node >= len(lows) or line and node <= cert.proofs[line - 1][0], f"place {line}")
-    proofs, bounds = {proof[0]: proof for proof in cert.proofs}, []
-    for node, (low, high) in enumerate(zip(lows, highs)):
+        refuse(node >= len(tree.lows) or line and node <= cert.proofs[line - 1][0], f"place {line}")
+    for node, (low, high) in enumerate(zip(tree.lows, tree.highs)):
         bound = bounds[cert.splits[(node - 1) // 2][0]] if node else reach_bound(net)       # the parent's
-        if node in proofs:
-            number, scale = proof_number(net, proofs[node], low, high), proofs[node][1]
-            bound = None if scale == 0 or bound is None else max(bound, number // scale)
-        bounds.append(bound)
-    return min((b for node, b in enumerate(bounds) if b is not None and node not in cut_nodes), default=None)
+        bounds.append(node_bound(net, bound, proofs.get(node), low, high))
+    return min((b for node, b in enumerate(bounds) if b is not None and node not in tree.cut_nodes), default=None)
 
 # THE ORDER OF REFUSALS, AND THE COMMAND
 def check(net, data):
