@@ -1,0 +1,66 @@
+//! Proportions of feeds in their pools, and what the pools mix at them.
+
+use crate::outline::{GRAIN, Outline, add_at};
+use lp_factors::lookup::at;
+use std::alloc::{AllocError, Global};
+
+/// Proportions over the grain, with the qualities and the cost of a unit that they give each pool, over the grain too.
+#[derive(Drop)]
+pub struct Blend<'a> {
+    parts: &'a [u32],
+    qualities: Vec<i128>,
+    costs: Vec<i128>,
+}
+
+impl<'a> Blend<'a> {
+    /// What the pools mix at these proportions.
+    pub fn new(
+        alloc: Global,
+        outline: &Outline,
+        parts: &'a [u32],
+    ) -> Result<Blend<'a>, AllocError> {
+        let pools = outline.nodes.pools.len();
+        let places = pools.saturating_mul(outline.quality_count());
+        let mut qualities = vec![in alloc; 0i128; places]?;
+        let mut costs = vec![in alloc; 0i128; pools]?;
+        mix_qualities(outline, parts, &mut qualities);
+        mix_costs(outline, parts, &mut costs);
+        Ok(Blend {
+            parts,
+            qualities,
+            costs,
+        })
+    }
+
+    /// A feed's proportion.
+    pub fn part(&self, feed: usize) -> i128 {
+        i128::from(at(self.parts, feed, 0))
+    }
+
+    /// A quality of a pool.
+    pub fn quality(&self, outline: &Outline, pool: usize, quality: usize) -> i128 {
+        at(&self.qualities, outline.quality_place(pool, quality), 0)
+    }
+
+    /// What a unit from a pool costs.
+    pub fn cost(&self, pool: usize) -> i128 {
+        at(&self.costs, pool, 0)
+    }
+}
+
+fn mix_qualities(outline: &Outline, parts: &[u32], qualities: &mut [i128]) {
+    for (arc, part) in outline.arcs.feeds.iter().zip(parts) {
+        for quality in 0..outline.quality_count() {
+            let number = outline.quality(arc.from, quality);
+            let mixed = i128::from(*part).wrapping_mul(number);
+            add_at(qualities, outline.quality_place(arc.to, quality), mixed);
+        }
+    }
+}
+
+fn mix_costs(outline: &Outline, parts: &[u32], costs: &mut [i128]) {
+    for (arc, part) in outline.arcs.feeds.iter().zip(parts) {
+        let cost = outline.source(arc.from).cost;
+        add_at(costs, arc.to, i128::from(*part).wrapping_mul(cost));
+    }
+}

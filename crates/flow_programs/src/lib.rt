@@ -1,0 +1,29 @@
+//! The flows of least cost at given proportions, and their mending.
+//!
+//! Where the proportions of a network's pools are fixed, its plans are the points of a small linear program in the outflows
+//! and the directs. [`flow_program`] puts it together from an [`Outline`], the network's numbers as plain lists, and a
+//! [`Blend`], what the pools mix; [`SmallProgram::solve`] solves it from the last basis of its kind. [`rounded`] brings
+//! proportions to their base, and [`Flows::mend`] lowers flows that were rounded until they keep each limit again.
+//!
+//! Nobody has to trust any of it: whoever makes a plan of these flows has it checked. So every call is safe and returns for
+//! every value of its arguments, and but for the least cut of mending that is all that is promised. Sums and products wrap,
+//! what is kept is brought into its range, and what is not there counts as nothing.
+//!
+//! Which proportions to try is left to the crate above.
+#![tactic(auto)]
+
+mod blend;
+mod flows;
+mod groups;
+mod mending;
+mod outline;
+mod program;
+mod rounding;
+
+pub use blend::Blend;
+pub use flows::{Layout, flow_program, flows_of};
+pub use groups::Groups;
+pub use mending::Flows;
+pub use outline::{Arc, Arcs, GRAIN, Limit, Meetings, Nodes, Outline, Product, Source};
+pub use program::SmallProgram;
+pub use rounding::rounded;

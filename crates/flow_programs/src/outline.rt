@@ -1,0 +1,348 @@
+//! A network's numbers as plain lists, in which anything may be looked up.
+
+ghost use Rattle.std.specs.Prelude.{◌<◌};
+ghost use Rattle.pool_model.specs.Network.{net_of};
+
+use crate::groups::Groups;
+use blend_network::Network;
+use lp_factors::lookup::at;
+use std::alloc::{AllocError, Global};
+
+/// How many parts a proportion is counted in.
+pub const GRAIN: i128 = 1_048_576;
+
+/// A source: its cost in millionths of money a unit, its maximum in millionths.
+#[derive(Clone, Copy)]
+pub struct Source {
+    pub cost: i128,
+    pub max: i128,
+}
+
+/// A product: its price in millionths of money a unit, its minimum and its maximum in millionths.
+#[derive(Clone, Copy)]
+pub struct Product {
+    pub price: i128,
+    pub min: i128,
+    pub max: i128,
+}
+
+/// An arc, by the numbers of its two ends.
+#[derive(Clone, Copy)]
+pub struct Arc {
+    pub from: usize,
+    pub to: usize,
+}
+
+/// A limit on a quality of a product, in millionths.
+#[derive(Clone, Copy)]
+pub struct Limit {
+    pub quality: usize,
+    pub value: i128,
+    pub is_most: bool,
+}
+
+impl Limit {
+    /// How far a quality keeps from the limit, in millionths; below 0 where it breaks it.
+    pub fn gap(self, quality: i128) -> i128 {
+        self.between(self.value, quality)
+    }
+
+    /// The same for a quality over the grain.
+    pub fn room(self, quality: i128) -> i128 {
+        self.between(self.value.wrapping_mul(GRAIN), quality)
+    }
+
+    fn between(self, limit: i128, quality: i128) -> i128 {
+        if self.is_most {
+            limit.wrapping_sub(quality)
+        } else {
+            quality.wrapping_sub(limit)
+        }
+    }
+}
+
+/// Sources, pools by their maxima, products.
+#[derive(Drop)]
+pub struct Nodes {
+    pub sources: Vec<Source>,
+    pub pools: Vec<i128>,
+    pub products: Vec<Product>,
+}
+
+/// Feeds, outs and directs, and those of them that meet a pool or a product.
+#[derive(Drop)]
+pub struct Arcs {
+    pub feeds: Vec<Arc>,
+    pub outs: Vec<Arc>,
+    pub directs: Vec<Arc>,
+}
+
+/// The arcs by a node at one of their ends.
+#[derive(Drop)]
+pub struct Meetings {
+    pub feeds_into: Groups,
+    pub outs_into: Groups,
+    pub directs_into: Groups,
+}
+
+/// The qualities of the sources, and the limits of the products.
+#[derive(Drop)]
+pub struct Qualities {
+    count: usize,
+    of_sources: Vec<i128>,
+    limits: Vec<Limit>,
+    /// For each product the end of its limits in the list.
+    ends: Vec<usize>,
+}
+
+/// A network's numbers. What is asked for and is not there counts as nothing.
+#[derive(Drop)]
+pub struct Outline {
+    pub nodes: Nodes,
+    pub arcs: Arcs,
+    pub meetings: Meetings,
+    pub qualities: Qualities,
+}
+
+impl Outline {
+    /// Reads a network once.
+    pub fn new(alloc: Global, net: &Network) -> Result<Outline, AllocError> {
+        let nodes = Nodes::new(alloc, net)?;
+        let arcs = Arcs::new(alloc, net)?;
+        let meetings = Meetings::new(alloc, &nodes, &arcs)?;
+        let qualities = Qualities::new(alloc, net)?;
+        Ok(Outline {
+            nodes,
+            arcs,
+            meetings,
+            qualities,
+        })
+    }
+
+    /// A source.
+    pub fn source(&self, source: usize) -> Source {
+        at(&self.nodes.sources, source, Source { cost: 0, max: 0 })
+    }
+
+    /// The most that flows through a pool.
+    pub fn pool_max(&self, pool: usize) -> i128 {
+        at(&self.nodes.pools, pool, 0)
+    }
+
+    /// A product.
+    pub fn product(&self, product: usize) -> Product {
+        let none = Product {
+            price: 0,
+            min: 0,
+            max: 0,
+        };
+        at(&self.nodes.products, product, none)
+    }
+
+    /// The pool from which an out goes, and the product to which it goes.
+    pub fn out(&self, out: usize) -> Arc {
+        at(&self.arcs.outs, out, NO_ARC)
+    }
+
+    /// The source and the product of a direct.
+    pub fn direct(&self, direct: usize) -> Arc {
+        at(&self.arcs.directs, direct, NO_ARC)
+    }
+
+    /// The source and the pool of a feed.
+    pub fn feed(&self, feed: usize) -> Arc {
+        at(&self.arcs.feeds, feed, NO_ARC)
+    }
+
+    /// How many qualities there are.
+    pub fn quality_count(&self) -> usize {
+        self.qualities.count
+    }
+
+    /// A quality of a source, in millionths.
+    pub fn quality(&self, source: usize, quality: usize) -> i128 {
+        let place = self.quality_place(source, quality);
+        at(&self.qualities.of_sources, place, 0)
+    }
+
+    /// Where a quality of a node stands in a list by node and then by quality.
+    pub fn quality_place(&self, node: usize, quality: usize) -> usize {
+        let first = node.wrapping_mul(self.qualities.count);
+        first.wrapping_add(quality)
+    }
+
+    /// The place of a product's first limit among all.
+    pub fn first_limit(&self, product: usize) -> usize {
+        match product.checked_sub(1) {
+            None => 0,
+            Some(before) => at(&self.qualities.ends, before, 0),
+        }
+    }
+
+    /// The limits of a product, most before least.
+    pub fn limits(&self, product: usize) -> &[Limit] {
+        let end = at(&self.qualities.ends, product, 0);
+        let list = self.qualities.limits.as_slice();
+        list.get(self.first_limit(product)..end).unwrap_or(&[])
+    }
+
+    /// How many limits there are.
+    pub fn limit_count(&self) -> usize {
+        self.qualities.limits.len()
+    }
+
+    /// For each pool the sum of the numbers of its feeds.
+    pub fn pool_sums(&self, alloc: Global, numbers: &[i128]) -> Result<Vec<i128>, AllocError> {
+        let mut sums = vec![in alloc; 0i128; self.nodes.pools.len()]?;
+        for (arc, number) in self.arcs.feeds.iter().zip(numbers) {
+            add_at(&mut sums, arc.to, *number);
+        }
+        Ok(sums)
+    }
+
+    /// What each pool sends out.
+    pub fn pool_outflows(&self, alloc: Global, flows: &[u64]) -> Result<Vec<i128>, AllocError> {
+        let mut sums = vec![in alloc; 0i128; self.nodes.pools.len()]?;
+        for (arc, flow) in self.arcs.outs.iter().zip(flows) {
+            add_at(&mut sums, arc.from, i128::from(*flow));
+        }
+        Ok(sums)
+    }
+}
+
+/// An arc that is not there.
+const NO_ARC: Arc = Arc {
+    from: usize::MAX,
+    to: usize::MAX,
+};
+
+/// Adds to the number at a place, if it is there.
+pub fn add_at(numbers: &mut [i128], place: usize, more: i128) {
+    if place < numbers.len() {
+        numbers[place] = numbers[place].wrapping_add(more);
+    }
+}
+
+impl Nodes {
+    fn new(alloc: Global, net: &Network) -> Result<Nodes, AllocError> {
+        let counts = net.sizes();
+        let mut sources = Vec::new(alloc);
+        for source in 0..counts.sources {
+            let cost = i128::from(net.source_cost(source));
+            let max = i128::from(net.source_max(source));
+            sources.push(Source { cost, max })?;
+        }
+        let mut pools = Vec::new(alloc);
+        for pool in 0..counts.pools {
+            pools.push(i128::from(net.pool_max(pool)))?;
+        }
+        let mut products = Vec::new(alloc);
+        for product in 0..counts.products {
+            let price = i128::from(net.product_price(product));
+            let min = i128::from(net.product_min(product));
+            let max = i128::from(net.product_max(product));
+            products.push(Product { price, min, max })?;
+        }
+        Ok(Nodes {
+            sources,
+            pools,
+            products,
+        })
+    }
+}
+
+impl Arcs {
+    fn new(alloc: Global, net: &Network) -> Result<Arcs, AllocError> {
+        let counts = net.sizes();
+        let mut feeds = Vec::new(alloc);
+        for feed in 0..counts.feeds {
+            feeds.push(arc_of(net.feed(feed)))?;
+        }
+        let mut outs = Vec::new(alloc);
+        for out in 0..counts.outs {
+            outs.push(arc_of(net.out(out)))?;
+        }
+        let mut directs = Vec::new(alloc);
+        for direct in 0..counts.directs {
+            directs.push(arc_of(net.direct(direct)))?;
+        }
+        Ok(Arcs {
+            feeds,
+            outs,
+            directs,
+        })
+    }
+}
+
+fn arc_of(ends: (u32, u32)) -> Arc {
+    Arc {
+        from: ends.0 as usize,
+        to: ends.1 as usize,
+    }
+}
+
+impl Meetings {
+    fn new(alloc: Global, nodes: &Nodes, arcs: &Arcs) -> Result<Meetings, AllocError> {
+        let pools = nodes.pools.len();
+        let products = nodes.products.len();
+        Ok(Meetings {
+            feeds_into: Groups::by_end(alloc, &arcs.feeds, pools)?,
+            outs_into: Groups::by_end(alloc, &arcs.outs, products)?,
+            directs_into: Groups::by_end(alloc, &arcs.directs, products)?,
+        })
+    }
+}
+
+impl Qualities {
+    fn new(alloc: Global, net: &Network) -> Result<Qualities, AllocError> {
+        let counts = net.sizes();
+        let mut of_sources = Vec::new(alloc);
+        for source in 0..counts.sources {
+            for quality in 0..counts.qualities {
+                of_sources.push(i128::from(net.source_quality(source, quality)))?;
+            }
+        }
+        let mut limits = Vec::new(alloc);
+        let mut ends = Vec::new(alloc);
+        for product in 0..counts.products {
+            add_limits(net, product, &mut limits)?;
+            ends.push(limits.len())?;
+        }
+        Ok(Qualities {
+            count: counts.qualities as usize,
+            of_sources,
+            limits,
+            ends,
+        })
+    }
+}
+
+/// Adds the limits of a product, its most before its least.
+fn add_limits(net: &Network, product: u32, limits: &mut Vec<Limit>) -> Result<(), AllocError>
+    requires { product < (net_of net.now).products }
+{
+    let counts = net.sizes();
+    for quality in 0..counts.qualities {
+        add_limit(limits, quality, net.product_most(product, quality), true)?;
+    }
+    for quality in 0..counts.qualities {
+        add_limit(limits, quality, net.product_least(product, quality), false)?;
+    }
+    Ok(())
+}
+
+fn add_limit(
+    limits: &mut Vec<Limit>,
+    quality: u32,
+    limit: Option<i64>,
+    is_most: bool,
+) -> Result<(), AllocError> {
+    if let Some(value) = limit {
+        limits.push(Limit {
+            quality: quality as usize,
+            value: i128::from(value),
+            is_most,
+        })?;
+    }
+    Ok(())
+}

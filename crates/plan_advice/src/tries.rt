@@ -1,0 +1,362 @@
+//! In which order plans near a point are tried.
+//!
+//! First the flows of least cost at the point's own proportions. Then steps from the point's own flows, of three radii. Then
+//! steps from the best plan so far, of a radius that doubles where a step gains and shrinks where none does. Last, the
+//! exact vertex at the best plan's proportions.
+//!
+//! Steps go from plans that this search found, and never from the caller's best plan. So who asks again about the same
+//! point, with what he was answered for his best plan, is told nothing new. The caller's best plan only ends a search early,
+//! before the steps from a plan: where the first step's program takes no plan near the point to be cheaper.
+
+use crate::steps::{Place, Reach, step};
+use crate::vertex::{Vertex, vertex_of};
+use blend_network::Network;
+use flow_programs::{Blend, Flows, GRAIN, Layout, Outline, flow_program, flows_of, rounded};
+use lp_factors::lookup::{at, put};
+use plan_core::{Cost, WrittenPlan, check_plan, compare_cost};
+use std::alloc::{AllocError, Global};
+use std::cmp::Ordering;
+
+/// The flow of a pool, in units of 2^-32 millionths, below which it counts as empty.
+const EMPTY: i128 = 4_294_967_296;
+
+/// The steps from the point's own flows. Those of the middle radius are left out once a step has gained.
+const FROM_POINT: [Reach; 5] = [
+    Reach {
+        radius: GRAIN,
+        margin: 0,
+    },
+    Reach {
+        radius: GRAIN,
+        margin: 1,
+    },
+    Reach {
+        radius: MIDDLE,
+        margin: 1,
+    },
+    Reach {
+        radius: NEAR,
+        margin: 1,
+    },
+    Reach {
+        radius: NEAR,
+        margin: 2,
+    },
+];
+
+const MIDDLE: i128 = 209_715;
+
+const NEAR: i128 = 5_242;
+
+/// The radius of the first step from a plan, and the least radius.
+const FIRST_RADIUS: i128 = 314_572;
+
+const LEAST_RADIUS: i128 = 64;
+
+/// How many steps are taken from a plan.
+const STEPS: u32 = 20;
+
+/// What a step from a plan has to gain: a millionth of money, in picos over the grain.
+const LEAST_GAIN: i128 = 1_048_576_000_000;
+
+/// The part of the limit by which a plan may be dearer and still be gone on from, where the first step's program is against
+/// it.
+const NEAR_LIMIT: i128 = 200;
+
+/// A plan that obeys, and what it costs. But for the exact one at the end, all have the grain for their base.
+#[derive(Drop)]
+struct Found {
+    plan: WrittenPlan,
+    cost: Cost,
+}
+
+/// Where steps begin: proportions and outflows.
+#[derive(Drop)]
+struct Start {
+    parts: Vec<u32>,
+    outflows: Vec<u64>,
+}
+
+/// The last bases of the two kinds of programs, from which the next ones start.
+#[derive(Drop)]
+struct Bases {
+    flows: Vec<u32>,
+    steps: Vec<u32>,
+}
+
+/// A search for plans near a point, with the cheapest that was found.
+#[derive(Drop)]
+pub struct Search<'a> {
+    net: &'a Network,
+    outline: &'a Outline,
+    bases: Bases,
+    best: Option<Found>,
+    /// What the best plan of the caller costs, in picos over the grain.
+    limit: Option<i128>,
+    /// What the first step's program takes plans near the point to cost, in picos over the grain.
+    outlook: Option<i128>,
+}
+
+impl<'a> Search<'a> {
+    pub fn new(
+        alloc: Global,
+        net: &'a Network,
+        outline: &'a Outline,
+        limit: Option<Cost>,
+    ) -> Search<'a> {
+        let bases = Bases {
+            flows: Vec::new(alloc),
+            steps: Vec::new(alloc),
+        };
+        Search {
+            net,
+            outline,
+            bases,
+            best: None,
+            limit: limit.map(over_grain),
+            outlook: None,
+        }
+    }
+
+    /// Looks for plans near the point.
+    pub fn run(&mut self, alloc: Global, point: &[i128]) -> Result<(), AllocError> {
+        let start = Start::new(alloc, self.outline, point)?;
+        self.from_point(alloc, &start)?;
+        if self.is_promising() {
+            self.from_plan(alloc)?;
+        }
+        self.exact(alloc)
+    }
+
+    /// The cheapest plan that was found.
+    pub fn into_best(self) -> Option<WrittenPlan> {
+        self.best.map(|found| shortened(found.plan))
+    }
+
+    /// The plans at the point's proportions and after a step from there.
+    fn from_point(&mut self, alloc: Global, start: &Start) -> Result<(), AllocError> {
+        self.at_parts(alloc, Vec::from_slice(alloc, &start.parts)?)?;
+        let first = self.cost();
+        for reach in FROM_POINT {
+            if reach.radius != MIDDLE || self.cost() >= first {
+                self.after_step(alloc, start, reach)?;
+            }
+        }
+        Ok(())
+    }
+
+    /// Steps from the best plan, as long as they gain or can be shorter.
+    fn from_plan(&mut self, alloc: Global) -> Result<(), AllocError> {
+        let mut radius = FIRST_RADIUS;
+        for step in 0..STEPS {
+            let _ = step;
+            if self.gains(alloc, radius)? {
+                radius = radius.wrapping_mul(2).min(GRAIN);
+            } else {
+                radius /= 4;
+            }
+            if radius < LEAST_RADIUS {
+                break;
+            }
+        }
+        Ok(())
+    }
+
+    /// Whether a step of this radius from the best plan gains, with no margin or else with one.
+    fn gains(&mut self, alloc: Global, radius: i128) -> Result<bool, AllocError> {
+        let least = self.cost().wrapping_sub(LEAST_GAIN);
+        match self.start(alloc)? {
+            None => Ok(false),
+            Some(start) => {
+                self.after_step(alloc, &start, Reach { radius, margin: 0 })?;
+                if self.cost() >= least {
+                    self.after_step(alloc, &start, Reach { radius, margin: 1 })?;
+                }
+                Ok(self.cost() < least)
+            }
+        }
+    }
+
+    /// The proportions and the outflows of the best plan.
+    fn start(&self, alloc: Global) -> Result<Option<Start>, AllocError> {
+        match &self.best {
+            None => Ok(None),
+            Some(found) => Ok(Some(Start {
+                parts: Vec::from_slice(alloc, &found.plan.weights)?,
+                outflows: Vec::from_slice(alloc, &found.plan.outflows)?,
+            })),
+        }
+    }
+
+    /// What the best plan costs, in picos over the grain; more than any plan where there is none.
+    fn cost(&self) -> i128 {
+        self.best.as_ref().map_or(i128::MAX, |found| found.cost.num)
+    }
+
+    /// The plan at the proportions to which a step leads.
+    fn after_step(&mut self, alloc: Global, start: &Start, reach: Reach) -> Result<(), AllocError> {
+        let place = Place {
+            parts: &start.parts,
+            outflows: &start.outflows,
+        };
+        match step(alloc, self.outline, place, reach, &mut self.bases.steps)? {
+            None => Ok(()),
+            Some(stepped) => {
+                self.outlook = self.outlook.or(Some(stepped.cost));
+                self.at_parts(alloc, stepped.parts)
+            }
+        }
+    }
+
+    /// Whether steps from the best plan may lead below the limit: the first step's program says so, or the plan is no dearer
+    /// than the limit by more than a part of it.
+    fn is_promising(&self) -> bool {
+        match (self.limit, self.outlook) {
+            (Some(limit), Some(outlook)) => {
+                let above = self.cost().saturating_sub(limit);
+                outlook < limit || above <= limit.wrapping_abs() / NEAR_LIMIT
+            }
+            _ => true,
+        }
+    }
+
+    /// The plan of least cost at these proportions, mended.
+    fn at_parts(&mut self, alloc: Global, parts: Vec<u32>) -> Result<(), AllocError> {
+        if let Some(flows) = self.mended_flows(alloc, &parts)? {
+            self.keep(WrittenPlan {
+                base: 1_048_576,
+                flow_base: 1,
+                weights: parts,
+                outflows: flows.outs,
+                direct: flows.directs,
+            });
+        }
+        Ok(())
+    }
+
+    fn mended_flows(&mut self, alloc: Global, parts: &[u32]) -> Result<Option<Flows>, AllocError> {
+        let blend = Blend::new(alloc, self.outline, parts)?;
+        let mut program = flow_program(alloc, self.outline, &blend)?;
+        match program.solve(alloc, &mut self.bases.flows)? {
+            None => Ok(None),
+            Some(advice) => {
+                let outs = self.outline.arcs.outs.len();
+                let directs = self.outline.arcs.directs.len();
+                let mut flows = Flows {
+                    outs: flows_of(alloc, &advice.point, 0, outs)?,
+                    directs: flows_of(alloc, &advice.point, outs, directs)?,
+                };
+                flows.mend(self.outline, &blend);
+                Ok(Some(flows))
+            }
+        }
+    }
+
+    /// The plan at the vertex of the flows at the best plan's proportions, if it can be had.
+    fn exact(&mut self, alloc: Global) -> Result<(), AllocError> {
+        if let Some(start) = self.start(alloc)? {
+            if let Some(vertex) = self.exact_flows(alloc, &start.parts)? {
+                self.keep(WrittenPlan {
+                    base: 1_048_576,
+                    flow_base: vertex.base,
+                    weights: start.parts,
+                    outflows: vertex.outflows,
+                    direct: vertex.directs,
+                });
+            }
+        }
+        Ok(())
+    }
+
+    fn exact_flows(&mut self, alloc: Global, parts: &[u32]) -> Result<Option<Vertex>, AllocError> {
+        let blend = Blend::new(alloc, self.outline, parts)?;
+        let program = flow_program(alloc, self.outline, &blend)?;
+        let mut short = flow_program(alloc, self.outline, &blend)?;
+        match short.solve(alloc, &mut self.bases.flows)? {
+            None => Ok(None),
+            Some(advice) => vertex_of(alloc, &program, &advice, self.outline.arcs.outs.len()),
+        }
+    }
+
+    /// Keeps a plan that obeys and is cheaper than the best.
+    fn keep(&mut self, plan: WrittenPlan) {
+        if let Ok(cost) = check_plan(self.net, &plan) {
+            if self.is_cheaper(&cost) {
+                self.best = Some(Found { plan, cost });
+            }
+        }
+    }
+
+    fn is_cheaper(&self, cost: &Cost) -> bool {
+        match &self.best {
+            None => true,
+            Some(best) => {
+                cost.base > 0
+                    && best.cost.base > 0
+                    && compare_cost(cost, &best.cost) == Ordering::Less
+            }
+        }
+    }
+}
+
+impl Start {
+    /// A point's own proportions and outflows.
+    fn new(alloc: Global, outline: &Outline, point: &[i128]) -> Result<Start, AllocError> {
+        let feeds = outline.arcs.feeds.len();
+        let outs = outline.arcs.outs.len();
+        Ok(Start {
+            parts: start_parts(alloc, outline, point)?,
+            outflows: flows_of(alloc, point, feeds, outs)?,
+        })
+    }
+}
+
+/// The same plan over the least base, where that is a power of two.
+fn shortened(plan: WrittenPlan) -> WrittenPlan {
+    let mut plan = plan;
+    let mut bits = plan.base.trailing_zeros();
+    for weight in plan.weights.iter() {
+        bits = bits.min(weight.trailing_zeros());
+    }
+    plan.base = plan.base.unbounded_shr(bits);
+    for weight in plan.weights.iter_mut() {
+        *weight = weight.unbounded_shr(bits);
+    }
+    plan
+}
+
+/// A cost in picos over the grain.
+fn over_grain(cost: Cost) -> i128 {
+    let picos = cost.num.checked_div(i128::from(cost.base)).unwrap_or(0);
+    picos.wrapping_mul(GRAIN)
+}
+
+/// The point's own proportions: what flows along the feeds or, for a pool that is nearly empty, the point's proportions
+/// themselves.
+fn start_parts(alloc: Global, outline: &Outline, point: &[i128]) -> Result<Vec<u32>, AllocError> {
+    let feeds = outline.arcs.feeds.len();
+    let mut numbers = Vec::with_capacity(alloc, feeds)?;
+    for feed in 0..feeds {
+        numbers.push(at(point, feed, 0).max(0))?;
+    }
+    let totals = outline.pool_sums(alloc, &numbers)?;
+    let first = first_proportion(outline);
+    for (feed, arc) in outline.arcs.feeds.iter().enumerate() {
+        if at(&totals, arc.to, 0) < EMPTY {
+            let number = at(point, first.saturating_add(feed), 0);
+            put(&mut numbers, feed, number.max(0));
+        }
+    }
+    rounded(alloc, outline, &numbers)
+}
+
+/// The variable of the first proportion: it stands behind the flows of arcs and of paths.
+fn first_proportion(outline: &Outline) -> usize {
+    let mut first = Layout::new(outline).feeds;
+    first = first.saturating_add(outline.arcs.feeds.len());
+    for arc in outline.arcs.outs.iter() {
+        let feeds = outline.meetings.feeds_into.of(arc.from).len();
+        first = first.saturating_add(feeds);
+    }
+    first
+}

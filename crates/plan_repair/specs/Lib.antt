@@ -1,0 +1,4 @@
+pub mod PlainPlan
+pub mod PoolSums
+pub mod Repairs
+pub mod Choices
