@@ -1,0 +1,12 @@
+use Rattle.node_journal.proofs.Births.{kept-own}
+use Rattle.node_journal.proofs.Decided.{own_stands, kept_of}
+use Rattle.node_journal.proofs.laws.own_law.Goals as goal
+
+pub returns-clause-stands : goal.returns-clause-stands
+returns-clause-stands c = own_stands
+
+pub returns-clause-kept_at : goal.returns-clause-kept_at
+returns-clause-kept_at c = kept_of
+
+pub returns-clause-kept : goal.returns-clause-kept
+returns-clause-kept c = λ text file list kept. kept-own text list file kept

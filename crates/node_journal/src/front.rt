@@ -1,0 +1,57 @@
+//! The state of a file that is on the disk, by what stands before its records.
+
+ghost use Rattle.std.specs.Prelude.{◌≡◌, ◌≤◌, ◌⊎◌, ℕ, List, Some, Ok, length, take, IsTrue, IfOk, IfErr, OnOk, MatchResult, IsErrOf};
+ghost use Rattle.edge_io.specs.Counts.{Rose};
+ghost use Rattle.disk_model.specs.Disks.{Reaches, LeavesOnly};
+ghost use Rattle.node_journal.specs.Files.{header};
+ghost use Rattle.node_journal.specs.Faults.{Has, IsFree};
+ghost use Rattle.node_journal.specs.States.{IsIn};
+ghost use Rattle.node_journal.specs.Settled.{IsSameDisk};
+
+use crate::fault::JournalFault;
+use crate::head::{State, state_of};
+use crate::synced::read_back;
+use disk_model::Disk;
+use std::alloc::Global;
+
+/// The state of the file, whose length is `end`; `head` is what a born file of the text begins with.
+pub(crate) fn find_state<D: Disk>(
+    alloc: Global,
+    disk: &mut D,
+    end: u64,
+    head: &[u8],
+) -> Result<State, JournalFault>
+    requires { IsTrue (D.tells disk.old) → Reaches (D.reads disk.old) end }
+    ensures state { (text file : List ℕ) → D.reads disk.old ≡ Some file → end ≡ length file → head.now ≡ header 1 text →
+        MatchResult result (IsIn text file) (λ e. IsFree e ⊎ ((largest : ℕ) → Has text largest file e)) }
+    ensures long { result ≡ Ok State.Born → length head.now ≤ end }
+    ensures same { OnOk result (D.reads disk.new ≡ D.reads disk.old) }
+    ensures quiet { LeavesOnly D.moment D.left_since disk.old disk.new (D.may_leave disk.old) }
+    ensures same_disk { IsSameDisk D.faults D.tells D.admits disk.old disk.new }
+    ensures failed { IsErrOf result JournalFault.Disk → Rose (D.faults disk.old) (D.faults disk.new) }
+{
+    let front = read_front(alloc, disk, end, head.len())?;
+    state_of(&front, head)
+}
+
+/// The first bytes of the file, as many as are asked for, or all that there are.
+fn read_front<D: Disk>(
+    alloc: Global,
+    disk: &mut D,
+    end: u64,
+    most: usize,
+) -> Result<Vec<u8>, JournalFault>
+    requires { IsTrue (D.tells disk.old) → Reaches (D.reads disk.old) end }
+    ensures front { IfOk result (λ v. (file : List ℕ) → D.reads disk.old ≡ Some file → end ≡ length file → v.items ≡ take most file) }
+    ensures size { IfOk result (λ v. length v.items ≤ end) }
+    ensures free { IfErr result IsFree }
+    ensures same { OnOk result (D.reads disk.new ≡ D.reads disk.old) }
+    ensures quiet { LeavesOnly D.moment D.left_since disk.old disk.new (D.may_leave disk.old) }
+    ensures same_disk { IsSameDisk D.faults D.tells D.admits disk.old disk.new }
+    ensures failed { IsErrOf result JournalFault.Disk → Rose (D.faults disk.old) (D.faults disk.new) }
+{
+    let size = end.min(most as u64) as usize;
+    let mut front = vec![in alloc; 0_u8; size]?;
+    read_back(disk, 0, front.as_mut_slice())?;
+    Ok(front)
+}

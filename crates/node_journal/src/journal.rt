@@ -1,0 +1,302 @@
+//! The journal: opened on a file, and entries put behind it.
+
+ghost use Rattle.std.specs.Prelude.{◌≡◌, ◌+◌, ◌-◌, ◌^◌, ◌<◌, ◌≤◌, ◌⊎◌, [], ◌∷◌, ◌++◌, ℕ, List, Some, false, length, take, drop, map, is_err, IsTrue, IfOk, IfErr, IfSome, OnOk, OnErr, IsErrOf};
+ghost use Rattle.std.specs.List.{AllByRecursion};
+ghost use Rattle.edge_io.specs.Counts.{Rose};
+ghost use Rattle.disk_model.specs.Disks.{Reaches, LeavesOnly};
+ghost use Rattle.row_model.specs.Entries as entries;
+ghost use Rattle.box_tree.specs.Views.{shown_entry};
+ghost use Rattle.node_journal.specs.Payload.{payload, IsNarrow, EntryFits};
+ghost use Rattle.node_journal.specs.Files.{newborn, IsClosed, IsShut, IsUnborn, SaysZeroed, IsRecordable, Stands, IsKept, IsOwn, IsOwnFor};
+ghost use Rattle.node_journal.specs.Faults.{Has, IsFree, IsAllowed, IsDecided};
+ghost use Rattle.node_journal.specs.Records.{IsKeptAt, IsHeaded};
+ghost use Rattle.node_journal.specs.Journals.{IsSound, IsLeft, IsBeforeOrAfter, IsOpenedAs, behind_gate};
+ghost use Rattle.node_journal.specs.Settled.{IsOnDisk, IsSettled, IsSameDisk};
+
+use crate::birth::give_birth;
+use crate::fault::JournalFault;
+use crate::fields::u32_field;
+use crate::front::find_state;
+use crate::head::{State, newborn_file};
+use crate::page::Page;
+use crate::records::read_records;
+use crate::synced::{measure, write_synced};
+use crate::writing::{payload_len, put_payload};
+use box_tree::Entry;
+use disk_model::{Disk, DiskFailed};
+use std::alloc::Global;
+use std::marker::Model;
+
+/// How many bytes a record has beside its payload, with the closed gate behind it, and without its own gate.
+const FRAME: usize = 5;
+
+/// A journal that is open: where its last gate stands, which is closed, and the room that a record is put together in.
+#[derive(Drop)]
+pub struct Journal {
+    gate: u64,
+    page: Page,
+    failed: bool,
+}
+
+impl Model for Journal {
+    ghost use Rattle.std.specs.Prelude.{◌≡◌, ◌+◌, ◌-◌, ◌^◌, ◌≤◌};
+    ghost use Rattle.node_journal.specs.Journals.{Ready, IsSound};
+
+    ghost Value = { Ready };
+
+    ghost view = { λ j. record { gate = j.gate; largest = j.page.room - 5; failed = j.failed } };
+
+    ghost invariant = { λ j. IsSound j.gate j.page.room };
+}
+
+/// A journal that was opened, and the entries of its file, in order.
+#[derive(Drop)]
+pub struct Opened {
+    pub journal: Journal,
+    pub entries: Vec<Entry>,
+}
+
+impl Journal {
+    /// Whether a call failed. The journal has to be opened again then.
+    pub fn has_failed(&self) -> bool
+        ensures { result ≡ self.now.failed }
+    {
+        self.failed
+    }
+
+    /// Records an entry. At `Ok` it is acknowledged: every crash from then on leaves a file that has it. After `DiskFailed` the
+    /// journal has failed, and is opened again. No memory is taken.
+    pub fn append<D: Disk>(&mut self, disk: &mut D, entry: &Entry) -> Result<(), DiskFailed>
+        // The disk reads as this journal left it, and a crash leaves that.
+        requires left { IsTrue (D.tells disk.old) → IsLeft self.old (D.reads disk.old) (D.may_leave disk.old) }
+        requires usable { self.old.failed ≡ false }
+        requires short { length (payload (shown_entry entry.now)) ≤ self.old.largest }
+        requires narrow { IsNarrow (shown_entry entry.now) }
+
+        ensures acknowledged { OnOk result ((text file : List ℕ) (list : List entries.Entry) →
+            IsOnDisk file (D.reads disk.old) (D.may_leave disk.old) → IsKeptAt self.old.gate text list file →
+            (after : List ℕ) × IsOnDisk after (D.reads disk.new) (D.may_leave disk.new) × IsKeptAt self.new.gate text (list ++ shown_entry entry.now ∷ []) after) }
+        // A crash at any moment of the call leaves the entries from before it, with the new one or without.
+        ensures any_moment { (text file : List ℕ) (list : List entries.Entry) →
+            IsOnDisk file (D.reads disk.old) (D.may_leave disk.old) → IsKeptAt self.old.gate text list file →
+            LeavesOnly D.moment D.left_since disk.old disk.new (IsBeforeOrAfter text list (shown_entry entry.now)) }
+
+        ensures usable { self.new.failed ≡ is_err result }
+        ensures same_largest { self.new.largest ≡ self.old.largest }
+        ensures failed { OnErr result (Rose (D.faults disk.old) (D.faults disk.new)) }
+        ensures same_disk { IsSameDisk D.faults D.tells D.admits disk.old disk.new }
+    {
+        let gate = self.gate;
+        let size = payload_len(entry) as u32;
+        fill(&mut self.page, size, entry);
+        match write_record(disk, gate, self.page.bytes()) {
+            Ok(()) => {
+                self.gate = gate + FRAME as u64 + u64::from(size);
+                Ok(())
+            }
+            Err(DiskFailed) => {
+                self.failed = true;
+                Err(DiskFailed)
+            }
+        }
+    }
+
+    /// Opens the journal of a text on the file that is attached. A file in which no journal has come to be yet is made one without
+    /// entries. `largest` is the length of the longest payload that a record may have. It begins with a sync.
+    pub fn open<D: Disk>(
+        alloc: Global,
+        disk: &mut D,
+        text: &[u8],
+        largest: u32,
+    ) -> Result<Opened, JournalFault>
+        requires attached { IsTrue (D.tells disk.old) → Reaches (D.reads disk.old) 0 }
+        requires text { length text.now ≤ 2 ^ 20 }
+        requires largest { largest ≤ 2 ^ 20 }
+
+        // What the file stands for is what is answered, and it holds that now.
+        ensures entries { IfOk result (λ o. (file : List ℕ) → D.reads disk.old ≡ Some file → Stands file text.now (map shown_entry o.entries.items)) }
+        ensures allowed { IfOk result (λ o. (file : List ℕ) → D.reads disk.old ≡ Some file → AllByRecursion (IsAllowed largest) (map shown_entry o.entries.items)) }
+        ensures left { IfOk result (λ o. (file : List ℕ) → D.reads disk.old ≡ Some file →
+            (now : List ℕ) × IsOnDisk now (D.reads disk.new) (D.may_leave disk.new) × IsKeptAt o.journal.gate text.now (map shown_entry o.entries.items) now) }
+        ensures usable { IfOk result (λ o. o.journal.failed ≡ false) }
+        ensures largest { IfOk result (λ o. o.journal.largest ≡ largest) }
+
+        // The fault is one that the file has, or of the disk, or of memory.
+        ensures refused { IfErr result (λ e. (file : List ℕ) → D.reads disk.old ≡ Some file → IsFree e ⊎ Has text.now largest file e) }
+        // A fault that it has is answered, and of a file that stands for entries none but those two can be.
+        ensures decided { (file : List ℕ) → D.reads disk.old ≡ Some file → IsDecided text.now largest file result }
+        ensures taken { (file : List ℕ) (list : List entries.Entry) → D.reads disk.old ≡ Some file → Stands file text.now list → AllByRecursion (IsAllowed largest) list → IfErr result IsFree }
+
+        // A crash at any moment leaves what it might have left before, or a file that is the journal's and stands for the same.
+        ensures any_moment { (file : List ℕ) (list : List entries.Entry) → D.reads disk.old ≡ Some file → IsOwn text.now file → Stands file text.now list →
+            LeavesOnly D.moment D.left_since disk.old disk.new (λ c. D.may_leave disk.old c ⊎ IsOwnFor text.now list c) }
+        // A file that is refused is left as it is.
+        ensures untouched { IfErr result (λ e. IsFree e ⊎ LeavesOnly D.moment D.left_since disk.old disk.new (D.may_leave disk.old)) }
+
+        ensures failed { IsErrOf result JournalFault.Disk → Rose (D.faults disk.old) (D.faults disk.new) }
+        ensures same_disk { IsSameDisk D.faults D.tells D.admits disk.old disk.new }
+    {
+        let room = vec![in alloc; 0_u8; largest as usize + FRAME]?;
+        let whole = newborn_file(alloc, text)?;
+        let end = measure(disk)?;
+        open_measured(alloc, disk, end, &whole, room)
+    }
+
+    /// A journal whose last gate stands at this place.
+    fn at(gate: u64, room: Vec<u8>) -> Journal
+        requires { IsSound gate (length room.items) }
+        ensures { result ≡ record { gate = gate; largest = length room.items - 5; failed = false } }
+    {
+        Journal {
+            gate,
+            page: Page::new(room),
+            failed: false,
+        }
+    }
+}
+
+/// Opens the journal on a file that is on the disk and has this length; `whole` is the file of a journal without entries.
+fn open_measured<D: Disk>(
+    alloc: Global,
+    disk: &mut D,
+    end: u64,
+    whole: &[u8],
+    room: Vec<u8>,
+) -> Result<Opened, JournalFault>
+    requires settled { IsTrue (D.tells disk.old) → IsSettled (D.reads disk.old) (D.may_leave disk.old) }
+    requires size { IfSome (D.reads disk.old) (λ file. end ≡ length file) }
+    requires end { end ≤ 2 ^ 62 }
+    requires whole { (text : List ℕ) × (whole.now ≡ newborn text) }
+    requires short { length whole.now ≤ 2 ^ 21 }
+    requires room { IsSound 0 (length room.items) }
+    ensures opened { IfOk result (λ o. (text file : List ℕ) → IsOnDisk file (D.reads disk.old) (D.may_leave disk.old) → whole.now ≡ newborn text →
+        IsOpenedAs text (length room.items - 5) file (map shown_entry o.entries.items) o.journal.gate (D.reads disk.new) (D.may_leave disk.new)) }
+    ensures journal { IfOk result (λ o. o.journal ≡ record { gate = o.journal.gate; largest = length room.items - 5; failed = false }) }
+    ensures refused { IfErr result (λ e. (text file : List ℕ) → IsOnDisk file (D.reads disk.old) (D.may_leave disk.old) → whole.now ≡ newborn text →
+        IsFree e ⊎ Has text (length room.items - 5) file e) }
+    ensures any_moment { (text file : List ℕ) (list : List entries.Entry) → IsOnDisk file (D.reads disk.old) (D.may_leave disk.old) → whole.now ≡ newborn text →
+        IsOwn text file → Stands file text list → LeavesOnly D.moment D.left_since disk.old disk.new (λ c. D.may_leave disk.old c ⊎ IsOwnFor text list c) }
+    ensures untouched { IfErr result (λ e. IsFree e ⊎ LeavesOnly D.moment D.left_since disk.old disk.new (D.may_leave disk.old)) }
+    ensures failed { IsErrOf result JournalFault.Disk → Rose (D.faults disk.old) (D.faults disk.new) }
+    ensures same_disk { IsSameDisk D.faults D.tells D.admits disk.old disk.new }
+{
+    let head = &whole[..whole.len() - 1];
+    match find_state(alloc, disk, end, head)? {
+        State::Born => recover(alloc, disk, head.len() as u64, end, room),
+        State::Unborn => bear(alloc, disk, false, whole, room),
+        State::Zeroed => bear(alloc, disk, true, whole, room),
+    }
+}
+
+/// Makes an unborn file a journal without entries.
+fn bear<D: Disk>(
+    alloc: Global,
+    disk: &mut D,
+    zeroed: bool,
+    whole: &[u8],
+    room: Vec<u8>,
+) -> Result<Opened, JournalFault>
+    requires settled { IsTrue (D.tells disk.old) → IsSettled (D.reads disk.old) (D.may_leave disk.old) }
+    requires whole { 1 ≤ length whole.now }
+    requires short { length whole.now ≤ 2 ^ 21 }
+    requires room { IsSound 0 (length room.items) }
+    requires zeroed { (file : List ℕ) → D.reads disk.old ≡ Some file → SaysZeroed zeroed file }
+    ensures opened { IfOk result (λ o. (text file : List ℕ) → IsOnDisk file (D.reads disk.old) (D.may_leave disk.old) → whole.now ≡ newborn text → IsUnborn file →
+        IsOpenedAs text (length room.items - 5) file (map shown_entry o.entries.items) o.journal.gate (D.reads disk.new) (D.may_leave disk.new)) }
+    ensures journal { IfOk result (λ o. o.journal ≡ record { gate = o.journal.gate; largest = length room.items - 5; failed = false }) }
+    ensures free { IfErr result IsFree }
+    ensures any_moment { (text file : List ℕ) → IsOnDisk file (D.reads disk.old) (D.may_leave disk.old) → IsUnborn file → IsOwn text file →
+        whole.now ≡ newborn text → LeavesOnly D.moment D.left_since disk.old disk.new (IsOwnFor text []) }
+    ensures failed { IsErrOf result JournalFault.Disk → Rose (D.faults disk.old) (D.faults disk.new) }
+    ensures same_disk { IsSameDisk D.faults D.tells D.admits disk.old disk.new }
+{
+    give_birth(disk, zeroed, whole)?;
+    Ok(Opened {
+        journal: Journal::at(whole.len() as u64 - 1, room),
+        entries: Vec::new(alloc),
+    })
+}
+
+/// Reads the entries of a born file whose records begin at `start`, and sees that a closed gate stands behind them.
+fn recover<D: Disk>(
+    alloc: Global,
+    disk: &mut D,
+    start: u64,
+    end: u64,
+    room: Vec<u8>,
+) -> Result<Opened, JournalFault>
+    requires settled { IsTrue (D.tells disk.old) → IsSettled (D.reads disk.old) (D.may_leave disk.old) }
+    requires size { IfSome (D.reads disk.old) (λ file. end ≡ length file) }
+    requires start { start ≤ end }
+    requires end { end ≤ 2 ^ 62 }
+    requires room { IsSound 0 (length room.items) }
+    ensures opened { IfOk result (λ o. (text file : List ℕ) → IsOnDisk file (D.reads disk.old) (D.may_leave disk.old) → IsHeaded text start file →
+        IsOpenedAs text (length room.items - 5) file (map shown_entry o.entries.items) o.journal.gate (D.reads disk.new) (D.may_leave disk.new)) }
+    ensures journal { IfOk result (λ o. o.journal ≡ record { gate = o.journal.gate; largest = length room.items - 5; failed = false }) }
+    ensures refused { IfErr result (λ e. (text file : List ℕ) → IsOnDisk file (D.reads disk.old) (D.may_leave disk.old) → IsHeaded text start file →
+        IsFree e ⊎ Has text (length room.items - 5) file e) }
+    ensures quiet { (text file : List ℕ) (list : List entries.Entry) → IsOnDisk file (D.reads disk.old) (D.may_leave disk.old) → IsHeaded text start file →
+        IsKept text list file → LeavesOnly D.moment D.left_since disk.old disk.new (D.may_leave disk.old) }
+    ensures untouched { IfErr result (λ e. IsFree e ⊎ LeavesOnly D.moment D.left_since disk.old disk.new (D.may_leave disk.old)) }
+    ensures failed { IsErrOf result JournalFault.Disk → Rose (D.faults disk.old) (D.faults disk.new) }
+    ensures same_disk { IsSameDisk D.faults D.tells D.admits disk.old disk.new }
+{
+    let mut payload = vec![in alloc; 0_u8; room.len() - FRAME]?;
+    let (entries, gate) = read_records(alloc, disk, start, end, payload.as_mut_slice())?;
+    shut(disk, gate, end)?;
+    Ok(Opened {
+        journal: Journal::at(gate, room),
+        entries,
+    })
+}
+
+/// Writes a closed gate where a file ends without one.
+fn shut<D: Disk>(disk: &mut D, gate: u64, end: u64) -> Result<(), DiskFailed>
+    requires settled { IsTrue (D.tells disk.old) → IsSettled (D.reads disk.old) (D.may_leave disk.old) }
+    requires size { IfSome (D.reads disk.old) (λ file. end ≡ length file) }
+    requires within { gate ≤ end }
+    ensures on_disk { OnOk result ((file : List ℕ) → IsOnDisk file (D.reads disk.old) (D.may_leave disk.old) → end ≡ length file → IsClosed (drop gate file) →
+        (now : List ℕ) × IsOnDisk now (D.reads disk.new) (D.may_leave disk.new) × (take gate now ≡ take gate file) × IsShut (drop gate now)) }
+    ensures quiet { gate < end → LeavesOnly D.moment D.left_since disk.old disk.new (D.may_leave disk.old) }
+    ensures failed { OnErr result (Rose (D.faults disk.old) (D.faults disk.new)) }
+    ensures same_disk { IsSameDisk D.faults D.tells D.admits disk.old disk.new }
+{
+    if gate < end {
+        return Ok(());
+    }
+    write_synced(disk, gate, &[0])
+}
+
+/// Puts together what is written behind the last gate: the length of the payload, the payload, and a closed gate.
+#[tactic(auto, using(crate::proofs::Lengths::sizes))]
+fn fill(page: &mut Page, size: u32, entry: &Entry)
+    requires size { size ≡ length (payload (shown_entry entry.now)) }
+    requires narrow { IsNarrow (shown_entry entry.now) }
+    requires room { size + 5 ≤ page.old.room }
+    ensures bytes { page.new ≡ record { bytes = behind_gate (shown_entry entry.now); room = page.old.room } }
+    ensures fits { EntryFits (shown_entry entry.now) }
+{
+    page.clear();
+    page.put(&u32_field(size));
+    put_payload(page, entry);
+    page.put(&[0]);
+}
+
+/// Writes a record behind the last gate, and then opens that gate; each is on the disk before what follows.
+fn write_record<D: Disk>(disk: &mut D, gate: u64, behind: &[u8]) -> Result<(), DiskFailed>
+    requires near { gate ≤ 2 ^ 62 }
+    requires left { IsTrue (D.tells disk.old) → (text : List ℕ) × (list : List entries.Entry) × (file : List ℕ) ×
+        IsOnDisk file (D.reads disk.old) (D.may_leave disk.old) × IsKeptAt gate text list file }
+    ensures on_disk { OnOk result ((text file : List ℕ) (list : List entries.Entry) (e : entries.Entry) →
+        IsOnDisk file (D.reads disk.old) (D.may_leave disk.old) → IsKeptAt gate text list file → IsRecordable e → behind.now ≡ behind_gate e →
+        (now : List ℕ) × IsOnDisk now (D.reads disk.new) (D.may_leave disk.new) × IsKeptAt (gate + length behind.now) text (list ++ e ∷ []) now) }
+    ensures any_moment { (text file : List ℕ) (list : List entries.Entry) (e : entries.Entry) →
+        IsOnDisk file (D.reads disk.old) (D.may_leave disk.old) → IsKeptAt gate text list file → IsRecordable e → behind.now ≡ behind_gate e →
+        LeavesOnly D.moment D.left_since disk.old disk.new (IsBeforeOrAfter text list e) }
+    ensures short { OnOk result (gate + length behind.now ≤ 2 ^ 62) }
+    ensures failed { OnErr result (Rose (D.faults disk.old) (D.faults disk.new)) }
+    ensures same_disk { IsSameDisk D.faults D.tells D.admits disk.old disk.new }
+{
+    write_synced(disk, gate + 1, behind)?;
+    write_synced(disk, gate, &[1])
+}
