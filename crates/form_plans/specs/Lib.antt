@@ -1,0 +1,3 @@
+pub mod Slices
+pub mod Faults
+pub mod Taken

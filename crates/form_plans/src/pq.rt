@@ -1,0 +1,23 @@
+//! The written plan of a point of form Pq.
+
+ghost use Rattle.std.specs.Prelude.{IfErr, IfOk, OnOk};
+ghost use Rattle.pool_model.specs.Network.{net_of};
+ghost use Rattle.plan_core.specs.Views.{shown_plan};
+ghost use Rattle.form_plans.specs.Taken.{HasPlanOfPq, IsFaultOfPq, IsPropPlan};
+
+use crate::fault::FormFault;
+use crate::q;
+use blend_network::Network;
+use plan_core::WrittenPlan;
+use program_points::PropPoint;
+use std::alloc::Global;
+
+/// The written plan of a point, as of one of form Q: its further rows hold at each of those.
+pub fn plan_of(alloc: Global, net: &Network, point: &PropPoint) -> Result<WrittenPlan, FormFault>
+    ensures plan { IfOk result (λ w. IsPropPlan (net_of net.now) point.now (shown_plan w)) }
+    ensures has_plan { OnOk result (HasPlanOfPq (net_of net.now) point.now) }
+    ensures fault { IfErr result (IsFaultOfPq (net_of net.now) point.now) }
+{
+    let _sizes = net.sizes();
+    q::plan_of(alloc, net, point)
+}

@@ -1,0 +1,3 @@
+-- Lemmas on divisors and multiples.
+pub mod CommonDivisors
+pub mod Multiples

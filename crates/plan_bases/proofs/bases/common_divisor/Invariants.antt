@@ -1,0 +1,6 @@
+use Rattle.std.proofs.Common.{ℕ, get_or}
+use Rattle.plan_bases.specs.Divisors.{IsDivisorOf}
+use Rattle.plan_bases.proofs.bases.common_divisor.Given as goal
+
+abbrev pub invariant-loop-part : goal.invariant-loop-part
+invariant-loop-part l = IsDivisorOf l.start (λ i. get_or l.parts i 0) l.part-index l.divisor

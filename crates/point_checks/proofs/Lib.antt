@@ -1,0 +1,3 @@
+-- Lemmas on points of form Q.
+pub mod PropPoints
+pub mod Tests

@@ -1,0 +1,31 @@
+-- Tests of a fact at each number below a count, and of facts that are the same.
+use Rattle.std.proofs.Common.{◌≡◌, ℕ, ◌+◌, ◌<◌, ◌≤◌, ◌^◌, Bool, true, false, ◌↔◌, IsTrue, ℤ, ◌+ℤ◌, unsigned_abs, arith, refl, subst}
+use Rattle.std.proofs.lemmas.Bool.{false≢true}
+use Rattle.std.proofs.lemmas.Int.{ints}
+use mir.Syntax.{w128}
+use mir.Val.{to_z, of_z}
+use Rattle.pool_model.specs.Network.{Net}
+use Rattle.flow_checks.specs.Qualities.{MeetsLimits}
+
+-- where the fact fails at a number, it doesn't hold at each
+pub never_every : (P : ℕ → Type 0) (i m : ℕ) → i < m → (P i → IsTrue false) → (IsTrue false → (k : ℕ) → k < m → P k) × (((k : ℕ) → k < m → P k) → IsTrue false)
+never_every P i m lt fails = (λ e. absurd (false≢true e), λ h. fails (h i lt))
+
+-- where it held at each number so far, up to the count
+pub every : (P : ℕ → Type 0) (i m : ℕ) → m ≤ i → ((k : ℕ) → k < i → P k) → (IsTrue true → (k : ℕ) → k < m → P k) × (((k : ℕ) → k < m → P k) → IsTrue true)
+every P i m le h = (λ e k lt. h k (omega arith), λ _. refl)
+
+-- a fact that needs another, which fails
+pub never : (P Q : Type 0) → (P → IsTrue false) → (Q → P) → (IsTrue false → Q) × (Q → IsTrue false)
+never P Q fails f = (λ e. absurd (false≢true e), λ q. fails (f q))
+
+-- two facts that are the same
+pub same-test : (P Q : Type 0) (b : Bool) → (IsTrue b ↔ P) → (P → Q) → (Q → P) → (IsTrue b → Q) × (Q → IsTrue b)
+same-test P Q b h f g = (λ e. f (h.0 e), λ q. h.1 (g q))
+
+pub meets-same : (n : Net) (j k a b : ℕ) (x y : ℤ) → a ≡ b → x ≡ y → MeetsLimits n j k a x → MeetsLimits n j k b y
+meets-same n j k a b x y e f m = subst (λ (z : ℤ). MeetsLimits n j k b z) f (subst (λ (c : ℕ). MeetsLimits n j k c x) e m)
+
+-- the code's sum of two qualities
+pub wide_sum : (t p : ℤ) → unsigned_abs t ≤ 2 ^ 122 → unsigned_abs p ≤ 2 ^ 122 → to_z w128 (of_z w128 (to_z w128 (of_z w128 t) +ℤ to_z w128 (of_z w128 p))) ≡ t +ℤ p
+wide_sum t p h k = omega (arith, ints)

@@ -1,0 +1,4 @@
+-- Lemmas behind the laws.
+pub mod PlanFlows
+pub mod Least
+pub mod Bounds

@@ -1,0 +1,3 @@
+pub mod LeastBases
+pub mod Plans
+pub mod Bounds

@@ -1,0 +1,6 @@
+-- Lemmas on points of written plans.
+pub mod WrittenQ
+pub mod WrittenP
+pub mod SamePoints
+pub mod Lists
+pub mod Totals

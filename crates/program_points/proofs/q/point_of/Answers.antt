@@ -1,0 +1,28 @@
+use Rattle.std.proofs.Common.{ℕ, List, ◌*◌, map, refl, ap, ◌∙◌}
+use Rattle.pool_model.specs.Network.{net_of}
+use Rattle.plan_core.specs.Views.{shown_plan}
+use Rattle.program_points.proofs.Lists.{times-table, props-held, props-flows, props-cost}
+use Rattle.program_points.proofs.q.point_of.Goals as goal
+
+pub returns-clause-lists : goal.returns-clause-lists
+returns-clause-lists c =
+    let n = net_of c.args.net.now in
+    let plan = c.args.plan.now in
+    record {
+      base = c.denominator.ensures;
+      prop_base = refl;
+      props = c.in_ok-props.ensures.items ∙ c.as_slice.ensures.value;
+      x = c.in_ok-x.ensures;
+      y = c.in_ok-y.ensures ∙ ap (λ (xs : List ℕ). map (λ (f : ℕ). plan.base * f) xs) c.as_slice-2.ensures.value ∙ times-table plan.base plan.outflows.items n.outs c.requires.written.outflows;
+      z = c.in_ok-z.ensures ∙ ap (λ (xs : List ℕ). map (λ (f : ℕ). plan.base * f) xs) c.as_slice-3.ensures.value ∙ times-table plan.base plan.direct.items n.directs c.requires.written.direct;
+      along = c.in_ok-w.ensures;
+    }
+
+pub returns-clause-point : goal.returns-clause-point
+returns-clause-point c = props-held (net_of c.args.net.now) (shown_plan c.args.plan.now) _ c.sizes-sizes.ensures.limited c.requires.written c.requires.obeys (returns-clause-lists c)
+
+pub returns-clause-flows : goal.returns-clause-flows
+returns-clause-flows c = props-flows (net_of c.args.net.now) (shown_plan c.args.plan.now) _ (returns-clause-lists c)
+
+pub returns-clause-cost : goal.returns-clause-cost
+returns-clause-cost c = props-cost (net_of c.args.net.now) (shown_plan c.args.plan.now) _ (returns-clause-lists c)

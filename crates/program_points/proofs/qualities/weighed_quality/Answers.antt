@@ -1,0 +1,39 @@
+use Rattle.std.proofs.Common.{◌≡◌, ◌≤◌, ◌+◌, ◌*◌, ◌^◌, ℕ, List, ℤ, pos, ◌*ℤ◌, unsigned_abs, get_or, FitsSigned, rules, arith, subst, sym, ap, ◌∙◌}
+use mir.Syntax.{w64, w128}
+use mir.Val.{to_z}
+use Rattle.std.proofs.lemmas.Int.{to_z-of_z}
+use Rattle.std.proofs.lemmas.List.{take_all}
+use Rattle.integers.specs.Sums.{int_sum_by, int_sum_at}
+use Rattle.integers.proofs.Numbers.{numbers_at-sum}
+use Rattle.pool_model.specs.Network.{net_of}
+use Rattle.program_points.proofs.Totals.{added, added-small, term-more}
+use Rattle.program_points.proofs.qualities.weighed_quality.Goals as goal
+
+pub loop-feed-preserved : goal.loop-feed-preserved
+loop-feed-preserved c =
+    let n = net_of c.args.net.now in
+    let items = c.numbers_at-feed-items.result.now in
+    let i = c.loop-feed.feed-index in
+    let e = get_or items i 0 in
+    let s = to_z w128 c.loop-feed.sum-bits in
+    let p = c.weighted-sum.result in
+    let narrow : FitsSigned w64 c.source_quality.result = search rules in
+    let few : i ≤ 512 = omega (arith, c.numbers_at-feed-items.ensures.few, c.loop-feed-test.true) in
+    let exact = added s p (2 ^ 95 * i) c.loop-feed.invariant.1 (omega arith) (omega (arith, c.weighted-sum.ensures.small)) in
+    let term = λ (f : ℕ). n.source_quality (n.feed_source f) c.args.quality *ℤ pos (get_or c.as_slice-weights.result.now f 0) in
+    let read = c.source_quality.ensures ∙ ap (λ (source : ℕ). n.source_quality source c.args.quality) c.feed-source.ensures.source in
+    let part : p ≡ term e = (simp to_z-of_z at c.weighted-sum.ensures.value) ∙ ap (λ (z : ℤ). z *ℤ pos (get_or c.as_slice-weights.result.now e 0)) read in (
+      exact ∙ term-more term items i s p c.loop-feed-test.true c.loop-feed.invariant.0 part,
+      subst (λ (z : ℤ). unsigned_abs z ≤ 2 ^ 95 * (i + 1)) (sym exact) (added-small s p i c.loop-feed.invariant.1 c.weighted-sum.ensures.small),
+    )
+
+pub returns : goal.returns
+returns c =
+    let n = net_of c.args.net.now in
+    let term = λ (f : ℕ). n.source_quality (n.feed_source f) c.args.quality *ℤ pos (get_or c.as_slice-weights.result.now f 0) in
+    record {
+      value = c.loop-feed.invariant.0
+          ∙ ap (λ (xs : List ℕ). int_sum_by term xs) (take_all c.loop-feed.feed-index c.numbers_at-feed-items.result.now c.loop-feed-test.false ∙ c.numbers_at-feed-items.ensures.numbers)
+          ∙ numbers_at-sum term n.feed_pool c.args.pool n.feeds
+          ∙ ap (λ (ws : List ℕ). int_sum_at n.feed_pool c.args.pool (λ (f : ℕ). n.source_quality (n.feed_source f) c.args.quality *ℤ pos (get_or ws f 0)) n.feeds) c.as_slice-weights.ensures.value;
+    }
