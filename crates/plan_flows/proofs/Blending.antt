@@ -1,0 +1,72 @@
+-- The quality that reaches a product, by pool weights and by the blending rules.
+use Rattle.std.proofs.Common.{◌≡◌, ℕ, ◌*◌, ◌<◌, ◌≤◌, ◌⊎◌, inl, inr, ℤ, pos, ◌+ℤ◌, ◌*ℤ◌, arith, refl, sym, ap, ◌∙◌}
+use Rattle.std.proofs.Math.Nat.{mul-le-mul, mul-zero}
+use Rattle.std.proofs.Math.IntN.{*ℤ-zero}
+use Rattle.integers.specs.Sums.{product_below, int_sum_at, product_but}
+use Rattle.integers.proofs.Ring.{sorted, mul-add}
+use Rattle.integers.proofs.AtKey.{int_sum_at-same, int_sum_at-mul, product_but_is, term-le-sum_at}
+use Rattle.pool_model.specs.Network.{Net}
+use Rattle.pool_model.specs.Plan.{Written, weight, written_out, written_outflow, plan_of, mix, factor, quality_inflow}
+use Rattle.plan_core.specs.Weighed.{weighed, written_quality}
+use Rattle.plan_core.proofs.Blends.{outflow-plan_of}
+
+-- products in another order
+last_first : (q a b : ℤ) → q *ℤ (a *ℤ b) ≡ b *ℤ (q *ℤ a)
+last_first q a b = simp sorted refl
+
+base_joined : (m t p r y : ℤ) → m *ℤ (t *ℤ p) *ℤ (r *ℤ y) ≡ (m *ℤ (r *ℤ t)) *ℤ (p *ℤ y)
+base_joined m t p r y = simp sorted refl
+
+-- a pool's quality in the plan: its outflow times what the weights give
+mix-plan_of : (n : Net) (w : Written) (l k : ℕ) → mix n (plan_of n w) l k ≡ pos (written_outflow n w l) *ℤ weighed n w l k
+mix-plan_of n w l k =
+    let quality = λ (e : ℕ). n.source_quality (n.feed_source e) k in
+    int_sum_at-same n.feed_pool l (λ e. quality e *ℤ pos (weight w e * written_outflow n w (n.feed_pool e))) (λ e. pos (written_outflow n w l) *ℤ (quality e *ℤ pos (weight w e))) n.feeds
+    (λ e lt is. ap (λ i. quality e *ℤ pos (weight w e * written_outflow n w i)) is ∙ last_first (quality e) (pos (weight w e)) (pos (written_outflow n w l)))
+    ∙ int_sum_at-mul n.feed_pool l (pos (written_outflow n w l)) (λ e. quality e *ℤ pos (weight w e)) n.feeds
+
+zero_or_more : (t : ℕ) → (t ≡ 0) ⊎ (1 ≤ t)
+zero_or_more t = grind arith
+
+all_zero : (a : ℤ) (r : ℕ) (m p : ℤ) → a *ℤ pos (r * 0) ≡ m *ℤ (p *ℤ pos 0)
+all_zero a r m p = rw (mul-zero, *ℤ-zero, *ℤ-zero, *ℤ-zero) refl
+
+-- the product of the factors of all pools
+abbrev factors : Net → Written → ℤ
+factors n w = pos (product_below (factor n (plan_of n w)) n.pools)
+
+-- one out: its pool's other factors times its mix are all factors times what the weights give
+out-plan_of : (n : Net) (w : Written) (k o : ℕ) → o < n.outs → n.out_pool o < n.pools → 0 < w.base →
+    pos (product_but (n.out_pool o) (factor n (plan_of n w)) n.pools) *ℤ mix n (plan_of n w) (n.out_pool o) k *ℤ pos (w.base * written_out w o)
+    ≡ factors n w *ℤ (weighed n w (n.out_pool o) k *ℤ pos (written_out w o))
+out-plan_of n w k o lt in_pools positive =
+    let l = n.out_pool o in
+    let t = written_outflow n w l in
+    let f = factor n (plan_of n w) in
+    let others = product_but l f n.pools in
+    let given = weighed n w l k in
+    let small : written_out w o ≤ t = term-le-sum_at n.out_pool l (written_out w) n.outs o lt refl in
+    elim (zero_or_more t) [
+      | inl z ↦ let none : written_out w o ≡ 0 = omega arith in
+          ap (λ y. pos others *ℤ mix n (plan_of n w) l k *ℤ pos (w.base * y)) none
+          ∙ all_zero (pos others *ℤ mix n (plan_of n w) l k) w.base (pos (product_below f n.pools)) given
+          ∙ sym (ap (λ y. pos (product_below f n.pools) *ℤ (given *ℤ pos y)) none)
+      | inr m ↦ let whole : f l ≡ w.base * t = omega (arith, outflow-plan_of n w l, mul-le-mul positive m) in
+          ap (λ z. pos others *ℤ z *ℤ pos (w.base * written_out w o)) (mix-plan_of n w l k)
+          ∙ base_joined (pos others) (pos t) given (pos w.base) (pos (written_out w o))
+          ∙ ap (λ z. pos z *ℤ (given *ℤ pos (written_out w o))) (sym (ap (λ z. others * z) whole) ∙ product_but_is l f n.pools in_pools)
+    ]
+
+-- the quality inflow of the blending rules is the factors of all pools times what the weights give
+pub inflow-plan_of : (n : Net) (w : Written) (j k : ℕ) → ((o : ℕ) → o < n.outs → n.out_pool o < n.pools) → 0 < w.base
+    → quality_inflow n (plan_of n w) j k ≡ pos (product_below (factor n (plan_of n w)) n.pools) *ℤ written_quality n w j k
+inflow-plan_of n w j k arcs positive =
+    let m = factors n w in
+    let through = λ (o : ℕ). weighed n w (n.out_pool o) k *ℤ pos (written_out w o) in
+    let straight = int_sum_at n.direct_product j (λ e. n.source_quality (n.direct_source e) k *ℤ pos ((plan_of n w).direct e)) n.directs in
+    ap (λ z. z +ℤ m *ℤ straight)
+    (int_sum_at-same n.out_product j
+    (λ o. pos (product_but (n.out_pool o) (factor n (plan_of n w)) n.pools) *ℤ mix n (plan_of n w) (n.out_pool o) k *ℤ pos (w.base * written_out w o)) (λ o. m *ℤ through o) n.outs
+    (λ o lt is. out-plan_of n w k o lt (arcs o lt) positive)
+    ∙ int_sum_at-mul n.out_product j m through n.outs)
+    ∙ sym (mul-add m (int_sum_at n.out_product j through n.outs) straight)

@@ -1,0 +1,3 @@
+-- Lemmas on the flows and qualities of plans.
+pub mod Blending
+pub mod Rooms

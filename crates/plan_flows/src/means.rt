@@ -1,0 +1,39 @@
+//! A product's mean of a quality.
+
+ghost use Rattle.std.specs.Prelude.{◌≡◌, ◌<◌, ◌+◌, pos};
+ghost use Rattle.pool_model.specs.Network.{net_of};
+ghost use Rattle.pool_model.specs.Plan.{IsWritten, Obeys, plan_of, product_inflow};
+ghost use Rattle.plan_core.specs.Views.{shown_plan};
+ghost use Rattle.plan_core.specs.Weighed.{HasRoom, written_quality};
+ghost use Rattle.plan_flows.specs.Means.{IsMean};
+
+use crate::nodes::product_flow;
+use crate::qualities::{pooled_quality, sent_quality};
+use blend_network::Network;
+use plan_core::WrittenPlan;
+
+/// How much of a quality reaches a product, and what flows into it, both over the plan's denominator: the first over the second is the
+/// product's mean of the quality, in millionths.
+pub fn mean(net: &Network, plan: &WrittenPlan, j: u32, k: u32) -> (i128, i128)
+    requires written { IsWritten (net_of net.now) (shown_plan plan.now) }
+    requires obeys { Obeys (net_of net.now) (plan_of (net_of net.now) (shown_plan plan.now)) }
+    requires product { j < (net_of net.now).products }
+    requires quality { k < (net_of net.now).qualities }
+    requires inflow { 0 < product_inflow (net_of net.now) (plan_of (net_of net.now) (shown_plan plan.now)) j }
+    ensures { IsMean (net_of net.now) (plan_of (net_of net.now) (shown_plan plan.now)) j k result.0 result.1 }
+{
+    // A network is limited, so the numbers of a plan that obeys it have room.
+    let _counts = net.sizes();
+    let quality = reaching(net, plan, j, k);
+    (quality, product_flow(net, plan, j) as i128)
+}
+
+/// How much of a quality reaches a product, from pools and directly.
+fn reaching(net: &Network, plan: &WrittenPlan, product: u32, quality: u32) -> i128
+    requires written { IsWritten (net_of net.now) (shown_plan plan.now) }
+    requires room { HasRoom (net_of net.now) (shown_plan plan.now) }
+    requires quality { quality < (net_of net.now).qualities }
+    ensures { result ≡ written_quality (net_of net.now) (shown_plan plan.now) product quality }
+{
+    pooled_quality(net, plan, product, quality) + sent_quality(net, plan, product, quality)
+}

@@ -1,0 +1,14 @@
+use Rattle.std.proofs.Common.{◌≡◌}
+use Rattle.edge_io.specs.Counts.{Grows}
+use Rattle.edge_io.specs.Writing.{behind}
+use Rattle.pool_model.specs.Network.{net_of}
+use Rattle.pool_model.specs.Plan.{plan_of}
+use Rattle.plan_core.specs.Views.{shown_plan}
+use Rattle.text_pieces.specs.Pieces.{each_below}
+use Rattle.pool_report.specs.Lines.{pool_slack_line}
+use Rattle.pool_report.proofs.slacks.write_pools.Given as goal
+
+abbrev pub invariant-loop-pool : goal.invariant-loop-pool
+invariant-loop-pool g l =
+    (g.K.Sink.taken l.out ≡ behind (g.K.Sink.taken l.fn.out) (each_below (pool_slack_line l.net (plan_of (net_of l.net) (shown_plan l.plan))) l.pool))
+    × Grows (g.K.Sink.faults l.fn.out) (g.K.Sink.faults l.out)

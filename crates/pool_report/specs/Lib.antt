@@ -1,0 +1,4 @@
+pub mod Names
+pub mod Amounts
+pub mod Lines
+pub mod Report

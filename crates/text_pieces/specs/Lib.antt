@@ -1,0 +1,3 @@
+pub mod Rounding
+pub mod Decimals
+pub mod Pieces
