@@ -1,0 +1,79 @@
+-- Plans that are repaired: what repair answers, said of the tree, and whether a plan was repaired.
+use Rattle.std.proofs.Common.{◌≡◌, List, length, Bool, true, false, not, ◌||◌, Option, Some, None, Result, Ok, Err, IfOk, ℤ, inr, refl, sym, ap, subst, ◌∙◌}
+use Rattle.std.specs.Prelude.{IfSome, IfNone, MatchOption}
+use Rattle.std.specs.Option.{ForSome, option_copied, is_some}
+use Rattle.std.proofs.lemmas.Option.{none-some}
+use denote.Ref.{Bor}
+use Rattle.edge_io.specs.declared.Memory.{Memory}
+use Rattle.pool_model.specs.Network.{Net}
+use Rattle.pool_model.specs.Plan.{Written}
+use Rattle.plan_core.specs.Views.{shown_plan}
+use Rattle.plan_core.specs.declared.plan.WrittenPlan.{WrittenPlan}
+use Rattle.plan_repair.specs.Choices.{shown_best}
+use Rattle.plan_repair.specs.PlainPlan.{plain_plan}
+use Rattle.plan_repair.specs.Repairs.{IsAccepted, IsGain, IsNoDearer}
+use Rattle.row_model.specs.Entries.{Searched, IsSearched, IsPlanInOrder}
+use Rattle.row_model.specs.Variables.{variables}
+use Rattle.box_tree.proofs.Improving.{some_at}
+use Rattle.search_core.specs.Cases.{IsBetterStart, HasNoBetterStart, IsRepair, HasNoRepair, IsRepairedBy}
+
+-- ---- the best plan, as it is lent
+
+-- where it is lent, it is the tree's
+abbrev pub IsLent : Searched → Option (Bor WrittenPlan) → Type 0
+IsLent s o = MatchOption o (s.best ≡ None) (λ p. s.best ≡ Some (shown_plan p.now))
+
+pub lent-same : (s : Searched) (o : Option (Bor WrittenPlan)) → IsLent s o → shown_best (option_copied o) ≡ s.best
+lent-same s None e = sym e
+lent-same s (Some p) e = sym e
+
+pub lent-accepted : (n : Net) (s : Searched) (o : Option (Bor WrittenPlan)) → IsSearched n s → IsLent s o → ForSome (option_copied o) (λ b. IsAccepted n (shown_plan b))
+lent-accepted n s None is e = λ b at. absurd (none-some b at)
+lent-accepted n s (Some p) is e =
+    some_at (λ (b : WrittenPlan). IsAccepted n (shown_plan b)) p.now record { written = is.written (shown_plan p.now) e; obeys = is.obeys (shown_plan p.now) e }
+
+-- ---- what repair answers
+
+module _ (n : Net) (s : Searched) (best : Option WrittenPlan) (same : shown_best best ≡ s.best) (point : List ℤ) (long : length point ≡ variables n) where
+  pub repair-some : (r : Result (Option WrittenPlan) Memory) → IfOk r (λ o. IfSome o (λ w. IsGain n (shown_best best) (shown_plan w)))
+      → IfOk r (λ o. IfSome o (λ w. IsAccepted n (plain_plan n point) → IsNoDearer n (shown_plan w) (plain_plan n point)))
+      → IfOk r (λ o. IfSome o (λ w. IsRepair n s (shown_plan w)))
+  repair-some (Ok (Some w)) gain dear = record { point = point; long = long; gain = subst (λ (b : Option Written). IsGain n b (shown_plan w)) same gain; no_dearer = dear }
+  repair-some (Ok None) gain dear = tt
+  repair-some (Err m) gain dear = tt
+
+  pub repair-none : (repaired : Bool) (r : Result (Option WrittenPlan) Memory) → IfOk r (λ o. IfNone o (¬ IsGain n (shown_best best) (plain_plan n point)))
+      → IfOk r (λ o. IfNone o (HasNoRepair n s repaired))
+  repair-none repaired (Ok (Some w)) vain = tt
+  repair-none repaired (Ok None) vain = inr record { point = point; long = long; vain = λ gain. vain (subst (λ (b : Option Written). IsGain n b (plain_plan n point)) (sym same) gain) }
+  repair-none repaired (Err m) vain = tt
+
+pub repair-order : (n : Net) (s : Searched) (w : Written) → IsRepair n s w → IsPlanInOrder n s w
+repair-order n s w is = record { written = is.gain.accepted.written; obeys = is.gain.accepted.obeys; cheaper = is.gain.cheaper }
+
+-- ---- whether a plan was repaired
+
+pub repaired-by : (n : Net) (s : Searched) (before new : Bool) → (new ≡ true → HasNoBetterStart n s) → (new ≡ false → ¬ HasNoBetterStart n s) → IsRepairedBy n s before (before || new)
+repaired-by n s true new none some = record { repaired = λ _. refl; started = λ w is. refl }
+repaired-by n s false true none some = record { repaired = λ _. refl; started = λ w is. absurd (none refl w is) }
+repaired-by n s false false none some = record { repaired = λ lacks. absurd (some refl lacks); started = λ w is. refl }
+
+-- what holds anyhow holds where there is a plan
+pub repair-clear : (P : Type 0) (r : Result (Option WrittenPlan) Memory) → P → IfOk r (λ o. IfSome o (λ _. P))
+repair-clear P (Ok (Some w)) h = h
+repair-clear P (Ok None) h = tt
+repair-clear P (Err m) h = tt
+
+-- the same where none was repaired before, of a better starting plan that is lent
+pub repaired-now : (n : Net) (s : Searched) (before none : Bool) (o : Option (Bor WrittenPlan)) → before ≡ false → is_some o ≡ not none → IfSome o (λ w. IsBetterStart n s (shown_plan w.now))
+    → IfNone o (HasNoBetterStart n s) → IsRepairedBy n s before none
+repaired-now n s before none o clear is some lack =
+    subst (λ (b : Bool). IsRepairedBy n s b none) (sym clear) (repaired-by n s false none (λ e. lacks o (is ∙ ap (λ (b : Bool). not b) e) lack) (λ e. has o (is ∙ ap (λ (b : Bool). not b) e) some))
+  where
+    lacks : (p : Option (Bor WrittenPlan)) → is_some p ≡ false → IfNone p (HasNoBetterStart n s) → HasNoBetterStart n s
+    lacks None e h = h
+    lacks (Some w) e h = absurd (cc)
+
+    has : (p : Option (Bor WrittenPlan)) → is_some p ≡ true → IfSome p (λ w. IsBetterStart n s (shown_plan w.now)) → ¬ HasNoBetterStart n s
+    has None e h = absurd (cc)
+    has (Some w) e h = λ nothing. nothing (shown_plan w.now) h

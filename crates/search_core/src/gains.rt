@@ -1,0 +1,104 @@
+//! What the cuts of the tree gained, by coordinate: pseudocosts, as in M. Bénichou et al., Experiments in mixed-integer linear
+//! programming, 1971, read from the bounds of the nodes.
+
+use crate::search::Search;
+use lp_factors::fixed::clamped;
+use lp_factors::lookup::{at, put};
+use std::alloc::{AllocError, Global};
+
+/// How much of a gain counts: thousandths of money.
+const GAIN_UNIT: i128 = 1_000_000_000;
+
+/// What a leaf's bound may rise to while there is no plan, above it: 2^60 picos.
+const FAR_ABOVE: i128 = 1_152_921_504_606_846_976;
+
+/// The sums of gains and the counts of cuts, by coordinate and in all.
+#[derive(Drop)]
+pub(crate) struct Gains {
+    sums: Vec<i128>,
+    counts: Vec<i128>,
+    sum: i128,
+    count: i128,
+}
+
+impl Search {
+    /// What no bound needs to pass: what the best plan costs, in picos.
+    pub(crate) fn limit(&self, bound: i128) -> i128 {
+        match self.tree.best_cost() {
+            None => bound.saturating_add(FAR_ABOVE),
+            Some(cost) => cost
+                .num
+                .checked_div_euclid(i128::from(cost.base))
+                .unwrap_or(bound),
+        }
+    }
+
+    /// What the cuts so far gained, for so many coordinates.
+    pub(crate) fn gains(
+        &self,
+        alloc: Global,
+        coords: u32,
+        limit: i128,
+    ) -> Result<Gains, AllocError> {
+        let mut gains = Gains {
+            sums: vec![in alloc; 0i128; coords as usize]?,
+            counts: vec![in alloc; 0i128; coords as usize]?,
+            sum: 0,
+            count: 0,
+        };
+        let mut node = 1u32;
+        for split in self.tree.splits() {
+            let from = self.tree.node_bound(split.leaf);
+            let left = gain(from, self.tree.node_bound(node), limit);
+            let right = gain(from, self.tree.node_bound(node.saturating_add(1)), limit);
+            gains.add(split.coord, left, right);
+            node = node.saturating_add(2);
+        }
+        Ok(gains)
+    }
+}
+
+impl Gains {
+    /// Adds a cut: the geometric mean of what its halves gained, and a tenth of the greater.
+    fn add(&mut self, coord: u32, left: i64, right: i64) {
+        let product = u128::from(left.unsigned_abs()).saturating_mul(right.unsigned_abs().into());
+        let mean = clamped(i128::try_from(product.isqrt()).unwrap_or(0));
+        let gained = i128::from(mean).saturating_add(i128::from(left.max(right) / 10));
+        let place = coord as usize;
+        let sum = at(&self.sums, place, 0).saturating_add(gained);
+        put(&mut self.sums, place, sum);
+        let count = at(&self.counts, place, 0).saturating_add(1);
+        put(&mut self.counts, place, count);
+        self.sum = self.sum.saturating_add(gained);
+        self.count = self.count.saturating_add(1);
+    }
+
+    /// A score times what the coordinate's cuts gained over what all gained, as if it had three cuts more of the mean.
+    pub(crate) fn weigh(&self, coord: u32, score: i128) -> i128 {
+        if self.sum <= 0 {
+            return score;
+        }
+        let place = coord as usize;
+        let gained = at(&self.sums, place, 0)
+            .saturating_mul(self.count)
+            .saturating_add(self.sum.saturating_mul(3));
+        let mean = at(&self.counts, place, 0)
+            .saturating_add(3)
+            .saturating_mul(self.sum);
+        let ratio = gained
+            .saturating_mul(1024)
+            .checked_div(mean)
+            .unwrap_or(1024)
+            .max(10);
+        i128::from(clamped(score))
+            .saturating_mul(ratio)
+            .unbounded_shr(10)
+    }
+}
+
+/// How far a half's bound is above its leaf's, at most up to the limit.
+fn gain(from: Option<i128>, half: Option<i128>, limit: i128) -> i64 {
+    let reached = half.unwrap_or(limit).min(limit);
+    let gained = reached.saturating_sub(from.unwrap_or(limit));
+    clamped((gained / GAIN_UNIT).max(0))
+}

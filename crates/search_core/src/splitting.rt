@@ -1,0 +1,68 @@
+//! The split of the least leaf.
+
+ghost use Rattle.std.specs.Prelude.{◌≡◌, ◌<◌, ◌⊎◌, None, IfOk, length};
+ghost use Rattle.pool_model.specs.Network.{net_of};
+ghost use Rattle.row_model.specs.Entries.{IsEntryInOrder};
+ghost use Rattle.box_tree.specs.Views.{shown_entry};
+ghost use Rattle.search_core.specs.Benches.{IsBench};
+ghost use Rattle.search_core.specs.Searches.{searched, IsSearchOf};
+ghost use Rattle.search_core.specs.Cases.{HasPlan};
+ghost use Rattle.search_core.specs.Leaves.{IsSolvedLeaf};
+ghost use Rattle.search_core.specs.Next.{GoesOn, IsNext, IsDo};
+
+use crate::bench::Bench;
+use crate::halving::Halving;
+use crate::leaf::{Leaf, leaf_view};
+use crate::next::Next;
+use crate::search::Search;
+use blend_network::Network;
+use box_tree::Entry;
+use branching::CutRule;
+use edge_io::Memory;
+use std::alloc::Global;
+
+impl Search {
+    /// The split of the least leaf, whose program stands on the bench, where the rule says; or that it can't be cut.
+    pub(crate) fn split_leaf(
+        &self,
+        alloc: Global,
+        net: &Network,
+        rule: &CutRule,
+        leaf: &Leaf,
+        bench: &mut Bench,
+    ) -> Result<Next, Memory>
+        requires search { IsSearchOf (net_of net.now) self.now }
+        requires going { GoesOn (net_of net.now) self.now.options (searched self.now) self.now.repaired }
+        requires few { length (searched self.now).tree.splits < self.now.options.nodes }
+        requires leaf { IsSolvedLeaf (net_of net.now) (searched self.now) leaf.now }
+        requires bench { IsBench (net_of net.now) bench.old }
+        requires form { bench.old.form ≡ self.now.options.form }
+        ensures next { IfOk result (IsNext (net_of net.now) self.now.options (searched self.now) self.now.repaired (⟦<branching::RuleClosure as Fn(&branching::LeafView) -> usize>⟧.post rule.now.closure)) }
+        ensures in_order { IfOk result (IsDo (λ entry. IsEntryInOrder (net_of net.now) (searched self.now) (shown_entry entry))) }
+    {
+        let looked = self.look(alloc, net, leaf, bench)?;
+        let form = self.options.form;
+        let misses = looked.misses.as_slice();
+        let view = leaf_view(alloc, net, form, leaf.node, &leaf.ends, misses)?;
+        if !view.has_open() {
+            return Ok(self.stuck());
+        }
+        let split = rule.pick(&view);
+        let pivots = self.options.pivots;
+        let halvings = looked.halvings;
+        let halving = bench.proved_at(alloc, net, leaf, halvings, split.coord, pivots)?;
+        let Halving { left, right, .. } = halving;
+        Ok(Next::Do(Entry::SplitOf(split, left, right)))
+    }
+
+    /// The answer where the least leaf can't be cut.
+    fn stuck(&self) -> Next
+        ensures { ((result ≡ Next.Stuck) × HasPlan (searched self.now)) ⊎ ((result ≡ Next.Undecided) × ((searched self.now).best ≡ None)) }
+    {
+        if self.tree.best_plan().is_some() {
+            Next::Stuck
+        } else {
+            Next::Undecided
+        }
+    }
+}
