@@ -1,3 +1,4 @@
+mod Gaps
 mod Networks
 mod Outcomes
 mod Solutions

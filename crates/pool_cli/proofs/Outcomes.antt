@@ -1,23 +1,26 @@
 -- What an outcome tells of the files, and what the files tell of the outcome.
-use Rattle.std.proofs.Common.{◌≡◌, ℕ, ◌*◌, inl, inr, List, length, Bool, true, false, if◌then◌else◌, Option, None, Some, ℤ, pos, int_le, refl, sym, ap, subst, arith}
+use Rattle.std.proofs.Common.{◌≡◌, ℕ, inl, inr, List, length, nat_lt, Bool, true, false, if◌then◌else◌, Option, None, Some, ℤ, pos, ◌*ℤ◌, int_le, refl, sym, ap, subst, ◌∙◌, arith}
 use Rattle.edge_io.specs.Files.{file_of}
 use Rattle.pool_model.specs.Network.{Network, net_of}
 use Rattle.cert_format.specs.Cert.{Cert}
 use Rattle.cert_format.specs.Valid.{IsValid}
 use Rattle.cert_checker.specs.Answers.{Spells}
 use Rattle.box_space.specs.declared.coordinates.Form.{Form}
-use Rattle.cli_words.specs.Requests.{Asked, solve, check, formulate, make}
+use Rattle.cli_words.specs.Requests.{Asked, Solving, solve, check, formulate, make}
 use Rattle.network_json.specs.declared.fault.ReadNet.{ReadNet}
 use Rattle.pool_model.specs.Plan.{Written, plan_of}
 use Rattle.pool_model.specs.Claim.{Claimed, with_gap, with_bound, no_plan, Follows, HasNoPlan}
 use Rattle.row_model.specs.Trees.{tree_bound}
+use Rattle.search_run.specs.Found.{CoversStarts, HasNoStart}
+use Rattle.search_run.specs.declared.ended.Ended.{Ended}
+use Rattle.search_run.specs.declared.ended.Ended.TheVariants as ends
 use Rattle.tree_certificate.specs.Certificates.{claim_of}
-use Rattle.pool_cli.specs.Ends.{AnswersAs, DecidedAs, plain_solving}
-use Rattle.pool_cli.specs.Reads.{Files, IsRefusedAs, ReadsNone, ReadsSome, ReadsUnder}
+use Rattle.pool_cli.specs.Ends.{AnswersAs, DecidedAs}
+use Rattle.pool_cli.specs.Reads.{Files, IsRefusedAs, ReadsNone, ReadsUnder}
 use Rattle.edge_io.specs.Writing.{behind}
-use Rattle.pool_cli.specs.Solution.{CoversStarts, HasNoStart, IsSolution, asked_gap, end_of}
+use Rattle.pool_cli.specs.Solution.{IsSolution, end_by, status_of}
 use Rattle.pool_cli.specs.Took.{Part, whole, printed_by, Took, TookPart}
-use Rattle.pool_cli.specs.SolveEnds.{EndsWith, IsPlanned, IsPrinted, NoPlanUnder, NoStartUnder, SolveDecided, SolveEnds, SolvesAs, StartUnder}
+use Rattle.pool_cli.specs.SolveEnds.{EndsWith, IsPlanned, IsPrinted, IsWithinBudget, NoPlanUnder, NoStartUnder, OverUnder, SolveDecided, SolveEnds, SolvesAs, StartUnder, WithinUnder, orders_of}
 use Rattle.pool_cli.specs.FormulateEnds.{FormulateDecided, FormulateEnds, FormulatesAs}
 use Rattle.pool_cli.specs.MakeEnds.{MakeDecided, MakeEnds, MakesAs}
 use Rattle.pool_cli.specs.CheckEnds.{AreRead, CheckDecided, CheckEnds, ChecksAs, JudgedUnder, LongUnder}
@@ -27,78 +30,97 @@ use Rattle.pool_cli.proofs.Networks.{one_network, refused_unread, some_same}
 
 -- ---- a certificate of `solve` was printed, or a front of it
 
-printed_if : (closed : Bool) → printed_by (if closed then statuses.Closed else statuses.Stopped) ≡ whole
-printed_if true = refl
-printed_if false = refl
+-- a search that ended prints all of its certificate
+printed_end : (ended : Ended) → printed_by (status_of ended) ≡ whole
+printed_end ends.Closed = refl
+printed_end ends.Stopped = refl
+printed_end ends.Stuck = refl
+printed_end ends.Infeasible = refl
+printed_end ends.Undecided = refl
 
--- a run that claims something prints all of its certificate
-printed_end : (claim : Claimed) → printed_by (end_of claim) ≡ whole
-printed_end (with_gap plan cost base bound gap) = printed_if (int_le gap (pos (asked_gap * base)))
-printed_end (with_bound bound) = refl
-printed_end no_plan = refl
-
-pub took_whole : (files : Option Files) (name : List ℕ) (claim : Claimed) (status : Status) (text : List ℕ) (old new : Option (List ℕ)) → status ≡ end_of claim → SolvesAs files name (end_of claim) text → new ≡ behind old text
-    → Took (SolvesAs files name) status old new
-took_whole files name claim status text old new is answers e =
-    subst (λ (s : Status). Took (SolvesAs files name) s old new) (sym is)
-    (subst (λ (p : Part). TookPart p (SolvesAs files name) (end_of claim) old new) (sym (printed_end claim)) (text, answers, e))
+pub took_whole : (files : Option Files) (s : Solving) (ended : Ended) (text : List ℕ) (old new : Option (List ℕ)) → SolvesAs files s (status_of ended) text → new ≡ behind old text
+    → Took (SolvesAs files s) (status_of ended) old new
+took_whole files s ended text old new answers e =
+    subst (λ (p : Part). TookPart p (SolvesAs files s) (status_of ended) old new) (sym (printed_end ended)) (text, answers, e)
 
 -- how a certificate's claim ends, of a network that was read
-module _ (files : Option Files) (name : List ℕ) (network : Network) (reads : ReadsUnder files name network) where
-  by_gap : (before after : ℕ) (closed : Bool) → SolveEnds files name before after (if closed then statuses.Closed else statuses.Stopped)
-  by_gap before after true = record { network = network; reads = reads }
-  by_gap before after false = record { network = network; reads = reads }
+module _ (files : Option Files) (s : Solving) (network : Network) (reads : ReadsUnder files s.net network) (within : IsWithinBudget (net_of network) s.nodes) where
+  abbrev here : WithinUnder files s
+  here = record { network = network; reads = reads; within = within }
+
+  by_gap : (before after : ℕ) (closed stuck : Bool) → SolveEnds files s before after (if closed then statuses.Closed else (if stuck then statuses.Stuck else statuses.Stopped))
+  by_gap before after true stuck = here
+  by_gap before after false true = here
+  by_gap before after false false = here
 
   no_start : (best : Option Written) (bound : Option ℤ) (z : ℤ) → with_bound z ≡ claim_of (net_of network) best bound → CoversStarts (net_of network) best → HasNoStart (net_of network)
   no_start best None z e covers = cc
   no_start None (Some x) z e covers = covers
   no_start (Some w) (Some x) z e covers = cc
 
-  by_claim : (before after : ℕ) (claim : Claimed) (best : Option Written) (bound : Option ℤ) → claim ≡ claim_of (net_of network) best bound → CoversStarts (net_of network) best → Follows (net_of network) claim
-      → SolveEnds files name before after (end_of claim)
-  by_claim before after (with_gap plan cost base z gap) best bound e covers follows = by_gap before after (int_le gap (pos (asked_gap * base)))
-  by_claim before after (with_bound z) best bound e covers follows = record { network = network; reads = reads; none = no_start best bound z e covers }
-  by_claim before after no_plan best bound e covers follows = record { network = network; reads = reads; none = follows }
+  by_claim : (before after : ℕ) (asked : ℤ) (nodes splits : ℕ) (claim : Claimed) (best : Option Written) (bound : Option ℤ) → claim ≡ claim_of (net_of network) best bound
+      → CoversStarts (net_of network) best → Follows (net_of network) claim → SolveEnds files s before after (end_by asked nodes splits claim)
+  by_claim before after asked nodes splits (with_gap plan cost base z gap) best bound e covers follows = by_gap before after (int_le gap (asked *ℤ pos base)) (nat_lt splits nodes)
+  by_claim before after asked nodes splits (with_bound z) best bound e covers follows = record { solvable = here; none = no_start best bound z e covers }
+  by_claim before after asked nodes splits no_plan best bound e covers follows = record { solvable = here; none = follows }
 
-  pub solution_ends : (before after : ℕ) (c : Cert) (status : Status) → IsSolution (net_of network) (end_of c.claim) c → EndsWith (end_of c.claim) status → SolveEnds files name before after status
-  solution_ends before after c status s ends = elim ends [
-    | inl is ↦ subst (SolveEnds files name before after) (sym is)
-        (by_claim before after c.claim s.found.best (tree_bound (net_of network) s.found.tree) (ap (λ (x : Cert). x.claim) s.is) s.search.starts s.follows)
-    | inr is ↦ subst (SolveEnds files name before after) (sym is) (record { network = network; reads = reads })
+  pub solution_ends : (before after : ℕ) (c : Cert) (end status : Status) → IsSolution (net_of network) (orders_of s) end c → EndsWith end status → SolveEnds files s before after status
+  solution_ends before after c end status found ended = elim ended [
+    | inl is ↦ subst (SolveEnds files s before after) (sym (is ∙ found.ends))
+        (by_claim before after s.gap s.nodes (length c.splits) c.claim found.found.best (tree_bound (net_of network) found.found.tree) (ap (λ (x : Cert). x.claim) found.is) found.search.starts found.follows)
+    | inr is ↦ subst (SolveEnds files s before after) (sym is) here
   ]
 
 -- ---- what the told files decide of `solve`
 
-module _ (told : Files) (name : List ℕ) where
-  same_net : (n m : Network) → ReadsUnder (Some told) name n → ReadsUnder (Some told) name m → n ≡ m
-  same_net n m = one_network told name n m
+module _ (told : Files) (s : Solving) where
+  same_net : (n m : Network) → ReadsUnder (Some told) s.net n → ReadsUnder (Some told) s.net m → n ≡ m
+  same_net n m = one_network told s.net n m
 
-  read_decides : (status : Status) (network : Network) → ReadsUnder (Some told) name network → IsPrinted status → (StartUnder (Some told) name → IsPlanned status) → SolveDecided told name status
-  read_decides status network reads printed planned = record { no_network = λ none. absurd (none network reads); some_network = λ f. inl printed; some_start = λ s. inl (planned s) }
+  not_over : WithinUnder (Some told) s → OverUnder (Some told) s → ⊥
+  not_over h o = o.over (subst (λ n. IsWithinBudget (net_of n) s.nodes) (same_net h.network o.network h.reads o.reads) h.within)
 
-  no_plan_starts : NoPlanUnder (Some told) name → StartUnder (Some told) name → ⊥
-  no_plan_starts h s = subst (λ n. HasNoPlan (net_of n)) (same_net h.network s.network h.reads s.reads) h.none (plan_of (net_of s.network) s.plan) s.obeys
+  within_decides : (status : Status) → WithinUnder (Some told) s → IsPrinted status → (StartUnder (Some told) s → IsPlanned status) → SolveDecided told s status
+  within_decides status h printed planned = record {
+    no_network = λ none. absurd (none h.network h.reads);
+    over_budget = λ o. absurd (not_over h o);
+    within_budget = λ w. inl printed;
+    some_start = λ f. inl (planned f);
+  }
 
-  none_starts : NoStartUnder (Some told) name → StartUnder (Some told) name → ⊥
-  none_starts h s = subst (λ n. HasNoStart (net_of n)) (same_net h.network s.network h.reads s.reads) h.none s.plan s.starting s.obeys
+  no_plan_starts : NoPlanUnder (Some told) s → StartUnder (Some told) s → ⊥
+  no_plan_starts h f =
+      subst (λ n. HasNoPlan (net_of n)) (same_net h.solvable.network f.solvable.network h.solvable.reads f.solvable.reads) h.none (plan_of (net_of f.solvable.network) f.plan) f.obeys
 
-  decided_solve : (before after : ℕ) (status : Status) → SolveEnds (Some told) name before after status → SolveDecided told name status
-  decided_solve before after statuses.Closed h = read_decides statuses.Closed h.network h.reads tt (λ s. tt)
-  decided_solve before after statuses.Stopped h = read_decides statuses.Stopped h.network h.reads tt (λ s. tt)
-  decided_solve before after statuses.Infeasible h = read_decides statuses.Infeasible h.network h.reads tt (λ s. absurd (no_plan_starts h s))
-  decided_solve before after statuses.Undecided h = read_decides statuses.Undecided h.network h.reads tt (λ s. absurd (none_starts h s))
-  decided_solve before after statuses.WriteFault h = read_decides statuses.WriteFault h.network h.reads tt (λ s. tt)
+  none_starts : NoStartUnder (Some told) s → StartUnder (Some told) s → ⊥
+  none_starts h f =
+      subst (λ n. HasNoStart (net_of n)) (same_net h.solvable.network f.solvable.network h.solvable.reads f.solvable.reads) h.none f.plan f.starting f.obeys
+
+  decided_solve : (before after : ℕ) (status : Status) → SolveEnds (Some told) s before after status → SolveDecided told s status
+  decided_solve before after statuses.Closed h = within_decides statuses.Closed h tt (λ f. tt)
+  decided_solve before after statuses.Stopped h = within_decides statuses.Stopped h tt (λ f. tt)
+  decided_solve before after statuses.Stuck h = within_decides statuses.Stuck h tt (λ f. tt)
+  decided_solve before after statuses.Infeasible h = within_decides statuses.Infeasible h.solvable tt (λ f. absurd (no_plan_starts h f))
+  decided_solve before after statuses.Undecided h = within_decides statuses.Undecided h.solvable tt (λ f. absurd (none_starts h f))
+  decided_solve before after statuses.WriteFault h = within_decides statuses.WriteFault h tt (λ f. tt)
+  decided_solve before after statuses.BudgetTooLarge h = record {
+    no_network = λ none. absurd (none h.network h.reads);
+    over_budget = λ o. inl refl;
+    within_budget = λ w. absurd (not_over w h);
+    some_start = λ f. absurd (not_over f.solvable h);
+  }
   decided_solve before after (statuses.NetworkRefused cause) h = record {
     no_network = λ none. inl tt;
-    some_network = λ f. absurd (refused_unread told name cause f.network h.own (h.told told refl) f.reads);
-    some_start = λ f. absurd (refused_unread told name cause f.network h.own (h.told told refl) f.reads);
+    over_budget = λ o. absurd (refused_unread told s.net cause o.network h.own (h.told told refl) o.reads);
+    within_budget = λ w. absurd (refused_unread told s.net cause w.network h.own (h.told told refl) w.reads);
+    some_start = λ f. absurd (refused_unread told s.net cause f.solvable.network h.own (h.told told refl) f.solvable.reads);
   }
-  decided_solve before after statuses.ReadFault h = record { no_network = λ none. inr tt; some_network = λ f. inr tt; some_start = λ s. inr tt }
-  decided_solve before after statuses.OutOfMemory h = record { no_network = λ none. inr tt; some_network = λ f. inr tt; some_start = λ s. inr tt }
+  decided_solve before after statuses.ReadFault h = record { no_network = λ none. inr tt; over_budget = λ o. inr tt; within_budget = λ w. inr tt; some_start = λ f. inr tt }
+  decided_solve before after statuses.OutOfMemory h = record { no_network = λ none. inr tt; over_budget = λ o. inr tt; within_budget = λ w. inr tt; some_start = λ f. inr tt }
   decided_solve before after status h = absurd h
 
-solve_decided : (files : Option Files) (told : Files) (name : List ℕ) (before after : ℕ) (status : Status) → files ≡ Some told → SolveEnds files name before after status → SolveDecided told name status
-solve_decided files told name before after status is h = decided_solve told name before after status (subst (λ f. SolveEnds f name before after status) is h)
+solve_decided : (files : Option Files) (told : Files) (s : Solving) (before after : ℕ) (status : Status) → files ≡ Some told → SolveEnds files s before after status → SolveDecided told s status
+solve_decided files told s before after status is h = decided_solve told s before after status (subst (λ f. SolveEnds f s before after status) is h)
 
 -- ---- what the told files decide of `formulate`
 
@@ -184,11 +206,11 @@ check_decided files told net cert before after status is h = decided_check told 
 -- ---- the same of what was asked
 
 module _ (files : Option Files) (net : List ℕ) (asked : Asked) (s t : Status) (is : s ≡ t) where
-  pub solve_took : (old new : Option (List ℕ)) → asked ≡ solve (plain_solving net) → Took (SolvesAs files net) t old new → Took (AnswersAs files asked) s old new
-  solve_took old new a h = subst (λ x. Took (AnswersAs files x) s old new) (sym a) (subst (λ x. Took (SolvesAs files net) x old new) (sym is) h)
+  pub solve_took : (solving : Solving) (old new : Option (List ℕ)) → asked ≡ solve solving → Took (SolvesAs files solving) t old new → Took (AnswersAs files asked) s old new
+  solve_took solving old new a h = subst (λ x. Took (AnswersAs files x) s old new) (sym a) (subst (λ x. Took (SolvesAs files solving) x old new) (sym is) h)
 
-  pub solve_decides : (told : Files) (before after : ℕ) → asked ≡ solve (plain_solving net) → files ≡ Some told → SolveEnds files net before after t → DecidedAs told asked s
-  solve_decides told before after a f h = subst (λ x. DecidedAs told x s) (sym a) (subst (SolveDecided told net) (sym is) (solve_decided files told net before after t f h))
+  pub solve_decides : (solving : Solving) (told : Files) (before after : ℕ) → asked ≡ solve solving → files ≡ Some told → SolveEnds files solving before after t → DecidedAs told asked s
+  solve_decides solving told before after a f h = subst (λ x. DecidedAs told x s) (sym a) (subst (SolveDecided told solving) (sym is) (solve_decided files told solving before after t f h))
 
   pub check_took : (cert : List ℕ) (old new : Option (List ℕ)) → asked ≡ check net cert → Took (ChecksAs files net cert) t old new → Took (AnswersAs files asked) s old new
   check_took cert old new a h = subst (λ x. Took (AnswersAs files x) s old new) (sym a) (subst (λ x. Took (ChecksAs files net cert) x old new) (sym is) h)

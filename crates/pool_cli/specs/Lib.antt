@@ -1,6 +1,7 @@
 pub mod CheckEnds
 pub mod Ends
 pub mod FormulateEnds
+pub mod Gaps
 pub mod MakeEnds
 pub mod Messages
 pub mod Reads

@@ -1,69 +1,58 @@
 -- What a printed certificate is for its network, and the status that it ends with.
-use Rattle.std.specs.Prelude.{◌≡◌, ◌≢◌, ℕ, ◌*◌, ◌^◌, [], All, IsTrue, if◌then◌else◌, Option, None, Some, ℤ, pos, int_le}
+use Rattle.std.specs.Prelude.{◌≡◌, ◌⊎◌, ℕ, length, nat_lt, if◌then◌else◌, ℤ, pos, ◌*ℤ◌, int_le}
 use Rattle.pool_model.specs.Network.{Net}
-use Rattle.pool_model.specs.Plan.{Written, plan_of, Obeys}
-use Rattle.pool_model.specs.Starting.{IsStarting}
 use Rattle.pool_model.specs.Claim.{Claimed, with_gap, with_bound, no_plan, Follows}
-use Rattle.row_model.specs.Multipliers.{Proof}
-use Rattle.row_model.specs.Trees.{Tree, box_of, node_bound, tree_bound}
-use Rattle.row_model.specs.Entries.{Searched, IsSearched, IsCheaper, start}
-use Rattle.box_space.specs.declared.coordinates.Form.TheVariants.{Pq}
-use Rattle.dual_rounding.specs.Price.{IsPriced}
-use Rattle.dual_rounding.specs.Programs.{has_row}
+use Rattle.row_model.specs.Entries.{Searched, start}
 use Rattle.cert_format.specs.Cert.{Cert}
 use Rattle.cert_format.specs.Valid.{IsValid}
-use Rattle.tree_certificate.specs.Certificates.{cert_of, claim_of}
+use Rattle.tree_certificate.specs.Certificates.{cert_of}
+use Rattle.search_core.specs.Cases.{IsSpent, IsStuck}
+use Rattle.search_run.specs.Orders.{options_of}
+use Rattle.search_run.specs.Runs.{IsRun}
+use Rattle.search_run.specs.Found.{IsFound}
+use Rattle.search_run.specs.declared.orders.Orders.{Orders}
+use Rattle.search_run.specs.declared.ended.Ended.{Ended}
+use Rattle.search_run.specs.declared.ended.Ended.TheVariants as ends
 use Rattle.pool_cli.specs.declared.status.Status.{Status}
 use Rattle.pool_cli.specs.declared.status.Status.TheVariants as statuses
 
--- the gap that closes a search: 0.01 of money, in picos
-abbrev pub asked_gap : ℕ
-asked_gap = 10 ^ 10
+-- The status by what is claimed, the asked gap, the asked number of splits and those that there are. With a plan: closed where the
+-- gap is at most the asked one; else stopped, or stuck where there are fewer splits. Without a plan: infeasible where none obeys, else
+-- undecided.
+abbrev pub end_by : (asked : ℤ) (nodes splits : ℕ) → Claimed → Status
+end_by asked nodes splits (with_gap plan cost base bound gap) =
+    if int_le gap (asked *ℤ pos base) then statuses.Closed else (if nat_lt splits nodes then statuses.Stuck else statuses.Stopped)
+end_by asked nodes splits (with_bound bound) = statuses.Undecided
+end_by asked nodes splits no_plan = statuses.Infeasible
 
--- The status by what is claimed: closed where the gap is at most the asked one, else stopped; without a plan infeasible where
--- none obeys, else undecided.
-abbrev pub end_of : Claimed → Status
-end_of (with_gap plan cost base bound gap) = if int_le gap (pos (asked_gap * base)) then statuses.Closed else statuses.Stopped
-end_of (with_bound bound) = statuses.Undecided
-end_of no_plan = statuses.Infeasible
+-- the status by what is printed
+abbrev pub end_of : Orders → Cert → Status
+end_of o c = end_by o.gap o.nodes (length c.splits) c.claim
 
--- no starting plan obeys
-abbrev pub HasNoStart : Net → Type 0
-HasNoStart n = (w : Written) → IsStarting n w → ¬ Obeys n (plan_of n w)
+-- the status by how the search ended
+abbrev pub status_of : Ended → Status
+status_of ends.Closed = statuses.Closed
+status_of ends.Stopped = statuses.Stopped
+status_of ends.Stuck = statuses.Stuck
+status_of ends.Infeasible = statuses.Infeasible
+status_of ends.Undecided = statuses.Undecided
 
--- no starting plan that obeys is cheaper than the best plan, and where there is no best plan none obeys
-abbrev pub CoversStarts : Net → Option Written → Type 0
-CoversStarts n None = HasNoStart n
-CoversStarts n (Some plan) = (w : Written) → IsStarting n w → Obeys n (plan_of n w) → ¬ IsCheaper n w plan
+-- Why a search could not go on: under `Stuck` the least leaf can't be cut at any coordinate of the form, and under `Undecided` it
+-- can't, or there are as many splits as were asked for.
+pub record IsHeld (n : Net) (o : Orders) (found : Searched) (status : Status) : Type 0 where
+  pub stuck : status ≡ statuses.Stuck → IsStuck n o.form found
+  pub undecided : status ≡ statuses.Undecided → IsSpent (options_of o) found ⊎ IsStuck n o.form found
 
--- a node holds no plan, or its bound is at least what the price proof shows of its box
-abbrev pub IsPricedAt : Net → Tree → ℕ → Type 0
-IsPricedAt n tree node = IsPriced n (box_of n tree.splits node) (node_bound n tree node)
-
--- nothing is cut or proved, and no starting plan that obeys is cheaper than the best plan
-pub record IsStarted (n : Net) (s : Searched) : Type 0 where
-  pub tree : s.tree ≡ start.tree
-  pub starts : CoversStarts n s.best
-
--- there is a plan whose gap to the bound is at most the asked one
-abbrev pub IsClosed : Net → Searched → Type 0
-IsClosed n s = end_of (claim_of n s.best (tree_bound n s.tree)) ≡ statuses.Closed
-
--- What a search finds that looks no further than at the root: a tree in order, of which nothing is cut, with proofs by rows of
--- form PQ alone, and a plan that obeys, or none; no starting plan that obeys is cheaper.
-pub record IsFound (n : Net) (s : Searched) : Type 0 where
-  pub searched : IsSearched n s
-  pub starts : CoversStarts n s.best
-  pub uncut : s.tree.splits ≡ []
-  pub form : (node : ℕ) (p : Proof) → s.tree.proof node ≡ Some p → All (λ q. IsTrue (has_row n Pq q.row)) p.parts
-
--- The certificate of what a search found, with the status that it ends with. It is valid, and what it claims follows. Where
--- the gap is not closed, the root holds no plan, or its bound is at least what the price proof shows.
-pub record IsSolution (n : Net) (status : Status) (c : Cert) : Type 0 where
+-- The certificate of what a search found that began with the root alone, with the status that it ends with. It is valid, and what it
+-- claims follows. What the steps were, and what follows of the tree and the plan, is said by `search_run`.
+pub record IsSolution (n : Net) (o : Orders) (status : Status) (c : Cert) : Type 0 where
   pub found : Searched
+  pub ended : Ended
   pub is : c ≡ cert_of n found
   pub valid : IsValid n c
   pub follows : Follows n c.claim
-  pub ends : status ≡ end_of c.claim
-  pub search : IsFound n found
-  pub priced : ¬ IsClosed n found → IsPricedAt n found.tree 0
+  pub run : IsRun n o start found ended
+  pub search : IsFound n o start found ended
+  pub told : status ≡ status_of ended
+  pub ends : status ≡ end_of o c
+  pub held : IsHeld n o found status

@@ -1,13 +1,18 @@
 -- How `solve` ends.
-use Rattle.std.specs.Prelude.{◌≡◌, ◌⊎◌, ℕ, List, Option, Some}
-use Rattle.pool_model.specs.Network.{Network, net_of}
+use Rattle.std.specs.Prelude.{◌≡◌, ◌⊎◌, ◌+◌, ◌*◌, ◌≤◌, ℕ, List, Option, Some}
+use Rattle.pool_model.specs.Network.{Net, Network, net_of}
 use Rattle.pool_model.specs.Plan.{Written, plan_of, Obeys}
 use Rattle.pool_model.specs.Starting.{IsStarting}
 use Rattle.pool_model.specs.Claim.{HasNoPlan}
+use Rattle.row_model.specs.Catalogue.{rows}
+use Rattle.row_model.specs.Trees.{most_splits}
 use Rattle.cert_format.specs.Cert.{Cert}
 use Rattle.cert_checker.specs.Answers.{Spells}
-use Rattle.pool_cli.specs.Solution.{HasNoStart, IsSolution}
-use Rattle.pool_cli.specs.Reads.{Files, IsRefusedAs, ReadsNone, ReadsSome, ReadsUnder}
+use Rattle.cli_words.specs.Requests.{Solving}
+use Rattle.search_run.specs.Found.{HasNoStart}
+use Rattle.search_run.specs.declared.orders.Orders.{Orders}
+use Rattle.pool_cli.specs.Solution.{IsSolution, status_of}
+use Rattle.pool_cli.specs.Reads.{Files, IsRefusedAs, ReadsNone, ReadsUnder}
 use Rattle.pool_cli.specs.Took.{IsCutShort, IsNetworkRefused, unread_status}
 use Rattle.pool_cli.specs.declared.solve.SolveOutcome.{SolveOutcome}
 use Rattle.pool_cli.specs.declared.solve.SolveOutcome.TheVariants as outcomes
@@ -16,58 +21,82 @@ use Rattle.pool_cli.specs.declared.status.Status.TheVariants as statuses
 
 -- the status that it ends with
 abbrev pub solve_status : SolveOutcome → Status
-solve_status outcomes.Closed = statuses.Closed
-solve_status outcomes.Stopped = statuses.Stopped
-solve_status outcomes.Infeasible = statuses.Infeasible
-solve_status outcomes.Undecided = statuses.Undecided
+solve_status (outcomes.Ended ended) = status_of ended
+solve_status outcomes.OverBudget = statuses.BudgetTooLarge
 solve_status (outcomes.Unread why) = unread_status why
 solve_status outcomes.Memory = statuses.OutOfMemory
 solve_status outcomes.WriteFault = statuses.WriteFault
 
--- the text of a certificate of the network in the file of this name, and the status that it ends with
-pub record SolvesAs (files : Option Files) (name : List ℕ) (status : Status) (text : List ℕ) : Type 0 where
+-- what the search is asked for
+abbrev pub orders_of : Solving → Orders
+orders_of s = record { form = s.form; nodes = s.nodes; gap = s.gap; rule = s.rule }
+
+-- how many rows of a network, node by node, a certificate may speak of
+abbrev pub most_rows : ℕ
+most_rows = 32000000
+
+-- The budget: no more splits than there may be, and of all nodes together no more rows than a certificate may speak of.
+pub record IsWithinBudget (n : Net) (nodes : ℕ) : Type 0 where
+  pub few : nodes ≤ most_splits
+  pub short : (2 * nodes + 1) * rows n ≤ most_rows
+
+-- the text of a certificate of the network in the file that is named, and the status that it ends with
+pub record SolvesAs (files : Option Files) (s : Solving) (status : Status) (text : List ℕ) : Type 0 where
   pub network : Network
   pub certificate : Cert
-  pub reads : ReadsUnder files name network
-  pub solution : IsSolution (net_of network) status certificate
+  pub reads : ReadsUnder files s.net network
+  pub within : IsWithinBudget (net_of network) s.nodes
+  pub solution : IsSolution (net_of network) (orders_of s) status certificate
   pub spelled : Spells text certificate
 
--- no plan obeys the network in the file of this name
-pub record NoPlanUnder (files : Option Files) (name : List ℕ) : Type 0 where
+-- a network is read from the file that is named, and what is asked is within the budget
+pub record WithinUnder (files : Option Files) (s : Solving) : Type 0 where
   pub network : Network
-  pub reads : ReadsUnder files name network
-  pub none : HasNoPlan (net_of network)
+  pub reads : ReadsUnder files s.net network
+  pub within : IsWithinBudget (net_of network) s.nodes
+
+-- a network is read, and what is asked is over the budget
+pub record OverUnder (files : Option Files) (s : Solving) : Type 0 where
+  pub network : Network
+  pub reads : ReadsUnder files s.net network
+  pub over : ¬ IsWithinBudget (net_of network) s.nodes
+
+-- no plan obeys the network
+pub record NoPlanUnder (files : Option Files) (s : Solving) : Type 0 where
+  pub solvable : WithinUnder files s
+  pub none : HasNoPlan (net_of solvable.network)
 
 -- no starting plan obeys it
-pub record NoStartUnder (files : Option Files) (name : List ℕ) : Type 0 where
-  pub network : Network
-  pub reads : ReadsUnder files name network
-  pub none : HasNoStart (net_of network)
+pub record NoStartUnder (files : Option Files) (s : Solving) : Type 0 where
+  pub solvable : WithinUnder files s
+  pub none : HasNoStart (net_of solvable.network)
 
 -- a starting plan obeys it
-pub record StartUnder (files : Option Files) (name : List ℕ) : Type 0 where
-  pub network : Network
-  pub reads : ReadsUnder files name network
+pub record StartUnder (files : Option Files) (s : Solving) : Type 0 where
+  pub solvable : WithinUnder files s
   pub plan : Written
-  pub starting : IsStarting (net_of network) plan
-  pub obeys : Obeys (net_of network) (plan_of (net_of network) plan)
+  pub starting : IsStarting (net_of solvable.network) plan
+  pub obeys : Obeys (net_of solvable.network) (plan_of (net_of solvable.network) plan)
 
--- Each status comes only where its line holds of the file of this name; no other comes. The counts are of the bytes taken.
-abbrev pub SolveEnds : Option Files → List ℕ → (before after : ℕ) → Status → Type 0
-SolveEnds files name before after statuses.Closed = ReadsSome files name
-SolveEnds files name before after statuses.Stopped = ReadsSome files name
-SolveEnds files name before after statuses.Infeasible = NoPlanUnder files name
-SolveEnds files name before after statuses.Undecided = NoStartUnder files name
-SolveEnds files name before after statuses.WriteFault = ReadsSome files name
-SolveEnds files name before after (statuses.NetworkRefused cause) = IsRefusedAs files name before after cause
-SolveEnds files name before after statuses.ReadFault = Unit {0}
-SolveEnds files name before after statuses.OutOfMemory = Unit {0}
-SolveEnds files name before after status = ⊥
+-- Each status comes only where its line holds of what is asked; no other comes. The counts are of the bytes taken.
+abbrev pub SolveEnds : Option Files → Solving → (before after : ℕ) → Status → Type 0
+SolveEnds files s before after statuses.Closed = WithinUnder files s
+SolveEnds files s before after statuses.Stopped = WithinUnder files s
+SolveEnds files s before after statuses.Stuck = WithinUnder files s
+SolveEnds files s before after statuses.Infeasible = NoPlanUnder files s
+SolveEnds files s before after statuses.Undecided = NoStartUnder files s
+SolveEnds files s before after statuses.WriteFault = WithinUnder files s
+SolveEnds files s before after statuses.BudgetTooLarge = OverUnder files s
+SolveEnds files s before after (statuses.NetworkRefused cause) = IsRefusedAs files s.net before after cause
+SolveEnds files s before after statuses.ReadFault = Unit {0}
+SolveEnds files s before after statuses.OutOfMemory = Unit {0}
+SolveEnds files s before after status = ⊥
 
 -- a certificate was printed, or the sink failed
 abbrev pub IsPrinted : Status → Type 0
 IsPrinted statuses.Closed = Unit {0}
 IsPrinted statuses.Stopped = Unit {0}
+IsPrinted statuses.Stuck = Unit {0}
 IsPrinted statuses.Infeasible = Unit {0}
 IsPrinted statuses.Undecided = Unit {0}
 IsPrinted statuses.WriteFault = Unit {0}
@@ -77,6 +106,7 @@ IsPrinted status = ⊥
 abbrev pub IsPlanned : Status → Type 0
 IsPlanned statuses.Closed = Unit {0}
 IsPlanned statuses.Stopped = Unit {0}
+IsPlanned statuses.Stuck = Unit {0}
 IsPlanned statuses.WriteFault = Unit {0}
 IsPlanned status = ⊥
 
@@ -85,7 +115,8 @@ abbrev pub EndsWith : Status → Status → Type 0
 EndsWith end status = (status ≡ end) ⊎ (status ≡ statuses.WriteFault)
 
 -- which status comes, by what the told files say, where the run isn't cut short
-pub record SolveDecided (told : Files) (name : List ℕ) (status : Status) : Type 0 where
-  pub no_network : ReadsNone told name → IsNetworkRefused status ⊎ IsCutShort status
-  pub some_network : ReadsSome (Some told) name → IsPrinted status ⊎ IsCutShort status
-  pub some_start : StartUnder (Some told) name → IsPlanned status ⊎ IsCutShort status
+pub record SolveDecided (told : Files) (s : Solving) (status : Status) : Type 0 where
+  pub no_network : ReadsNone told s.net → IsNetworkRefused status ⊎ IsCutShort status
+  pub over_budget : OverUnder (Some told) s → (status ≡ statuses.BudgetTooLarge) ⊎ IsCutShort status
+  pub within_budget : WithinUnder (Some told) s → IsPrinted status ⊎ IsCutShort status
+  pub some_start : StartUnder (Some told) s → IsPlanned status ⊎ IsCutShort status

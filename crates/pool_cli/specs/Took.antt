@@ -19,6 +19,7 @@ printed_by statuses.Accepted = whole
 printed_by statuses.Done = whole
 printed_by (statuses.Refused refusal) = whole
 printed_by statuses.Stopped = whole
+printed_by statuses.Stuck = whole
 printed_by statuses.Infeasible = whole
 printed_by statuses.Undecided = whole
 printed_by statuses.WriteFault = front

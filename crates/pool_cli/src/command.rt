@@ -35,7 +35,7 @@ pub fn run<S: Shelf, K: Sink>(alloc: Global, words: &[String], shelf: &mut S, ou
     requires certificate { (net cert : List ℕ) (network : Network) → Asks (map string_bytes words.now) (check net cert)
         → ReadsUnder (S.files shelf.old) net network → IsTrue (S.admits shelf.old cert) }
 
-    // What the sink took: under `Closed`, `Stopped`, `Infeasible` and `Undecided` the text of a certificate that answers the
+    // What the sink took: under `Closed`, `Stopped`, `Stuck`, `Infeasible` and `Undecided` the text of a certificate that answers the
     // words, under `Accepted` and `Refused` the line on the certificate that they name, under `Done` the program or the network, under
     // `WriteFault` a front of such a text, and under every other status nothing.
     ensures took { (asked : Asked) → Asks (map string_bytes words.now) asked → Took (AnswersAs (S.files shelf.old) asked) result (K.taken out.old) (K.taken out.new) }
@@ -52,7 +52,7 @@ pub fn run<S: Shelf, K: Sink>(alloc: Global, words: &[String], shelf: &mut S, ou
     ensures write_fault { result ≡ Status.WriteFault → Rose (K.faults out.old) (K.faults out.new) }
 {
     match command_of(alloc, words) {
-        Ok(Command::Solve(net)) => Status::from(solve(alloc, net.as_str(), shelf, out)),
+        Ok(Command::Solve(words)) => Status::from(solve(alloc, &words, shelf, out)),
         Ok(Command::Check(net, cert)) => {
             Status::from(check(alloc, net.as_str(), cert.as_str(), shelf, out))
         }

@@ -12,6 +12,7 @@
 //! says is left to `network_json`, and the text of a certificate to `cert_format`.
 #![tactic(auto)]
 
+mod budget;
 mod check;
 mod command;
 mod formulate;

@@ -28,10 +28,14 @@ pub enum Status {
     Usage,
     /// The file is no network.
     NetworkRefused(ReadNet),
+    /// More splits are asked for than there may be for this network.
+    BudgetTooLarge,
     /// The certificate is longer than may be.
     CertTooLong,
-    /// A plan was printed, and its gap is above the asked one.
+    /// A plan was printed, its gap is above the asked one, and there are as many splits as were asked for.
     Stopped,
+    /// A plan was printed, its gap is above the asked one, and the least leaf can't be cut.
+    Stuck,
     /// No plan obeys the network.
     Infeasible,
     /// No plan was found, and none was ruled out.
@@ -54,8 +58,10 @@ impl Status {
             Status::Refused(_) => 1,
             Status::Usage => 2,
             Status::NetworkRefused(_) => 3,
+            Status::BudgetTooLarge => 4,
             Status::CertTooLong => 5,
             Status::Stopped => 10,
+            Status::Stuck => 11,
             Status::Infeasible => 12,
             Status::Undecided => 13,
             Status::ReadFault => 20,
@@ -87,6 +93,7 @@ fn put_message<K: Sink>(status: &Status, err: &mut K) -> Result<(), WriteFault>
     match status {
         Status::Closed
         | Status::Stopped
+        | Status::Stuck
         | Status::Infeasible
         | Status::Undecided
         | Status::Accepted
@@ -94,6 +101,7 @@ fn put_message<K: Sink>(status: &Status, err: &mut K) -> Result<(), WriteFault>
         | Status::Refused(_) => write_whole(err, b""),
         Status::Usage => write_whole(err, USAGE),
         Status::NetworkRefused(cause) => write_refusal(cause, err),
+        Status::BudgetTooLarge => { write_whole(err, b"pool: too many nodes for this network\n") }
         Status::CertTooLong => write_whole(err, b"pool: certificate too long\n"),
         Status::ReadFault => write_whole(err, b"pool: read fault\n"),
         Status::WriteFault => write_whole(err, b"pool: write fault\n"),

@@ -1,7 +1,7 @@
-use Rattle.std.proofs.Common.{[], ◌∙◌, map, string_bytes, ap, ap₂, sym, subst}
+use Rattle.std.proofs.Common.{inr, [], ◌∙◌, map, string_bytes, ap, ap₂, sym, subst}
 use Rattle.cli_words.specs.Asks.{Asks}
 use Rattle.cli_words.specs.Requests.{solve, check, formulate}
-use Rattle.pool_cli.specs.Ends.{plain_solving}
+use Rattle.cli_words.specs.Views.{shown_solving}
 use Rattle.pool_cli.specs.FormulateEnds.{formulate_status}
 use Rattle.pool_cli.specs.MakeEnds.{make_status}
 use Rattle.pool_cli.specs.SolveEnds.{solve_status}
@@ -12,32 +12,42 @@ use Rattle.pool_cli.proofs.command.run.Goals as goal
 pub check-requires-clause-certificate : goal.check-requires-clause-certificate
 check-requires-clause-certificate g c = λ network reads.
     let asks = rw c.in-Ok-Check.field-0-is at c.in-Ok-Check.ensures.asks in
-    let named = ap₂ check (sym c.as_str-in-Ok-Check.ensures.value) (sym c.as_str-in-Ok-Check-2.ensures.value) in
-    c.requires.certificate c.as_str-in-Ok-Check.result.now c.as_str-in-Ok-Check-2.result.now network (subst (Asks (map string_bytes c.args.words.now)) named asks) reads
+    let named = ap₂ check (sym c.as_str.ensures.value) (sym c.as_str-in-Ok-Check.ensures.value) in
+    c.requires.certificate c.as_str.result.now c.as_str-in-Ok-Check.result.now network (subst (Asks (map string_bytes c.args.words.now)) named asks) reads
+
+pub solve-requires-clause-admits : goal.solve-requires-clause-admits
+solve-requires-clause-admits g c = c.requires.solve (shown_solving c.in-Ok-Solve.words) (rw c.in-Ok-Solve.field-0-is at c.in-Ok-Solve.ensures.asks)
+
+pub solve-requires-clause-gap : goal.solve-requires-clause-gap
+solve-requires-clause-gap g c = rw c.in-Ok-Solve.field-0-is at c.in-Ok-Solve.ensures.gap
+
+pub returns-in-Ok-Solve-clause-asked : goal.returns-in-Ok-Solve-clause-asked
+returns-in-Ok-Solve-clause-asked g c =
+    inr (solve (shown_solving c.in-Ok-Solve.words), rw c.in-Ok-Solve.field-0-is at c.in-Ok-Solve.ensures.asks, rw c.in-Ok-Solve.field-0-is at c.in-Ok-Solve.ensures.served)
 
 pub returns-in-Ok-Solve-clause-took : goal.returns-in-Ok-Solve-clause-took
 returns-in-Ok-Solve-clause-took g c = λ asked asks.
     let only = rw c.in-Ok-Solve.field-0-is at c.in-Ok-Solve.ensures.only in
-    let named = only asked asks ∙ ap (λ n. solve (plain_solving n)) (sym c.as_str.ensures.value) in
-    solve_took (g.S.Shelf.files c.args.shelf.now) c.as_str.result.now asked c.from.result (solve_status c.solve.result) c.from.ensures (g.K.Sink.taken c.args.out.now) (g.K.Sink.taken c.solve.new.out) named c.solve.ensures.took
+    solve_took (g.S.Shelf.files c.args.shelf.now) [] asked c.from.result (solve_status c.solve.result) c.from.ensures (shown_solving c.in-Ok-Solve.words) (g.K.Sink.taken c.args.out.now) (g.K.Sink.taken c.solve.new.out)
+    (only asked asks) c.solve.ensures.took
 
 pub returns-in-Ok-Solve-clause-decided : goal.returns-in-Ok-Solve-clause-decided
 returns-in-Ok-Solve-clause-decided g c = λ told asked is asks served.
     let only = rw c.in-Ok-Solve.field-0-is at c.in-Ok-Solve.ensures.only in
-    let named = only asked asks ∙ ap (λ n. solve (plain_solving n)) (sym c.as_str.ensures.value) in
-    solve_decides (g.S.Shelf.files c.args.shelf.now) c.as_str.result.now asked c.from.result (solve_status c.solve.result) c.from.ensures told (g.S.Shelf.taken c.args.shelf.now) (g.S.Shelf.taken c.solve.new.shelf) named is c.solve.ensures.ends
+    solve_decides (g.S.Shelf.files c.args.shelf.now) [] asked c.from.result (solve_status c.solve.result) c.from.ensures (shown_solving c.in-Ok-Solve.words) told (g.S.Shelf.taken c.args.shelf.now) (g.S.Shelf.taken c.solve.new.shelf)
+    (only asked asks) is c.solve.ensures.ends
 
 pub returns-in-Ok-Check-clause-took : goal.returns-in-Ok-Check-clause-took
 returns-in-Ok-Check-clause-took g c = λ asked asks.
     let only = rw c.in-Ok-Check.field-0-is at c.in-Ok-Check.ensures.only in
-    let named = only asked asks ∙ ap₂ check (sym c.as_str-in-Ok-Check.ensures.value) (sym c.as_str-in-Ok-Check-2.ensures.value) in
-    check_took (g.S.Shelf.files c.args.shelf.now) c.as_str-in-Ok-Check.result.now asked c.from-in-Ok-Check.result (check_status c.check.result) c.from-in-Ok-Check.ensures c.as_str-in-Ok-Check-2.result.now (g.K.Sink.taken c.args.out.now) (g.K.Sink.taken c.check.new.out) named c.check.ensures.took
+    let named = only asked asks ∙ ap₂ check (sym c.as_str.ensures.value) (sym c.as_str-in-Ok-Check.ensures.value) in
+    check_took (g.S.Shelf.files c.args.shelf.now) c.as_str.result.now asked c.from-in-Ok-Check.result (check_status c.check.result) c.from-in-Ok-Check.ensures c.as_str-in-Ok-Check.result.now (g.K.Sink.taken c.args.out.now) (g.K.Sink.taken c.check.new.out) named c.check.ensures.took
 
 pub returns-in-Ok-Check-clause-decided : goal.returns-in-Ok-Check-clause-decided
 returns-in-Ok-Check-clause-decided g c = λ told asked is asks served.
     let only = rw c.in-Ok-Check.field-0-is at c.in-Ok-Check.ensures.only in
-    let named = only asked asks ∙ ap₂ check (sym c.as_str-in-Ok-Check.ensures.value) (sym c.as_str-in-Ok-Check-2.ensures.value) in
-    check_decides (g.S.Shelf.files c.args.shelf.now) c.as_str-in-Ok-Check.result.now asked c.from-in-Ok-Check.result (check_status c.check.result) c.from-in-Ok-Check.ensures c.as_str-in-Ok-Check-2.result.now told (g.S.Shelf.taken c.args.shelf.now) (g.S.Shelf.taken c.check.new.shelf) named is c.check.ensures.ends
+    let named = only asked asks ∙ ap₂ check (sym c.as_str.ensures.value) (sym c.as_str-in-Ok-Check.ensures.value) in
+    check_decides (g.S.Shelf.files c.args.shelf.now) c.as_str.result.now asked c.from-in-Ok-Check.result (check_status c.check.result) c.from-in-Ok-Check.ensures c.as_str-in-Ok-Check.result.now told (g.S.Shelf.taken c.args.shelf.now) (g.S.Shelf.taken c.check.new.shelf) named is c.check.ensures.ends
 
 pub returns-in-Ok-Formulate-clause-took : goal.returns-in-Ok-Formulate-clause-took
 returns-in-Ok-Formulate-clause-took g c = λ asked asks.

@@ -1,9 +1,11 @@
 use Rattle.pool_model.specs.Network.{net_of}
 use Rattle.box_tree.specs.Kept.{searched_of}
+use Rattle.cert_format.specs.Views.{shown_cert}
 use Rattle.pool_cli.proofs.Solutions.{solved}
 use Rattle.pool_cli.proofs.solution.solution_of.Goals as goal
 
 pub returns-clause-solved : goal.returns-clause-solved
 returns-clause-solved c =
-    solved (net_of c.args.net.now) (searched_of c.in_ok-tree.tree.kept) c.certificate_of.result c.sizes-limited.ensures.limited c.in_ok-tree.ensures.found c.in_ok-tree.ensures.priced
-    c.certificate_of.ensures.found c.certificate_of.ensures.valid
+    solved (net_of c.args.net.now) c.args.orders (searched_of c.in_ok-root.root.kept) (searched_of c.in_ok-outcome.outcome.tree.kept) c.in_ok-outcome.outcome.ended
+    (shown_cert c.in_ok-certificate.certificate) c.sizes-limited.ensures.limited c.in_ok-root.ensures.searched c.in_ok-outcome.ensures.run c.in_ok-outcome.ensures.found
+    c.in_ok-certificate.ensures.found c.in_ok-certificate.ensures.valid

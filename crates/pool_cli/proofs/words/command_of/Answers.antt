@@ -4,6 +4,8 @@ use Rattle.cli_words.specs.declared.request.WordsFault.{WordsFault}
 use Rattle.cli_words.specs.declared.request.WordsFault.TheVariants.{Usage}
 use Rattle.pool_cli.specs.Ends.{IsServed}
 use Rattle.pool_cli.specs.declared.words.Command.{Command}
+use Rattle.cli_words.specs.Asks.{Asks}
+use Rattle.pool_cli.proofs.Gaps.{gap-asked}
 use Rattle.pool_cli.proofs.words.command_of.Goals as goal
 
 same_fault : (r s : Result Command WordsFault) (a b : WordsFault) → r ≡ Err a → s ≡ Err b → r ≡ s → a ≡ b
@@ -17,3 +19,6 @@ returns-in-Some-clause-only c = λ asked asks. c.in-Ok.ensures.only asked asks �
 
 pub returns-in-None-clause-usage : goal.returns-in-None-clause-usage
 returns-in-None-clause-usage c = λ e asked asks served. c.in-None.ensures.none (subst IsServed (c.in-Ok.ensures.only asked asks) served)
+
+pub returns-in-Some-clause-gap : goal.returns-in-Some-clause-gap
+returns-in-Some-clause-gap c = gap-asked _ c.in-Some.command (subst (Asks _) c.in-Some.ensures.some c.in-Ok.ensures.asks)

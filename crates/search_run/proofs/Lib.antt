@@ -1,0 +1,11 @@
+mod NodeBounds
+mod Proofs
+mod Growing
+mod Rooting
+mod Sound
+mod Covering
+mod Reaching
+mod Choosing
+mod Stepping
+mod Nearer
+mod Ending

@@ -1,0 +1,56 @@
+-- Which proof a node has after an entry, and which nodes there are.
+use Rattle.std.proofs.Common.{◌≡◌, ℕ, suc, ◌+◌, ◌*◌, ◌<◌, ◌⊎◌, inl, inr, ◌==◌, ◌||◌, if◌then◌else◌, List, [], ◌∷◌, ◌++◌, length, Bool, true, false, Option, Some, arith, refl, sym, ap, ◌∙◌}
+use Rattle.std.specs.Prelude.{unwrap_or}
+use Rattle.std.proofs.lemmas.List.Folds.{list_any-append}
+use Rattle.integers.proofs.AtKey.{same_or_other, chosen, passed}
+use Rattle.pool_model.specs.Network.{Net}
+use Rattle.row_model.specs.Multipliers.{Proof}
+use Rattle.row_model.specs.Trees.{Split, Tree, IsTree, split_at, left_node, right_node, is_cut}
+
+-- after a proof of the root
+pub proof-rooted : (proof : Proof) (old : ℕ → Option Proof) (node : ℕ) (q : Proof) → (if node == 0 then Some proof else old node) ≡ Some q → ((node ≡ 0) × (proof ≡ q)) ⊎ (old node ≡ Some q)
+proof-rooted proof old node q e = elim (same_or_other node 0) [
+  | inl a ↦ inl (a, ap (λ o. unwrap_or o q) (sym (chosen node 0 (Some proof) (old node) a) ∙ e))
+  | inr d ↦ inr (sym (passed node 0 (Some proof) (old node) d) ∙ e)
+]
+
+-- after a split
+pub proof-split : (left right : Option Proof) (old : ℕ → Option Proof) (t node : ℕ) (q : Proof) → (if node == left_node t then left else (if node == right_node t then right else old node)) ≡ Some q
+    → ((node ≡ left_node t) × (left ≡ Some q)) ⊎ (((node ≡ right_node t) × (right ≡ Some q)) ⊎ (old node ≡ Some q))
+proof-split left right old t node q e = elim (same_or_other node (left_node t)) [
+  | inl a ↦ inl (a, sym (chosen node (left_node t) left (if node == right_node t then right else old node) a) ∙ e)
+  | inr d ↦ let f = sym (passed node (left_node t) left (if node == right_node t then right else old node) d) ∙ e in
+      elim (same_or_other node (right_node t)) [
+        | inl a ↦ inr (inl (a, sym (chosen node (right_node t) right (old node) a) ∙ f))
+        | inr c ↦ inr (inr (sym (passed node (right_node t) right (old node) c) ∙ f))
+      ]
+]
+
+-- a split gives the root no proof
+pub root-proof : (left right : Option Proof) (old : ℕ → Option Proof) (t : ℕ) → (if 0 == left_node t then left else (if 0 == right_node t then right else old 0)) ≡ old 0
+root-proof left right old t =
+    passed 0 (left_node t) left (if 0 == right_node t then right else old 0) (omega arith) ∙ passed 0 (right_node t) right (old 0) (omega arith)
+
+-- a tree whose root is not cut has no splits
+none-cut : (splits : List Split) → (0 < length splits → (split_at splits 0).leaf < 1) → is_cut splits 0 ≡ false → length splits ≡ 0
+none-cut [] h e = refl
+none-cut (x ∷ xs) h e =
+    let lt = h (omega arith) in
+    let first : x.leaf ≡ 0 = omega (arith, lt) in
+    let yes : (x.leaf == 0) ≡ true = ap (λ (i : ℕ). i == 0) first in
+    absurd (cc (yes, e))
+
+pub no-splits : (n : Net) (tree : Tree) → IsTree n tree → is_cut tree.splits 0 ≡ false → length tree.splits ≡ 0
+no-splits n tree is uncut = none-cut tree.splits (λ h. let there = (is.splits 0 h).leaf.there in omega (arith, there)) uncut
+
+-- a node is cut by the splits before the last one, or by that
+or-none : (b : Bool) → (b || false) ≡ b
+or-none true = refl
+or-none false = refl
+
+pub cut-more : (splits : List Split) (split : Split) (node : ℕ) → is_cut (splits ++ split ∷ []) node ≡ (is_cut splits node || (split.leaf == node))
+cut-more splits split node = list_any-append (λ s. s.leaf == node) splits (split ∷ []) ∙ ap (λ (b : Bool). is_cut splits node || b) (or-none (split.leaf == node))
+
+-- where a node stands among the old nodes and the two new ones
+pub where-node : (t node : ℕ) → node < 2 * suc t + 1 → (node ≡ left_node t) ⊎ ((node ≡ right_node t) ⊎ (node < left_node t))
+where-node t node h = grind arith

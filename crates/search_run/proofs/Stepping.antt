@@ -1,0 +1,112 @@
+-- What comes next is a step of the run, or its end; and steps one after another.
+use Rattle.std.proofs.Common.{◌≡◌, inl, inr, ◌<◌, ℕ, Bool, List, [], ◌∷◌, ◌++◌, length, Option, Some, option_map, ℤ, refl, sym, ap, subst, ◌∙◌}
+use denote.Ref.{Bor}
+use Rattle.pool_model.specs.Network.{Net}
+use Rattle.row_model.specs.Boxes.{Box, left_of, right_of}
+use Rattle.row_model.specs.Multipliers.{Proof, bound, shown_by}
+use Rattle.row_model.specs.Trees.{box_of, tree_bound, raised}
+use Rattle.row_model.specs.Entries as entries
+use Rattle.row_model.specs.Entries.{Searched, IsEntryInOrder, after, made_from}
+use Rattle.box_space.specs.Views.{shown_proof, shown_split}
+use Rattle.box_space.specs.declared.coordinates.Form.{Form}
+use Rattle.box_space.specs.declared.coordinates.Split.{Split}
+use Rattle.box_tree.specs.Views.{shown_entry}
+use Rattle.box_tree.specs.declared.entry.Entry.{Entry}
+use Rattle.box_tree.specs.declared.entry.Entry.TheVariants.{Root, SplitOf, Improve}
+use Rattle.branching.specs.Rows.{View}
+use Rattle.dual_rounding.specs.Price.{IsPriced}
+use Rattle.dual_rounding.proofs.Priced.{priced-raised}
+use Rattle.search_core.specs.Given.{IsGiven}
+use Rattle.search_core.specs.Next.{IsEntry, IsLeastSplit, IsNext}
+use Rattle.search_core.specs.declared.next.Next.TheVariants as next
+use Rattle.search_core.specs.declared.options.Options.{Options}
+use Rattle.search_run.specs.Orders.{options_of, KeepsTo, Keeps}
+use Rattle.search_run.specs.Steps.{IsHalf, IsCut, IsDue, IsStep}
+use Rattle.search_run.specs.Runs.{AreSteps, IsEnd, IsNextStep}
+use Rattle.search_run.specs.declared.ended.Ended.TheVariants as ended
+use Rattle.search_run.specs.declared.orders.Orders.{Orders}
+use Rattle.search_run.proofs.Choosing.{pick-chosen}
+
+-- ---- a split that comes next is a cut
+
+half-of : (n : Net) (form : Form) (b : Box) (o : Option ℤ) (least : ℤ) (proof : Option Proof) → o ≡ Some least → IsGiven n form b (bound least) proof → IsHalf n form b o proof
+half-of n form b o least proof e given = record {
+  named = given.in_form;
+  priced = subst (λ (z : Option ℤ). IsPriced n b (raised z (option_map (shown_by n b) proof))) (sym e) (priced-raised n b least proof given.price);
+}
+
+cut-of : (n : Net) (o : Orders) (s : Searched) (post : Bor View → ℕ → Type 0) (split : Split) (left right : Option Proof) → KeepsTo o.rule post
+    → length s.tree.splits < o.nodes → IsLeastSplit n (options_of o) s post split left right → IsCut n o s (shown_split split) left right
+cut-of n o s post split left right keeps few is =
+    let b = box_of n s.tree.splits split.leaf in
+    record {
+      few = few;
+      leaf = is.leaf;
+      cuttable = is.halving.cuttable;
+      chosen = pick-chosen n o.form o.rule post b split.leaf is.view split keeps is.seen is.picked;
+      middle = is.halving.middle;
+      left_half = half-of n o.form (left_of b split.coord split.cut) (tree_bound n s.tree) is.least left is.bounded is.halving.left_given;
+      right_half = half-of n o.form (right_of b split.coord split.cut) (tree_bound n s.tree) is.least right is.bounded is.halving.right_given;
+    }
+
+-- ---- an entry that comes next is due
+
+pub due-of : (n : Net) (o : Orders) (s : Searched) (repaired : Bool) (post : Bor View → ℕ → Type 0) (e : Entry) → KeepsTo o.rule post
+    → IsEntry n (options_of o) s repaired post e → IsDue n o s (shown_entry e)
+due-of n o s repaired post (Improve plan) keeps (inl start) = inl start
+due-of n o s repaired post (Improve plan) keeps (inr repair) = inr (repair.rooted, repair.repair)
+due-of n o s repaired post (Root proof) keeps is = is
+due-of n o s repaired post (SplitOf split left right) keeps is =
+    (is.0.rooted, cut-of n o s post split (option_map shown_proof left) (option_map shown_proof right) keeps is.1 is.2)
+
+-- ---- one step more
+
+steps-more : (n : Net) (o : Orders) (s : Searched) (es : List entries.Entry) (e : entries.Entry) → AreSteps n o s es → IsStep n o (made_from s es) e → AreSteps n o s (es ++ e ∷ [])
+steps-more n o s [] e are step = (step, tt)
+steps-more n o s (x ∷ es) e are step = (are.0, steps-more n o (after s x) es e are.1 step)
+
+made-more : (s : Searched) (es : List entries.Entry) (e : entries.Entry) → made_from s (es ++ e ∷ []) ≡ after (made_from s es) e
+made-more s [] e = refl
+made-more s (x ∷ es) e = made-more (after s x) es e
+
+-- the steps from one tree to another
+pub record IsWay (n : Net) (o : Orders) (begun found : Searched) : Type 0 where
+  pub entries : List entries.Entry
+  pub steps : AreSteps n o begun entries
+  pub made : found ≡ made_from begun entries
+
+pub way-start : (n : Net) (o : Orders) (s : Searched) → IsWay n o s s
+way-start n o s = record { entries = []; steps = tt; made = refl }
+
+pub way-more : (n : Net) (o : Orders) (begun s t : Searched) → IsWay n o begun s → IsNextStep n o s t → IsWay n o begun t
+way-more n o begun s t way next = record {
+  entries = way.entries ++ next.entry ∷ [];
+  steps = steps-more n o begun way.entries next.entry way.steps (subst (λ (x : Searched). IsStep n o x next.entry) way.made next.step);
+  made = next.made ∙ ap (λ (x : Searched). after x next.entry) way.made ∙ sym (made-more begun way.entries next.entry);
+}
+
+-- ---- what comes next, under the options of the orders
+
+module _ (n : Net) (o : Orders) (s : Searched) (options : Options) (asked : options ≡ options_of o) (repaired : Bool) (post : Bor View → ℕ → Type 0) (rule : Keeps o.rule post) where
+  pub next-step : (t : Searched) (e : Entry) → IsNext n options s repaired post (next.Do e) → IsEntryInOrder n s (shown_entry e) → t ≡ after s (shown_entry e)
+      → IsNextStep n o s t
+  next-step t e is order made = record {
+    entry = shown_entry e;
+    step = record { in_order = order; due = due-of n o s repaired post e rule.keeps (subst (λ (x : Options). IsEntry n x s repaired post e) asked is) };
+    made = made;
+  }
+
+  pub next-closed : IsNext n options s repaired post next.Closed → IsEnd n o s ended.Closed
+  next-closed is = subst (λ (x : Options). IsNext n x s repaired post next.Closed) asked is
+
+  pub next-infeasible : IsNext n options s repaired post next.Infeasible → IsEnd n o s ended.Infeasible
+  next-infeasible is = is
+
+  pub next-stopped : IsNext n options s repaired post next.Stopped → IsEnd n o s ended.Stopped
+  next-stopped is = let h : IsNext n (options_of o) s repaired post next.Stopped = subst (λ (x : Options). IsNext n x s repaired post next.Stopped) asked is in (h.0.rooted, h.1, h.2)
+
+  pub next-stuck : IsNext n options s repaired post next.Stuck → IsEnd n o s ended.Stuck
+  next-stuck is = let h : IsNext n (options_of o) s repaired post next.Stuck = subst (λ (x : Options). IsNext n x s repaired post next.Stuck) asked is in (h.0.rooted, h.1, h.2, h.3)
+
+  pub next-undecided : IsNext n options s repaired post next.Undecided → IsEnd n o s ended.Undecided
+  next-undecided is = let h : IsNext n (options_of o) s repaired post next.Undecided = subst (λ (x : Options). IsNext n x s repaired post next.Undecided) asked is in (h.0.rooted, h.1, h.2)

@@ -1,0 +1,47 @@
+-- What a run leaves, said of the tree that it began with and of the one that it found.
+use Rattle.std.specs.Prelude.{◌≡◌, ◌≢◌, ◌⊎◌, ◌<◌, ◌≤◌, ℕ, max, length, Option, Some, None, ◌≤ℤ◌}
+use Rattle.std.specs.Option.{ForSome}
+use Rattle.pool_model.specs.Network.{Net}
+use Rattle.pool_model.specs.Plan.{Written, plan_of, Obeys}
+use Rattle.pool_model.specs.Starting.{IsStarting, reach_bound}
+use Rattle.row_model.specs.Multipliers.{Proof}
+use Rattle.row_model.specs.Trees.{Tree, split_at, nodes, box_of, node_bound, tree_bound}
+use Rattle.row_model.specs.Entries.{Searched, IsCheaper, IsSearched}
+use Rattle.dual_rounding.specs.Price.{IsPriced}
+use Rattle.search_core.specs.Cases.{IsRootOpen}
+use Rattle.search_run.specs.Steps.{IsOfForm}
+use Rattle.search_run.specs.declared.orders.Orders.{Orders}
+use Rattle.search_run.specs.declared.ended.Ended.{Ended}
+use Rattle.search_run.specs.declared.ended.Ended.TheVariants.{Closed}
+
+-- no starting plan obeys
+abbrev pub HasNoStart : Net → Type 0
+HasNoStart n = (w : Written) → IsStarting n w → ¬ Obeys n (plan_of n w)
+
+-- no starting plan that obeys is cheaper than the best plan, and where there is no best plan none obeys
+abbrev pub CoversStarts : Net → Option Written → Type 0
+CoversStarts n None = HasNoStart n
+CoversStarts n (Some plan) = (w : Written) → IsStarting n w → Obeys n (plan_of n w) → ¬ IsCheaper n w plan
+
+-- a node holds no plan, or its bound is at least what the price proof shows of its box
+abbrev pub IsPricedAt : Net → Tree → ℕ → Type 0
+IsPricedAt n tree node = IsPriced n (box_of n tree.splits node) (node_bound n tree node)
+
+-- The splits and proofs that were there stand. What was added: no splits beyond those that were asked for; proofs by rows of the form
+-- alone; and each node that was added holds no plan, or its bound is at least what the price proof shows of its box.
+pub record IsGrown (n : Net) (o : Orders) (begun found : Tree) : Type 0 where
+  pub more : length begun.splits ≤ length found.splits
+  pub begins : (t : ℕ) → t < length begun.splits → split_at found.splits t ≡ split_at begun.splits t
+  pub kept : (node : ℕ) (p : Proof) → begun.proof node ≡ Some p → found.proof node ≡ Some p
+  pub few : length found.splits ≤ max o.nodes (length begun.splits)
+  pub named : (node : ℕ) (p : Proof) → found.proof node ≡ Some p → (begun.proof node ≡ Some p) ⊎ IsOfForm n o.form p
+  pub priced : (node : ℕ) → nodes begun.splits ≤ node → node < nodes found.splits → IsPricedAt n found node
+
+-- The tree is in order and the plan obeys; no starting plan is better; the bound is at least the reach bound. Where the gap is not
+-- closed, and the root had neither a proof nor a cut, it holds no plan, or its bound is at least what the price proof shows.
+pub record IsFound (n : Net) (o : Orders) (begun found : Searched) (ended : Ended) : Type 0 where
+  pub searched : IsSearched n found
+  pub starts : CoversStarts n found.best
+  pub reached : ForSome (tree_bound n found.tree) (λ z. reach_bound n ≤ℤ z)
+  pub grown : IsGrown n o begun.tree found.tree
+  pub rooted : IsRootOpen begun → ended ≢ Closed → IsPricedAt n found.tree 0

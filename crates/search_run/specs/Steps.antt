@@ -1,0 +1,74 @@
+-- The steps of a run: a starting plan, a proof of the root, a repaired plan, or a cut of the least leaf.
+use Rattle.std.specs.Prelude.{◌≡◌, ◌⊎◌, ◌<◌, ◌≤◌, ℕ, length, All, IsTrue, Option, option_map, ℤ, ◌-ℤ◌, ◌*ℤ◌, ◌<ℤ◌}
+use Rattle.std.specs.Option.{ForSome}
+use Rattle.pool_model.specs.Network.{Net}
+use Rattle.row_model.specs.Boxes.{Box, root, left_of, right_of}
+use Rattle.row_model.specs.Multipliers.{Proof, shown_by}
+use Rattle.row_model.specs.Trees.{Split, box_of, raised, tree_bound, IsLeastLeaf}
+use Rattle.row_model.specs.Entries.{Entry, root_proof, split_of, improve, Searched, IsEntryInOrder}
+use Rattle.box_space.specs.declared.coordinates.Form.{Form}
+use Rattle.cli_words.specs.declared.request.RuleName.{RuleName}
+use Rattle.cli_words.specs.declared.request.RuleName.TheVariants.{First, Widest, Violated}
+use Rattle.dual_rounding.specs.Price.{IsPriced}
+use Rattle.dual_rounding.specs.Programs.{has_row}
+use Rattle.search_core.specs.Cases.{IsBetterStart, IsCuttable, IsRepair, IsRootProof}
+use Rattle.search_core.specs.Halvings.{middle_at}
+use Rattle.search_core.specs.Next.{IsApart, IsRooted}
+use Rattle.search_run.specs.Orders.{options_of}
+use Rattle.search_run.specs.declared.orders.Orders.{Orders}
+
+-- ---- where a leaf is cut
+
+-- how far a box's ends are apart at a coordinate
+abbrev pub width : Box → ℕ → ℤ
+width b c = b.high c -ℤ b.low c
+
+-- One coordinate is narrower than another: its width over that in the root box is less, multiplied out.
+abbrev pub IsNarrowerAt : Net → Box → ℕ → ℕ → Type 0
+IsNarrowerAt n b c d = (width b c *ℤ width (root n) d) <ℤ (width b d *ℤ width (root n) c)
+
+-- of the coordinates at which the box can be cut the widest, the lowest at a tie
+pub record IsWidest (n : Net) (form : Form) (b : Box) (c : ℕ) : Type 0 where
+  pub widest : (d : ℕ) → IsCuttable n form b d → ¬ IsNarrowerAt n b c d
+  pub first : (d : ℕ) → IsCuttable n form b d → d < c → IsNarrowerAt n b d c
+
+-- Of the coordinates at which the box can be cut the one of the rule. Of the rule that goes by what a cut gains nothing is said.
+abbrev pub IsChosen : Net → Form → RuleName → Box → ℕ → Type 0
+IsChosen n form First b c = (d : ℕ) → IsCuttable n form b d → c ≤ d
+IsChosen n form Widest b c = IsWidest n form b c
+IsChosen n form Violated b c = Unit {0}
+
+-- ---- what a cut adds
+
+-- each part of a proof is a multiplier on a row of the form
+abbrev pub IsOfForm : Net → Form → Proof → Type 0
+IsOfForm n form p = All (λ q. IsTrue (has_row n form q.row)) p.parts
+
+-- A half of a leaf, with the leaf's bound, and its proof where it has one: the proof names rows of the form alone, and the half
+-- holds no plan, or its bound is at least what the price proof shows of its box.
+pub record IsHalf (n : Net) (form : Form) (b : Box) (bound : Option ℤ) (proof : Option Proof) : Type 0 where
+  pub named : ForSome proof (IsOfForm n form)
+  pub priced : IsPriced n b (raised bound (option_map (shown_by n b) proof))
+
+-- A cut of the least leaf, while there are fewer splits than were asked for: at the coordinate of the rule, in the middle.
+pub record IsCut (n : Net) (o : Orders) (s : Searched) (split : Split) (left right : Option Proof) : Type 0 where
+  pub few : length s.tree.splits < o.nodes
+  pub leaf : IsLeastLeaf n s.tree split.leaf
+  pub cuttable : IsCuttable n o.form (box_of n s.tree.splits split.leaf) split.coord
+  pub chosen : IsChosen n o.form o.rule (box_of n s.tree.splits split.leaf) split.coord
+  pub middle : split.cut ≡ middle_at (box_of n s.tree.splits split.leaf) split.coord
+  pub left_half : IsHalf n o.form (left_of (box_of n s.tree.splits split.leaf) split.coord split.cut) (tree_bound n s.tree) left
+  pub right_half : IsHalf n o.form (right_of (box_of n s.tree.splits split.leaf) split.coord split.cut) (tree_bound n s.tree) right
+
+-- ---- steps
+
+-- The entry is due: the cheapest starting plan, while it is better; then a proof of the root; then a repaired plan; then a cut.
+abbrev pub IsDue : Net → Orders → Searched → Entry → Type 0
+IsDue n o s (improve plan) = IsBetterStart n s plan ⊎ (IsRooted n (options_of o) s × IsRepair n s plan)
+IsDue n o s (root_proof proof) = IsApart n (options_of o) s × IsRootProof n o.form s proof
+IsDue n o s (split_of split left right) = IsRooted n (options_of o) s × IsCut n o s split left right
+
+-- a step: an entry that is in order and due
+pub record IsStep (n : Net) (o : Orders) (s : Searched) (e : Entry) : Type 0 where
+  pub in_order : IsEntryInOrder n s e
+  pub due : IsDue n o s e

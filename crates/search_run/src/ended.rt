@@ -1,0 +1,26 @@
+//! How a run ended, and what it leaves.
+
+use box_tree::Tree;
+
+/// How a run ended.
+#[derive(Clone, Copy, Debug, PartialEq, Eq)]
+pub enum Ended {
+    /// The best plan costs at most the asked gap more than the bound.
+    Closed,
+    /// There is a plan, and there are as many splits as were asked for.
+    Stopped,
+    /// There is a plan, and the least leaf can't be cut at any coordinate of the form.
+    Stuck,
+    /// Every leaf holds no plan.
+    Infeasible,
+    /// There is no plan, a leaf may hold one, and the search could not go on.
+    Undecided,
+}
+
+/// What a run leaves.
+#[derive(Drop)]
+pub struct Outcome {
+    /// The tree, with the cheapest plan.
+    pub tree: Tree,
+    pub ended: Ended,
+}

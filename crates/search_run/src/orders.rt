@@ -1,0 +1,52 @@
+//! What a run is asked for.
+
+ghost use Rattle.std.specs.Prelude.{◌≡◌};
+ghost use Rattle.search_run.specs.Orders as given;
+
+use box_space::Form;
+use cli_words::RuleName;
+use search_core::Options;
+
+/// How often the simplex method may change its basis, for one program.
+const PIVOTS: u32 = 10_000;
+
+/// Of how many coordinates both halves are solved before one is cut, where the rule goes by what they gain.
+const LOOKS: u32 = 3;
+
+/// What a run is asked for.
+#[derive(Clone, Copy, Debug, PartialEq, Eq)]
+pub struct Orders {
+    /// The form of the linear programs, whose coordinates are cut.
+    pub form: Form,
+    /// The number of splits at which the run stops.
+    pub nodes: u32,
+    /// The gap at which it closes, in picos.
+    pub gap: i128,
+    /// The rule that says where a leaf is cut.
+    pub rule: RuleName,
+}
+
+impl Orders {
+    /// The options of the search.
+    pub(crate) fn options(&self) -> Options
+        ensures { result ≡ given.options_of self.now }
+    {
+        Options {
+            form: self.form,
+            nodes: self.nodes,
+            gap: self.gap,
+            pivots: PIVOTS,
+            looks: looks_of(self.rule),
+        }
+    }
+}
+
+/// How many coordinates are looked at: the other rules ask for no numbers of what a cut gains.
+fn looks_of(rule: RuleName) -> u32
+    ensures { result ≡ given.looks_of rule }
+{
+    match rule {
+        RuleName::Violated => LOOKS,
+        RuleName::First | RuleName::Widest => 0,
+    }
+}

@@ -1,0 +1,8 @@
+//! Runs of the whole program on networks of the literature.
+//!
+//! What a run answers is proved in `pool_cli`. These tests show that a run gets there: how near the plan and the bound come that
+//! `check` reads off the printed certificate.
+#![tactic(auto)]
+
+#[cfg(test)]
+mod tests;
