@@ -19,7 +19,8 @@ pub passes_more : (p : ℕ → Bool) (k : ℕ) → p k ≡ true → filter p (ta
 passes_more p k e = ap (λ m. filter p (tabulate (λ i. i) m)) (add-one k) ∙ filter-append p (tabulate (λ i. i) k) (k ∷ []) ∙ ap (λ xs. filter p (tabulate (λ i. i) k) ++ xs) (filter_one p k true e)
 
 pub fails_more : (p : ℕ → Bool) (k : ℕ) → p k ≡ false → filter p (tabulate (λ i. i) (k + 1)) ≡ filter p (tabulate (λ i. i) k)
-fails_more p k e = ap (λ m. filter p (tabulate (λ i. i) m)) (add-one k) ∙ filter-append p (tabulate (λ i. i) k) (k ∷ []) ∙ ap (λ xs. filter p (tabulate (λ i. i) k) ++ xs) (filter_one p k false e) ∙ append-nil (filter p (tabulate (λ i. i) k))
+fails_more p k e = ap (λ m. filter p (tabulate (λ i. i) m)) (add-one k) ∙ filter-append p (tabulate (λ i. i) k) (k ∷ []) ∙ ap
+    (λ xs. filter p (tabulate (λ i. i) k) ++ xs) (filter_one p k false e) ∙ append-nil (filter p (tabulate (λ i. i) k))
 
 pub All-numbers : (p : ℕ → Bool) (n : ℕ) → All (λ i. i < n) (filter p (tabulate (λ i. i) n))
 All-numbers p n = All-filter p (λ i. i < n) (tabulate (λ i. i) n) (All-tabulate (λ i. i < n) (λ i. i) n (λ i lt. lt))

@@ -153,7 +153,8 @@ made-keeps n q s g w lim h p d m small =
       cost = cost-same n (plan_of n w) (proportion_flows (shown_prop q)) same;
     }
 
-pub base-too_fine : (n : Net) (q : PropPoint) (s : PropSlices) (g : ℕ) → AreSlicesOf q s → IsPropPoint n s → IsFlowDivisor s.flows.base s.flows.outs.now s.flows.directs.now g → 65536 < s.flows.base / g
+pub base-too_fine : (n : Net) (q : PropPoint) (s : PropSlices) (g : ℕ) → AreSlicesOf q s → IsPropPoint n s →
+    IsFlowDivisor s.flows.base s.flows.outs.now s.flows.directs.now g → 65536 < s.flows.base / g
     → AreTooFine n (proportion_flows (shown_prop q))
 base-too_fine n q s g h p d over = subst (λ z. AreTooFine n (proportion_flows z)) (seen-shown q s h) record { base = s.flows.base / g; least = least_base n s g p d; over = over }
 

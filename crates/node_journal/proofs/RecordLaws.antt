@@ -1,5 +1,6 @@
 -- Records at places of a file.
-use Rattle.std.proofs.Common.{◌≡◌, ℕ, zero, suc, ◌+◌, ◌-◌, ◌^◌, ◌<◌, ◌≤◌, ◌⊎◌, min, List, [], ◌∷◌, ◌++◌, length, get_or, take, drop, Option, Some, None, Result, Ok, Err, inl, inr, refl, sym, ap, subst, ◌∙◌, append_assoc, arith, length-append, length-take, length-drop}
+use Rattle.std.proofs.Common.{◌≡◌, ℕ, zero, suc, ◌+◌, ◌-◌, ◌^◌, ◌<◌, ◌≤◌, ◌⊎◌, min, List, [], ◌∷◌, ◌++◌, length, get_or, take, drop, Option, Some,
+    None, Result, Ok, Err, inl, inr, refl, sym, ap, subst, ◌∙◌, append_assoc, arith, length-append, length-take, length-drop}
 use Rattle.std.specs.Prelude.{IfOk}
 use Rattle.std.specs.List.{AllByRecursion}
 use Rattle.std.proofs.lemmas.List.{take-append-drop, take_at, drop_at, append-nil, drop-drop, take_min}
@@ -62,7 +63,8 @@ one_list (e ∷ l) (f ∷ m) x y a b cx cy is =
     (cc, others.1)
 
 -- no list of records that ends at a closed gate goes over a bad one
-pub bad_or_listed : (largest : ℕ) (l m : List Entry) (x y : List ℕ) → AllByRecursion (IsAllowed largest) l → AllByRecursion (IsAllowed largest) m → IsBad largest x → IsClosed y → ¬ (records l ++ x ≡ records m ++ y)
+pub bad_or_listed : (largest : ℕ) (l m : List Entry) (x y : List ℕ) → AllByRecursion (IsAllowed largest) l → AllByRecursion (IsAllowed largest) m →
+    IsBad largest x → IsClosed y → ¬ (records l ++ x ≡ records m ++ y)
 bad_or_listed largest [] [] x y a b bad cy is = closed_not_open y bad.open_gate.0 cy (sym is ∙ bad.open_gate.1)
 bad_or_listed largest [] (f ∷ m) x y a b bad cy is =
     bad.no_entry f (records m ++ y) b.0 (is ∙ append_assoc (record_bytes f) (records m) y)
@@ -105,7 +107,8 @@ bad_cut largest rest cut = record {
   where
     short : (e : Entry) (behind : List ℕ) → 1 ∷ cut.0 ≡ record_bytes e ++ behind → 4 ≤ length cut.0
     short e behind is =
-        omega (arith, ap length is, length-append (field 4 (length (payload e)) ++ payload e) behind, length-append (field 4 (length (payload e))) (payload e), length-field 4 (length (payload e)), cut.2)
+        omega (arith, ap length is, length-append (field 4 (length (payload e)) ++ payload e) behind,
+            length-append (field 4 (length (payload e))) (payload e), length-field 4 (length (payload e)), cut.2)
 
 module _ (largest n : ℕ) (rest more : List ℕ) (small : n < 2 ^ 32) (opens : rest ≡ 1 ∷ field 4 n ++ more) where
   -- an entry that stands there has a payload of this length
@@ -177,7 +180,8 @@ first_bytes at end n file size is =
     ap (λ (k : ℕ). take k (drop at file)) same ∙ take_min 5 (drop at file)
 
 -- what a reader made of all the bytes
-pub read_spells : {E : Type 0} (shown : E → Entry) (bytes : List ℕ) (r : Result E Unread) → IsBytes bytes → Gives shown r (payload_at bytes) → IfOk r (λ e. (bytes ≡ payload (shown e)) × EntryFits (shown e))
+pub read_spells : {E : Type 0} (shown : E → Entry) (bytes : List ℕ) (r : Result E Unread) → IsBytes bytes → Gives shown r (payload_at bytes) →
+    IfOk r (λ e. (bytes ≡ payload (shown e)) × EntryFits (shown e))
 read_spells shown bytes (Ok e) fits gives = payload_takes bytes (shown e) fits gives
 read_spells shown bytes (Err e) fits gives = tt
 

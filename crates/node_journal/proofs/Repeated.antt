@@ -59,7 +59,8 @@ pub parts-ends : (e : Unread) (front : List Part) (count i : ℕ) (bytes : List 
     → with_front front (parts_at (count - i) bytes) ≡ total → Fails e total
 parts-ends = ends part_at parts_at parts-none parts-more
 
-pub parts-done : (front : List Part) (count i : ℕ) (bytes : List ℕ) (total : Option (List Part × List ℕ)) → count ≤ i → with_front front (parts_at (count - i) bytes) ≡ total → total ≡ Some (front, bytes)
+pub parts-done : (front : List Part) (count i : ℕ) (bytes : List ℕ) (total : Option (List Part × List ℕ)) → count ≤ i →
+    with_front front (parts_at (count - i) bytes) ≡ total → total ≡ Some (front, bytes)
 parts-done = is_done part_at parts_at parts-none parts-more
 
 -- ---- numbers
@@ -80,5 +81,6 @@ pub numbers-ends : (width : ℕ) (e : Unread) (front : List ℕ) (count i : ℕ)
     → with_front front (numbers_at width (count - i) bytes) ≡ total → Fails e total
 numbers-ends width = ends (number_at width) (numbers_at width) (numbers-none width) (numbers-more width)
 
-pub numbers-done : (width : ℕ) (front : List ℕ) (count i : ℕ) (bytes : List ℕ) (total : Option (List ℕ × List ℕ)) → count ≤ i → with_front front (numbers_at width (count - i) bytes) ≡ total → total ≡ Some (front, bytes)
+pub numbers-done : (width : ℕ) (front : List ℕ) (count i : ℕ) (bytes : List ℕ) (total : Option (List ℕ × List ℕ)) → count ≤ i →
+    with_front front (numbers_at width (count - i) bytes) ≡ total → total ≡ Some (front, bytes)
 numbers-done width = is_done (number_at width) (numbers_at width) (numbers-none width) (numbers-more width)

@@ -67,7 +67,8 @@ mixed_inflow-lifted n p j k =
     omega (
       arith,
       additive,
-      int_sum_at-same n.out_product j (λ o. others n p (n.out_pool o) *ℤ (mix n p (n.out_pool o) k *ℤ pos (p.out o))) (λ o. others n p (n.out_pool o) *ℤ mix n p (n.out_pool o) k *ℤ pos (p.out o)) n.outs
+      int_sum_at-same n.out_product j (λ o. others n p (n.out_pool o) *ℤ (mix n p (n.out_pool o) k *ℤ pos (p.out o)))
+          (λ o. others n p (n.out_pool o) *ℤ mix n p (n.out_pool o) k *ℤ pos (p.out o)) n.outs
           (λ o lo is. grouped (others n p (n.out_pool o)) (mix n p (n.out_pool o) k) (pos (p.out o))),
       direct_mix-scaled n (factors n p) p j k,
     )

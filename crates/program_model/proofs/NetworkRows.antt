@@ -106,9 +106,11 @@ module _ (n : Net) (second : ℕ) (p : Plan) (others : PerVariable) where
       (
         λ l lt. left-met second (outflow n p l) (p.base * n.pool_max l) (value_over n (with_flows second p others) (p.base * second) (pool_row n l)) (c.pools l lt) (pool_row-value l),
         (
-          λ j lt. left-met second (product_inflow n p j) (p.base * n.product_max j) (value_over n (with_flows second p others) (p.base * second) (maximum_row n j)) (c.at_most j lt) (maximum_row-value j),
+          λ j lt. left-met second (product_inflow n p j) (p.base * n.product_max j)
+              (value_over n (with_flows second p others) (p.base * second) (maximum_row n j)) (c.at_most j lt) (maximum_row-value j),
           (
-            λ j lt. left-met second (p.base * n.product_min j) (product_inflow n p j) (value_over n (with_flows second p others) (p.base * second) (minimum_row n j)) (c.at_least j lt) (minimum_row-value j),
+            λ j lt. left-met second (p.base * n.product_min j) (product_inflow n p j)
+                (value_over n (with_flows second p others) (p.base * second) (minimum_row n j)) (c.at_least j lt) (minimum_row-value j),
             tt,
           ),
         ),

@@ -127,6 +127,8 @@ point_of_p-equal n a b lim h p =
           ap (λ z. z *ℤ pos b.qual_base) (sym (h.mixed o k lt lk)) ∙ ap (λ z. a.mixed o k *ℤ pos z) (sym h.qual_base) ∙ p.products o k lt lk
           ∙ ap (λ z. z *ℤ pos (a.out o)) (h.quality (n.out_pool o) k (lim.out_pools o lt) lk)
           ∙ ap (λ z. b.quality (n.out_pool o) k *ℤ pos z) (h.flows.out o lt);
-      low = λ l k lt lk. subst (λ z. (root_low n (qual l k) *ℤ pos z) ≤ℤ b.quality l k) h.qual_base (subst (λ z. (root_low n (qual l k) *ℤ pos a.qual_base) ≤ℤ z) (h.quality l k lt lk) (p.low l k lt lk));
-      high = λ l k lt lk. subst (λ z. b.quality l k ≤ℤ (root_high n (qual l k) *ℤ pos z)) h.qual_base (subst (λ z. z ≤ℤ (root_high n (qual l k) *ℤ pos a.qual_base)) (h.quality l k lt lk) (p.high l k lt lk));
+      low = λ l k lt lk. subst (λ z. (root_low n (qual l k) *ℤ pos z) ≤ℤ b.quality l k) h.qual_base
+          (subst (λ z. (root_low n (qual l k) *ℤ pos a.qual_base) ≤ℤ z) (h.quality l k lt lk) (p.low l k lt lk));
+      high = λ l k lt lk. subst (λ z. b.quality l k ≤ℤ (root_high n (qual l k) *ℤ pos z)) h.qual_base
+          (subst (λ z. z ≤ℤ (root_high n (qual l k) *ℤ pos a.qual_base)) (h.quality l k lt lk) (p.high l k lt lk));
     }

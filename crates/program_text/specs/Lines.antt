@@ -33,7 +33,8 @@ cost_line n = codes "min" ++ (terms_text n (by_number n (costs n)) ++ codes "\n"
 
 -- a variable's ends
 abbrev pub ends_line : Net → ℕ → ℤ → ℤ → List ℕ
-ends_line n v low high = joined (codes "ends " ∷ (letter_of (name_of n v).symbol ∷ []) ∷ signed_decimal (pos (name_of n v).number) ∷ codes " " ∷ signed_decimal low ∷ codes " " ∷ signed_decimal high ∷ codes "\n" ∷ [])
+ends_line n v low high = joined (codes "ends " ∷ (letter_of (name_of n v).symbol ∷ []) ∷ signed_decimal
+    (pos (name_of n v).number) ∷ codes " " ∷ signed_decimal low ∷ codes " " ∷ signed_decimal high ∷ codes "\n" ∷ [])
 
 -- the line of a variable in a box, where the form has it
 abbrev pub ends_text : Net → Box → Form → ℕ → List ℕ

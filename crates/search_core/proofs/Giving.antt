@@ -55,7 +55,8 @@ module _ (n : Net) (form : Form) (seen b : Box) (program : Lp) (advice : Advice)
 named-some : (n : Net) (form : Form) (o : Option held.Proof) → IfSome o (λ p. All (λ q. IsTrue (has_row n form q.row)) p.parts.items)
     → ForSome (option_map shown_proof o) (λ p. All (λ q. IsTrue (has_row n form q.row)) p.parts)
 named-some n form None h = λ p e. absurd (none-some p e)
-named-some n form (Some p) h = some_at (λ (q : Proof). All (λ r. IsTrue (has_row n form r.row)) q.parts) (shown_proof p) (All-map (λ (q : Part). IsTrue (has_row n form q.row)) shown_part p.parts.items h)
+named-some n form (Some p) h = some_at (λ (q : Proof). All (λ r. IsTrue (has_row n form r.row)) q.parts) (shown_proof p)
+    (All-map (λ (q : Part). IsTrue (has_row n form q.row)) shown_part p.parts.items h)
 
 module _ (n : Net) (form : Form) (v : BoxView) (e : BoxEnds) (b : Box) (program : Lp) (advice : Advice) (fallback : Shown) (limited : IsLimited n)
     (low : v.low.now ≡ e.low.items) (high : v.high.now ≡ e.high.items) (is : IsProgramOf n form (shown_box_ends e) program) (ends : AreEndsOf n b e) where

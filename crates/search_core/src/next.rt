@@ -43,7 +43,8 @@ impl Search {
     /// want of memory.
     pub fn next(&self, alloc: Global, net: &Network, rule: &CutRule) -> Result<Next, Memory>
         requires { IsSearchOf (net_of net.now) self.now }
-        ensures next { IfOk result (IsNext (net_of net.now) self.now.options (searched self.now) self.now.repaired (⟦<branching::RuleClosure as Fn(&branching::LeafView) -> usize>⟧.post rule.now.closure)) }
+        ensures next { IfOk result (IsNext (net_of net.now) self.now.options (searched self.now) self.now.repaired
+            (⟦<branching::RuleClosure as Fn(&branching::LeafView) -> usize>⟧.post rule.now.closure)) }
         ensures in_order { IfOk result (IsDo (λ entry. IsEntryInOrder (net_of net.now) (searched self.now) (shown_entry entry))) }
     {
         let _counts = net.counts();
@@ -74,7 +75,8 @@ impl Search {
         requires search { IsSearchOf (net_of net.now) self.now }
         requires rooted { IsRooted (net_of net.now) self.now.options (searched self.now) }
         requires bound { tree_bound (net_of net.now) (searched self.now).tree ≡ Some bound }
-        ensures next { IfOk result (IsNext (net_of net.now) self.now.options (searched self.now) self.now.repaired (⟦<branching::RuleClosure as Fn(&branching::LeafView) -> usize>⟧.post rule.now.closure)) }
+        ensures next { IfOk result (IsNext (net_of net.now) self.now.options (searched self.now) self.now.repaired
+            (⟦<branching::RuleClosure as Fn(&branching::LeafView) -> usize>⟧.post rule.now.closure)) }
         ensures in_order { IfOk result (IsDo (λ entry. IsEntryInOrder (net_of net.now) (searched self.now) (shown_entry entry))) }
     {
         if self.repaired && self.is_spent() {
@@ -98,7 +100,8 @@ impl Search {
         requires leaf { IsSolvedLeaf (net_of net.now) (searched self.now) leaf.now }
         requires bench { IsBench (net_of net.now) bench.old }
         requires form { bench.old.form ≡ self.now.options.form }
-        ensures next { IfOk result (IsNext (net_of net.now) self.now.options (searched self.now) self.now.repaired (⟦<branching::RuleClosure as Fn(&branching::LeafView) -> usize>⟧.post rule.now.closure)) }
+        ensures next { IfOk result (IsNext (net_of net.now) self.now.options (searched self.now) self.now.repaired
+            (⟦<branching::RuleClosure as Fn(&branching::LeafView) -> usize>⟧.post rule.now.closure)) }
         ensures in_order { IfOk result (IsDo (λ entry. IsEntryInOrder (net_of net.now) (searched self.now) (shown_entry entry))) }
     {
         if let Some(plan) = self.repaired_plan(alloc, net, leaf)? {

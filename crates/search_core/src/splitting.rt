@@ -37,7 +37,8 @@ impl Search {
         requires leaf { IsSolvedLeaf (net_of net.now) (searched self.now) leaf.now }
         requires bench { IsBench (net_of net.now) bench.old }
         requires form { bench.old.form ≡ self.now.options.form }
-        ensures next { IfOk result (IsNext (net_of net.now) self.now.options (searched self.now) self.now.repaired (⟦<branching::RuleClosure as Fn(&branching::LeafView) -> usize>⟧.post rule.now.closure)) }
+        ensures next { IfOk result (IsNext (net_of net.now) self.now.options (searched self.now) self.now.repaired
+            (⟦<branching::RuleClosure as Fn(&branching::LeafView) -> usize>⟧.post rule.now.closure)) }
         ensures in_order { IfOk result (IsDo (λ entry. IsEntryInOrder (net_of net.now) (searched self.now) (shown_entry entry))) }
     {
         let looked = self.look(alloc, net, leaf, bench)?;

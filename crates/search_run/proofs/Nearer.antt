@@ -107,7 +107,8 @@ module _ (n : Net) (s t : Searching) (is : IsSearchOf n s) (now : IsSearchOf n t
   none-now x e none = no-start-left n t now (subst (HasNoBetterStart n) (sym e) none)
 
   -- a proof or a split leaves the best plan
-  none-kept : (e : entries.Entry) → ((w : Written) → IsBetterStart n (after (searched s) e) w → IsBetterStart n (searched s) w) → HasNoBetterStart n (searched s) → HasNoBetterStart n (after (searched s) e)
+  none-kept : (e : entries.Entry) → ((w : Written) → IsBetterStart n (after (searched s) e) w → IsBetterStart n (searched s) w) →
+      HasNoBetterStart n (searched s) → HasNoBetterStart n (after (searched s) e)
   none-kept e back none = λ w b. none w (back w b)
 
   flag-same : t.repaired ≡ s.repaired → repair_left t.repaired ≡ repair_left s.repaired
@@ -121,7 +122,8 @@ module _ (n : Net) (s t : Searching) (is : IsSearchOf n s) (now : IsSearchOf n t
       let x = after (searched s) (entries.improve w) in
       omega (arith, nodes-same, length-same x made, root-same x made, flag-same flag, one-start-left n s w is start, none-now x made (none-after-start n (searched s) w start.cheapest))
 
-  repair-nearer : (w : Written) → searched t ≡ after (searched s) (entries.improve w) → s.repaired ≡ false → t.repaired ≡ true → IsPlanInOrder n (searched s) w → HasNoBetterStart n (searched s) → left t < left s
+  repair-nearer : (w : Written) → searched t ≡ after (searched s) (entries.improve w) → s.repaired ≡ false → t.repaired ≡ true →
+      IsPlanInOrder n (searched s) w → HasNoBetterStart n (searched s) → left t < left s
   repair-nearer w made before flag order none =
       let x = after (searched s) (entries.improve w) in
       let clear : repair_left s.repaired ≡ 1 = ap repair_left before in
@@ -168,7 +170,8 @@ module _ (n : Net) (s t : Searching) (is : IsSearchOf n s) (now : IsSearchOf n t
         none-now x made (none-kept (entries.split_of split l r) (λ w b. record { cheapest = b.cheapest; cheaper = b.cheaper }) none),
       )
 
-  pub nearer : (rule : RuleName) (post : Bor View → ℕ → Type 0) (keeps : Keeps rule post) (e : Entry) → searched t ≡ after (searched s) (shown_entry e) → IsRepairedAfter n (searched s) (shown_entry e) s.repaired t.repaired
+  pub nearer : (rule : RuleName) (post : Bor View → ℕ → Type 0) (keeps : Keeps rule post) (e : Entry) →
+      searched t ≡ after (searched s) (shown_entry e) → IsRepairedAfter n (searched s) (shown_entry e) s.repaired t.repaired
       → IsEntryInOrder n (searched s) (shown_entry e) → IsEntry n s.options (searched s) s.repaired post e → left t < left s
   nearer rule post keeps (Improve plan) made flag order (inl start) = start-nearer (shown_plan plan) made (flag.started (shown_plan plan) start) start
   nearer rule post keeps (Improve plan) made flag order (inr repair) =

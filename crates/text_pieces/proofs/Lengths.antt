@@ -8,7 +8,8 @@ unfolding fixed
 length-six n = refl
 
 -- the sign, the whole units, the point and six digits
-pub length-signed : (negative : Bool) (size : ℕ) (before units : List ℕ) → before ≡ sign negative → units ≡ decimal (size / 10 ^ 6) → length before + length units + 7 ≡ length (signed_text negative size)
+pub length-signed : (negative : Bool) (size : ℕ) (before units : List ℕ) → before ≡ sign negative → units ≡ decimal (size / 10 ^ 6) →
+    length before + length units + 7 ≡ length (signed_text negative size)
 length-signed negative size before units e f =
     let s = sign negative in
     let u = decimal (size / 10 ^ 6) in

@@ -1,5 +1,6 @@
 -- The certificate of what was found is valid, and its numbers and lists are those of what it is made of.
-use Rattle.std.proofs.Common.{◌≡◌, ℕ, suc, ◌*◌, ◌+◌, ◌^◌, ◌<◌, ◌≤◌, List, All, map, length, get_or, Option, Some, None, ℤ, pos, negsuc, neg_ℤ, ◌-ℤ◌, ◌*ℤ◌, ◌≤ℤ◌, unsigned_abs, FitsSigned, arith, refl, sym, ap, subst, ◌∙◌}
+use Rattle.std.proofs.Common.{◌≡◌, ℕ, suc, ◌*◌, ◌+◌, ◌^◌, ◌<◌, ◌≤◌, List, All, map, length, get_or, Option, Some, None, ℤ, pos, negsuc, neg_ℤ, ◌-ℤ◌,
+    ◌*ℤ◌, ◌≤ℤ◌, unsigned_abs, FitsSigned, arith, refl, sym, ap, subst, ◌∙◌}
 use Rattle.std.specs.Option.{ForSome}
 use mir.Val.{to_z, of_z}
 use Rattle.std.specs.Prelude.{IfErr, Result, Ok, Err, MatchOption, unwrap_or}
@@ -39,7 +40,8 @@ tree_back n s is =
     ap (λ (f : ℕ → Option Proof). record { splits = s.tree.splits; proof = f })
     (proofs_back s.tree.proof (nodes s.tree.splits) (λ node past. none_there (s.tree.proof node) (λ p e. absurd (omega (arith, past, is.placed node p e)))))
 
-claim_shown : (n : Net) (tree : Tree) (best : Option Written) (b : Option ℤ) → tree_bound n tree ≡ b → ForSome best (IsWritten n) → ForSome best (λ w. Obeys n (plan_of n w)) → IsShown n tree (claim_of n best b)
+claim_shown : (n : Net) (tree : Tree) (best : Option Written) (b : Option ℤ) → tree_bound n tree ≡ b → ForSome best (IsWritten n) →
+    ForSome best (λ w. Obeys n (plan_of n w)) → IsShown n tree (claim_of n best b)
 claim_shown n tree best None e written obeys = e
 claim_shown n tree None (Some z) e written obeys = e
 claim_shown n tree (Some w) (Some z) e written obeys = record { written = written w refl; obeys = obeys w refl; cost_is = refl; base_is = refl; bound_is = e; gap_is = refl }
@@ -125,11 +127,13 @@ read_gap : (z num y : ℤ) (b : ℕ) → FitsSigned w128 num → FitsSigned w128
 read_gap z num y b wide fits e low few above size =
     rw (read_product z y b fits e few) (rw (to_z-of_z w128 num wide) (rw (to_z-of_z w128 (z *ℤ pos b) (product_fits z num b low few above size)) refl))
 
-pub read_gap_fits : (z num y : ℤ) (b : ℕ) → FitsSigned w128 num → FitsSigned w128 z → y ≡ pos b → neg_ℤ (pos (128 * 10 ^ 24)) ≤ℤ z → b ≤ 65536 * 1048576 → (z *ℤ pos b) ≤ℤ num → unsigned_abs num ≤ 2 ^ 123
+pub read_gap_fits : (z num y : ℤ) (b : ℕ) → FitsSigned w128 num → FitsSigned w128 z → y ≡ pos b → neg_ℤ (pos (128 * 10 ^ 24)) ≤ℤ z →
+    b ≤ 65536 * 1048576 → (z *ℤ pos b) ≤ℤ num → unsigned_abs num ≤ 2 ^ 123
     → FitsSigned w128 (to_z w128 (of_z w128 num) -ℤ to_z w128 (of_z w128 (to_z w128 (of_z w128 z) *ℤ to_z w128 (of_z w128 y))))
 read_gap_fits z num y b wide fits e low few above size = rw (read_gap z num y b wide fits e low few above size) (gap_fits z num b low few above size)
 
-pub read_gap_is : (z num y : ℤ) (b : ℕ) → FitsSigned w128 num → FitsSigned w128 z → y ≡ pos b → neg_ℤ (pos (128 * 10 ^ 24)) ≤ℤ z → b ≤ 65536 * 1048576 → (z *ℤ pos b) ≤ℤ num → unsigned_abs num ≤ 2 ^ 123
+pub read_gap_is : (z num y : ℤ) (b : ℕ) → FitsSigned w128 num → FitsSigned w128 z → y ≡ pos b → neg_ℤ (pos (128 * 10 ^ 24)) ≤ℤ z →
+    b ≤ 65536 * 1048576 → (z *ℤ pos b) ≤ℤ num → unsigned_abs num ≤ 2 ^ 123
     → to_z w128 (of_z w128 (to_z w128 (of_z w128 num) -ℤ to_z w128 (of_z w128 (to_z w128 (of_z w128 z) *ℤ to_z w128 (of_z w128 y))))) ≡ num -ℤ z *ℤ pos b
 read_gap_is z num y b wide fits e low few above size =
     rw (read_gap z num y b wide fits e low few above size) (to_z-of_z w128 (num -ℤ z *ℤ pos b) (gap_fits z num b low few above size))

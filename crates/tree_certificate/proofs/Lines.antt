@@ -73,7 +73,8 @@ proofs_back f count none = fun_ext (λ node. elim (below_or_past node count) [
 
 -- ---- how the lines stand
 
-pub all_lines : (P : NodeProof → Type 0) (f : ℕ → Option Proof) (count : ℕ) → ((node : ℕ) (p : Proof) → node < count → f node ≡ Some p → P record { node = node; proof = p }) → All P (node_proofs f count)
+pub all_lines : (P : NodeProof → Type 0) (f : ℕ → Option Proof) (count : ℕ) →
+    ((node : ℕ) (p : Proof) → node < count → f node ≡ Some p → P record { node = node; proof = p }) → All P (node_proofs f count)
 all_lines P f zero h = All-nil P
 all_lines P f (suc k) h = All-append P (node_proofs f k) (line_of k (f k)) (all_lines P f k (λ node p lt e. h node p (omega arith) e)) (line k (f k) (λ p e. h k p (omega arith) e))
   where

@@ -15,8 +15,10 @@ loop-var-preserved c =
     let low : FitsSigned w128 c.var_ends-low.result.0 = search rules in
     let high : FitsSigned w128 c.var_ends-low.result.1 = search rules in
     record {
-      low = simp to_z-of_z (numbers-more c.loop-var.least (by_number n (lows n b)) c.loop-var.var c.var_ends-low.result.0 (omega (arith, c.vars-var-end.ensures.count)) c.loop-var.invariant.low c.var_ends-low.ensures.low);
-      high = simp to_z-of_z (numbers-more c.loop-var.greatest (by_number n (highs n b)) c.loop-var.var c.var_ends-low.result.1 (omega (arith, c.vars-var-end.ensures.count)) c.loop-var.invariant.high c.var_ends-low.ensures.high);
+      low = simp to_z-of_z (numbers-more c.loop-var.least (by_number n (lows n b)) c.loop-var.var c.var_ends-low.result.0
+          (omega (arith, c.vars-var-end.ensures.count)) c.loop-var.invariant.low c.var_ends-low.ensures.low);
+      high = simp to_z-of_z (numbers-more c.loop-var.greatest (by_number n (highs n b)) c.loop-var.var c.var_ends-low.result.1
+          (omega (arith, c.vars-var-end.ensures.count)) c.loop-var.invariant.high c.var_ends-low.ensures.high);
     }
 
 pub returns-clause-low : goal.returns-clause-low

@@ -21,7 +21,8 @@ returns-in_err-write_row-clause-numbers c =
 pub loop-n-preserved : goal.loop-n-preserved
 loop-n-preserved c = record {
   numbers = map-set_same (λ (r : LpRow). r.id) c.loop-n.into c.loop-n.n c.write_row.new.into c.index-into-n.result (omega arith) c.in_ok-write_row.ensures.id ∙ c.loop-n.invariant.numbers;
-  written = All-written (IsRowIn (net_of c.args.net.now) (shown_box c.args.v.now)) c.loop-n.into c.loop-n.n c.write_row.new.into (omega arith) c.loop-n.invariant.written c.in_ok-write_row.ensures.written;
+  written = All-written (IsRowIn (net_of c.args.net.now) (shown_box c.args.v.now)) c.loop-n.into c.loop-n.n c.write_row.new.into
+      (omega arith) c.loop-n.invariant.written c.in_ok-write_row.ensures.written;
 }
 
 pub returns-clause-written : goal.returns-clause-written

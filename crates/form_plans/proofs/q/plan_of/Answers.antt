@@ -57,7 +57,8 @@ returns-clause-plan c =
     let g = c.flow_divisor-divisor.result in
     let p = c.if-not-is_prop_point.ensures.0 refl in
     ok-more c.written.result (λ (w : WrittenPlan). IsMade s g (shown_plan w)) (λ (w : WrittenPlan). IsPropPlan n q (shown_plan w))
-    (λ w made. made-keeps n q s g (shown_plan w) c.sizes-sizes.ensures.limited c.prop_slices-lists.ensures p c.flow_divisor-divisor.ensures made (c.if-not-is_fine.ensures.0 refl)) c.written.ensures.made
+    (λ w made. made-keeps n q s g (shown_plan w) c.sizes-sizes.ensures.limited c.prop_slices-lists.ensures p c.flow_divisor-divisor.ensures made
+        (c.if-not-is_fine.ensures.0 refl)) c.written.ensures.made
 
 pub returns-clause-has_plan : goal.returns-clause-has_plan
 returns-clause-has_plan c =

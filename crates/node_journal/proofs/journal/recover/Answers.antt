@@ -20,7 +20,8 @@ pub shut-requires-clause-settled : goal.shut-requires-clause-settled
 shut-requires-clause-settled g c = λ tells.
     let was = c.requires.settled (subst IsTrue c.read_records.ensures.same_disk.same_telling tells) in (
       was.0,
-      still g.D.Disk.moment g.D.Disk.left_since g.D.Disk.may_leave g.met.D.Disk.counts_now g.met.D.Disk.only_now c.args.disk.now c.read_records.new.disk was.0 (g.D.Disk.reads c.args.disk.now) (g.D.Disk.reads c.read_records.new.disk)
+      still g.D.Disk.moment g.D.Disk.left_since g.D.Disk.may_leave g.met.D.Disk.counts_now g.met.D.Disk.only_now c.args.disk.now
+          c.read_records.new.disk was.0 (g.D.Disk.reads c.args.disk.now) (g.D.Disk.reads c.read_records.new.disk)
           c.in_ok-entries.ensures.same c.read_records.ensures.quiet was.1,
     )
 
@@ -65,11 +66,14 @@ returns-clause-opened g c = λ text file d headed.
     let same : length c.as_mut_slice.result.now ≡ length c.args.room.items - 5 = omega (arith, c.as_mut_slice.ensures.len, c.in_ok-payload.ensures.len, c.len.ensures, c.args.room.ok.0) in
     let list = map shown_entry c.in_ok-entries.entries.items in
     let recs : AreRecordsAt (length c.args.room.items - 5) c.args.start file list c.in_ok-entries.gate = subst (λ (n : ℕ). AreRecordsAt n c.args.start file list c.in_ok-entries.gate) same read.0 in
-    let mid = still g.D.Disk.moment g.D.Disk.left_since g.D.Disk.may_leave g.met.D.Disk.counts_now g.met.D.Disk.only_now c.args.disk.now c.read_records.new.disk file (g.D.Disk.reads c.args.disk.now) (g.D.Disk.reads c.read_records.new.disk)
+    let mid = still g.D.Disk.moment g.D.Disk.left_since g.D.Disk.may_leave g.met.D.Disk.counts_now g.met.D.Disk.only_now c.args.disk.now
+        c.read_records.new.disk file (g.D.Disk.reads c.args.disk.now) (g.D.Disk.reads c.read_records.new.disk)
     c.in_ok-entries.ensures.same c.read_records.ensures.quiet d in
     let done = c.in_ok-shut.ensures.on_disk file mid size read.1 in
-    let opened = recovered text c.args.start (length c.args.room.items - 5) file headed list c.in_ok-entries.gate done.0 (g.D.Disk.reads c.shut.new.disk) (g.D.Disk.may_leave c.shut.new.disk) recs read.1 done.1 done.2 done.3 in
-    subst (λ (n : ℕ). IsOpenedAs text (length c.args.room.items - 5) file list n (g.D.Disk.reads c.shut.new.disk) (g.D.Disk.may_leave c.shut.new.disk)) (sym (ap (λ (r : Ready). r.gate) c.at.ensures)) opened
+    let opened = recovered text c.args.start (length c.args.room.items - 5) file headed list c.in_ok-entries.gate done.0
+        (g.D.Disk.reads c.shut.new.disk) (g.D.Disk.may_leave c.shut.new.disk) recs read.1 done.1 done.2 done.3 in
+    subst (λ (n : ℕ). IsOpenedAs text (length c.args.room.items - 5) file list n (g.D.Disk.reads c.shut.new.disk)
+        (g.D.Disk.may_leave c.shut.new.disk)) (sym (ap (λ (r : Ready). r.gate) c.at.ensures)) opened
 
 pub returns-clause-quiet : goal.returns-clause-quiet
 returns-clause-quiet g c = λ text file list d headed kept.

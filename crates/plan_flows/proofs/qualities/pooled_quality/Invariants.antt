@@ -8,6 +8,7 @@ use Rattle.plan_flows.proofs.qualities.pooled_quality.Given as goal
 
 abbrev pub invariant-loop-out : goal.invariant-loop-out
 invariant-loop-out l = record {
-  exact : l.sum ≡ int_sum_at (net_of l.net).out_product l.product (λ o. weighed (net_of l.net) (shown_plan l.plan) ((net_of l.net).out_pool o) l.quality *ℤ pos (written_out (shown_plan l.plan) o)) l.out;
+  exact : l.sum ≡ int_sum_at (net_of l.net).out_product l.product (λ o. weighed (net_of l.net) (shown_plan l.plan)
+      ((net_of l.net).out_pool o) l.quality *ℤ pos (written_out (shown_plan l.plan) o)) l.out;
   size : unsigned_abs l.sum ≤ 2 ^ 113 * l.out;
 }

@@ -15,7 +15,8 @@ loop-feed-preserved c =
     let within : at < length table = omega (arith, c.feed-pool.ensures.pool, limited.feed_pools arc among, limited.pools, c.loop-feed.invariant.long) in
     record {
       long = length-set table at _ ∙ c.loop-feed.invariant.long;
-      exact = added_first n.feed_pool (feed_flow n c.args.point.now) arc at _ n.pools table within c.feed-pool.ensures.pool c.loop-feed.invariant.exact (ap (λ z. get_or table at 0 + z) c.feed_flow.ensures.value);
+      exact = added_first n.feed_pool (feed_flow n c.args.point.now) arc at _ n.pools table within c.feed-pool.ensures.pool
+          c.loop-feed.invariant.exact (ap (λ z. get_or table at 0 + z) c.feed_flow.ensures.value);
       size = λ i. omega (
         arith,
         added_size at (get_or table at 0 + c.feed_flow.result) (2 ^ 95 * arc) (2 ^ 95) c.feed_flow.result table within c.loop-feed.invariant.size (omega arith) c.feed_flow.ensures.size i,

@@ -15,7 +15,8 @@ loop-feed-preserved c =
     let within : at < length table = omega (arith, c.feed-pool.ensures.pool, limited.feed_pools arc among, limited.pools, c.loop-feed.invariant.long) in
     record {
       long = length-set table at _ ∙ c.loop-feed.invariant.long;
-      exact = added_first n.feed_pool (rounded_weight n (feed_flow n c.args.point.now)) arc at _ n.pools table within c.feed-pool.ensures.pool c.loop-feed.invariant.exact (ap (λ z. get_or table at 0 + z) c.rounded.ensures.value);
+      exact = added_first n.feed_pool (rounded_weight n (feed_flow n c.args.point.now)) arc at _ n.pools table within c.feed-pool.ensures.pool
+          c.loop-feed.invariant.exact (ap (λ z. get_or table at 0 + z) c.rounded.ensures.value);
       size = λ i. omega (
         arith,
         added_size at (get_or table at 0 + c.rounded.result) (2 ^ 20 * arc) (2 ^ 20) c.rounded.result table within c.loop-feed.invariant.size (omega arith) c.rounded.ensures.size i,

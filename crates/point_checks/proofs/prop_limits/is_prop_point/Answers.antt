@@ -20,5 +20,6 @@ returns c =
     let n = net_of c.args.net.now in
     let s = c.args.point.now in
     same-test _ (IsPropPoint n s) c.keep_limits.result c.keep_limits.ensures
-    (all-point n s (c.if-not-has_shape.ensures.0 refl) (c.if-not-are_products.ensures.0 refl) (c.if-not-sum_to_one.ensures.0 refl) (c.if-not-come_from_feeds.ensures.0 refl) (c.if-not-flows_carry.ensures.0 refl))
+    (all-point n s (c.if-not-has_shape.ensures.0 refl) (c.if-not-are_products.ensures.0 refl) (c.if-not-sum_to_one.ensures.0 refl)
+        (c.if-not-come_from_feeds.ensures.0 refl) (c.if-not-flows_carry.ensures.0 refl))
     (point-limits n s)

@@ -19,7 +19,8 @@ returns-in_err-write_mean-clause-wrote g c =
 
 pub loop-quality-preserved : goal.loop-quality-preserved
 loop-quality-preserved g c = (
-  more-each (mean_line c.args.net.now (plan_of (net_of c.args.net.now) (shown_plan c.args.plan.now)) c.args.product) c.loop-quality.quality (g.K.Sink.taken c.args.out.now) (g.K.Sink.taken c.loop-quality.out)
+  more-each (mean_line c.args.net.now (plan_of (net_of c.args.net.now) (shown_plan c.args.plan.now)) c.args.product) c.loop-quality.quality
+      (g.K.Sink.taken c.args.out.now) (g.K.Sink.taken c.loop-quality.out)
       (g.K.Sink.taken c.write_mean.new.out) c.loop-quality.invariant.0 c.in_ok-write_mean.ensures.wrote,
   grows-then (g.K.Sink.faults c.args.out.now) (g.K.Sink.faults c.loop-quality.out) (g.K.Sink.faults c.write_mean.new.out) c.loop-quality.invariant.1 c.write_mean.ensures.faults_grow,
 )

@@ -19,7 +19,8 @@ returns-in_err-write_product-clause-wrote g c =
 
 pub loop-product-preserved : goal.loop-product-preserved
 loop-product-preserved g c = (
-  more-each (product_slack_line c.args.net.now (plan_of (net_of c.args.net.now) (shown_plan c.args.plan.now))) c.loop-product.product (g.K.Sink.taken c.args.out.now) (g.K.Sink.taken c.loop-product.out)
+  more-each (product_slack_line c.args.net.now (plan_of (net_of c.args.net.now) (shown_plan c.args.plan.now))) c.loop-product.product
+      (g.K.Sink.taken c.args.out.now) (g.K.Sink.taken c.loop-product.out)
       (g.K.Sink.taken c.write_product.new.out) c.loop-product.invariant.0 c.in_ok-write_product.ensures.wrote,
   grows-then (g.K.Sink.faults c.args.out.now) (g.K.Sink.faults c.loop-product.out) (g.K.Sink.faults c.write_product.new.out) c.loop-product.invariant.1 c.write_product.ensures.faults_grow,
 )

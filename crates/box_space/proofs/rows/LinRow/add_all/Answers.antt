@@ -41,7 +41,8 @@ loop-number-preserved c =
     let f = λ (i : ℕ). term_of (number_of n c.args.block i) (factor_of n c.args.block c.args.factor i) in
     let coef : FitsSigned w128 c.coef_at-coef.result = search rules in
     record {
-      terms = more f c.args.self.now.terms c.loop-number.self.terms c.add_term.new.self.terms c.numbers_at-numbers.result.now c.loop-number.number-index 0 c.loop-number-test.true c.loop-number.invariant.terms
+      terms = more f c.args.self.now.terms c.loop-number.self.terms c.add_term.new.self.terms c.numbers_at-numbers.result.now
+          c.loop-number.number-index 0 c.loop-number-test.true c.loop-number.invariant.terms
           ((simp to_z-of_z at c.add_term.ensures.terms)
           ∙ ap (λ (v : ℕ). c.loop-number.self.terms ++ term_of v c.coef_at-coef.result) c.variable_number.ensures
           ∙ ap (λ (z : ℤ). c.loop-number.self.terms ++ term_of (number_of n c.args.block i) z) c.coef_at-coef.ensures);
