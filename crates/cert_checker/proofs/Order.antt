@@ -1,7 +1,7 @@
 -- The first cause to refuse a certificate, and that there is none for a valid one.
 use Rattle.std.proofs.Common.{◌≡◌, ◌≢◌, ℕ, suc, ◌<◌, inl, inr, List, [], ◌∷◌, Option, None, Some, ℤ, arith, refl, sym, ap, subst, ◌∙◌}
-use Rattle.std.specs.Prelude.{unwrap_or, Result, Ok, Err, IfOk, IfErr}
-use Rattle.std.proofs.lemmas.Option.{none-some}
+use Rattle.std.specs.Prelude.{Result, Ok, Err, IfOk, IfErr}
+use Rattle.std.proofs.lemmas.Option.{none-some, same_Some}
 use Rattle.integers.proofs.Ring.{additive}
 use Rattle.faults.specs.First.{IsBelow}
 use Rattle.faults.proofs.First.{IsClear, clear-next, first-of, lone-first}
@@ -161,9 +161,6 @@ splits_of n splits lines bound is = record { few = is.tree.few; in_order = is.tr
 to_kind : (n : Net) (c : Cert) (cost : Option Cost) (found : Option ℤ) → c.shape ≡ counts_of n → IsClaimCost n c.claim cost → IsBoundOf n c.splits c.proofs found → ClearsTo n c 7
 to_kind n c cost found same is tree = one_more n c 6 (to_proofs n c cost same is (splits_of n c.splits c.proofs found tree) tree.placed) (clear_proofs n c tree.tree.proofs)
 
-same_some : {X : Type 0} (x y : X) → Some x ≡ Some y → x ≡ y
-same_some x y e = ap (λ o. unwrap_or o x) e
-
 -- the cost that is claimed is another exactly where it is wrong
 wrong_cost : (n : Net) (claim : Claimed) (cost : Option Cost) → IsClaimCost n claim cost → IsOtherCost cost claim → IsWrongCost n claim
 wrong_cost n (with_gap plan num base bound gap) None is other = λ right. is
@@ -174,7 +171,7 @@ wrong_cost n no_plan cost is other = other
 other_cost : (n : Net) (claim : Claimed) (cost : Option Cost) → IsClaimCost n claim cost → IsWrongCost n claim → IsOtherCost cost claim
 other_cost n (with_gap plan num base bound gap) None is wrong = λ e. is
 other_cost n (with_gap plan num base bound gap) (Some c) is wrong = λ e.
-    let same = same_some c record { num = num; base = base } e in
+    let same = same_Some c record { num = num; base = base } e in
     wrong (sym (ap (λ x. x.num) same) ∙ is.num, sym (ap (λ x. x.base) same) ∙ is.base)
 other_cost n (with_bound bound) cost is wrong = wrong
 other_cost n no_plan cost is wrong = wrong
@@ -203,7 +200,7 @@ claim-refused n c cost found r same is tree w =
 shown : (n : Net) (tree : Tree) (claim : Claimed) (cost : Option Cost) → IsClaimCost n claim cost → AreClaimed cost (tree_bound n tree) claim → IsShown n tree claim
 shown n tree (with_gap plan num base bound gap) None is right = absurd is
 shown n tree (with_gap plan num base bound gap) (Some c) is right =
-    let same = same_some c record { num = num; base = base } right.0 in
+    let same = same_Some c record { num = num; base = base } right.0 in
     record {
       written = is.written;
       obeys = is.obeys;

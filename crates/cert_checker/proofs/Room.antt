@@ -1,8 +1,7 @@
 -- A bound over the base of a plan's cost has 128 bits: it is no greater than the cost, and no lower than the reach bound allows.
 use Rattle.std.proofs.Common.{◌≡◌, ℕ, suc, ◌*◌, ◌^◌, ◌≤◌, Some, None, Option, ℤ, pos, negsuc, neg_ℤ, ◌*ℤ◌, ◌≤ℤ◌, FitsSigned, unsigned_abs, arith, sym, ap, subst, ◌∙◌}
-use Rattle.std.specs.Prelude.{unwrap_or}
 use Rattle.std.specs.Int.{w128}
-use Rattle.std.proofs.lemmas.Option.{none-some}
+use Rattle.std.proofs.lemmas.Option.{none-some, same_Some}
 use Rattle.pool_model.specs.Claim.{Claimed, with_gap, with_bound, no_plan}
 use Rattle.cert_checker.specs.Claims.{IsClaimCost, HasRoom}
 use Rattle.std.proofs.lemmas.Int.{ints}
@@ -36,14 +35,11 @@ room n tree w c z limited reach is e cost fits =
     subst (λ m. (z *ℤ pos c.base) ≤ℤ m) (sym cost.num) (subst (λ b. (z *ℤ pos b) ≤ℤ cost_of n (plan_of n w)) (sym cost.base) (tree-bound n tree z limited is e (plan_of n w) cost.obeys)) in
     fits_product z c.num c.base (low_of (reach_bound n) z (128 * 10 ^ 24) reach low) few above fits
 
-same_some : {X : Type 0} (x y : X) → Some x ≡ Some y → x ≡ y
-same_some x y e = ap (λ o. unwrap_or o x) e
-
 -- the same for what is claimed
 pub has-room : (n : Net) (tree : Tree) (claim : Claimed) (cost : Option Cost) (found : Option ℤ) → IsLimited n
     → unsigned_abs (reach_bound n) ≤ 128 * 10 ^ 24 → IsTree n tree → found ≡ tree_bound n tree → IsClaimCost n claim cost → HasRoom cost found
 has-room n tree (with_gap plan num base bound gap) None found limited reach is e cost c z fits at here = absurd cost
 has-room n tree (with_gap plan num base bound gap) (Some x) found limited reach is e cost c z fits at here =
-    room n tree plan c z limited reach is (sym e ∙ here) (subst (IsCostOf n plan) (same_some x c at) cost) fits
+    room n tree plan c z limited reach is (sym e ∙ here) (subst (IsCostOf n plan) (same_Some x c at) cost) fits
 has-room n tree (with_bound bound) cost found limited reach is e none c z fits at here = absurd (none-some c (sym none ∙ at))
 has-room n tree no_plan cost found limited reach is e none c z fits at here = absurd (none-some c (sym none ∙ at))
