@@ -119,31 +119,31 @@ pub record IsChoice (n : Net) (plain : Written) (o : Option Judged) : Type 0 whe
   pub refused : IfNone o (¬ IsAccepted n plain)
 
 module _ (n : Net) (plain : Written) where
-  -- the second plan where it is cheaper, and else the first, which is the plain one
-  chosen-of : (a b : Judged) (t : Bool) → is_less b.cost a.cost ≡ t → IsCostOf n (shown_plan a.plan) a.cost → shown_plan a.plan ≡ plain → IsCostOf n (shown_plan b.plan) b.cost
+  -- the second plan, which is the plain one, where it is cheaper, and else the first
+  chosen-of : (a b : Judged) (t : Bool) → is_less b.cost a.cost ≡ t → IsCostOf n (shown_plan a.plan) a.cost → IsCostOf n (shown_plan b.plan) b.cost → shown_plan b.plan ≡ plain
       → IsChoice n plain (if t then Some b else Some a)
-  chosen-of a b true e is_a same is_b = record {
+  chosen-of a b true e is_a is_b same = record {
     cost = is_b;
-    no_dearer = λ _. no_dearer-is n (shown_plan b.plan) plain b.cost a.cost is_b (subst (λ (w : Written). IsCostOf n w a.cost) same is_a)
-        (omega (arith, additive, less (pos a.cost.base *ℤ b.cost.num) (pos b.cost.base *ℤ a.cost.num) e));
+    no_dearer = λ _. subst (λ (w : Written). IsNoDearer n (shown_plan b.plan) w) same (omega (arith, additive));
     refused = tt;
   }
-  chosen-of a b false e is_a same is_b = record {
+  chosen-of a b false e is_a is_b same = record {
     cost = is_a;
-    no_dearer = λ _. subst (λ (w : Written). IsNoDearer n (shown_plan a.plan) w) same (omega (arith, additive));
+    no_dearer = λ _. no_dearer-is n (shown_plan a.plan) plain a.cost b.cost is_a (subst (λ (w : Written). IsCostOf n w b.cost) same is_b)
+        (not_less (pos a.cost.base *ℤ b.cost.num) (pos b.cost.base *ℤ a.cost.num) e);
     refused = tt;
   }
 
-  pub chosen : (p m : Option Judged) → IfSome p (λ j. IsCostOf n (shown_plan j.plan) j.cost) → IfSome p (λ j. shown_plan j.plan ≡ plain) → IfNone p (¬ IsAccepted n plain)
-      → IfSome m (λ j. IsCostOf n (shown_plan j.plan) j.cost) → IsChoice n plain (cheapest p m)
-  chosen None None p_is same refused m_is = record { cost = tt; no_dearer = tt; refused = refused }
-  chosen None (Some b) p_is same refused m_is = record { cost = m_is; no_dearer = λ is. absurd (refused is); refused = tt }
-  chosen (Some a) None p_is same refused m_is = record {
+  pub chosen : (m p : Option Judged) → IfSome m (λ j. IsCostOf n (shown_plan j.plan) j.cost) → IfSome p (λ j. IsCostOf n (shown_plan j.plan) j.cost) → IfSome p (λ j. shown_plan j.plan ≡ plain)
+      → IfNone p (¬ IsAccepted n plain) → IsChoice n plain (cheapest m p)
+  chosen None None m_is p_is same refused = record { cost = tt; no_dearer = tt; refused = refused }
+  chosen None (Some b) m_is p_is same refused = record {
     cost = p_is;
-    no_dearer = λ _. subst (λ (w : Written). IsNoDearer n (shown_plan a.plan) w) same (omega (arith, additive));
+    no_dearer = λ _. subst (λ (w : Written). IsNoDearer n (shown_plan b.plan) w) same (omega (arith, additive));
     refused = tt;
   }
-  chosen (Some a) (Some b) p_is same refused m_is = chosen-of a b (is_less b.cost a.cost) refl p_is same m_is
+  chosen (Some a) None m_is p_is same refused = record { cost = m_is; no_dearer = λ is. absurd (refused is); refused = tt }
+  chosen (Some a) (Some b) m_is p_is same refused = chosen-of a b (is_less b.cost a.cost) refl m_is p_is same
 
   -- ---- against the limit
 

@@ -21,7 +21,7 @@ use plan_core::{Cost, WrittenPlan};
 use std::alloc::Global;
 
 /// The cheapest plan that is found near the point of an advice, where it is cheaper than `best`. The plain plan of the point is
-/// always among those that are judged.
+/// always among those that are judged. At a tie the advised plan goes first, whose bases are mostly smaller.
 pub fn repair(
     alloc: Global,
     net: &Network,
@@ -42,7 +42,7 @@ pub fn repair(
     let limit = limit_of(net, best);
     let plain = judge(net, plain_plan(alloc, net, &advice.point)?);
     let near = near(alloc, net, &advice.point, limit)?;
-    Ok(gained(cheapest(plain, near), limit))
+    Ok(gained(cheapest(near, plain), limit))
 }
 
 /// The plan that is advised near a point, where it obeys.
