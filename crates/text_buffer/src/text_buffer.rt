@@ -1,6 +1,6 @@
 //! The sink.
 
-ghost use Rattle.std.specs.Prelude.{◌≡◌, ◌^◌, ◌+◌, ◌<◌, ◌≤◌, [], ◌++◌, Some, length, IsErr, OnErr, IfOk};
+ghost use Rattle.std.specs.Prelude.{◌≡◌, ◌↔◌, ◌+◌, ◌<◌, ◌≤◌, [], ◌++◌, Some, length, take, IsErr, OnErr, IfOk};
 ghost use Rattle.edge_io.specs.Counts.{Grows, Rose};
 
 use arrayvec::ArrayVec;
@@ -44,7 +44,19 @@ impl Sink for TextBuffer {
 
     ghost faults = { λ b. b.faults };
 
-    fn write(&mut self, bytes: &[u8]) -> Result<usize, SinkFailed> {
+    fn write(&mut self, bytes: &[u8]) -> Result<usize, SinkFailed>
+        // What every sink does.
+        ensures part { IfOk result (λ n. n ≤ length bytes.now) }
+        ensures some { IfOk result (λ n. n ≡ 0 → length bytes.now ≡ 0) }
+        ensures appended { IfOk result (λ n. bytes_of self.new ≡ bytes_of self.old ++ take n bytes.now) }
+        ensures failed { OnErr result (Rose self.old.faults self.new.faults) }
+        ensures unchanged { OnErr result (bytes_of self.new ≡ bytes_of self.old) }
+        ensures faults_grow { Grows self.old.faults self.new.faults }
+
+        // This one fails exactly where there is no room for the whole piece.
+        ensures full { IsErr result ↔ (ROOM < length (bytes_of self.old) + length bytes.now) }
+        ensures whole { IfOk result (λ n. n ≡ length bytes.now) }
+    {
         match self.bytes.try_extend_from_slice(bytes) {
             Ok(()) => Ok(bytes.len()),
             Err(_) => {
