@@ -153,7 +153,8 @@ fn means_below_0(rt: HostRuntime) -> Result<(), Fail> {
 fn claims_without_a_plan(rt: HostRuntime) -> Result<(), Fail> {
     let alloc = rt.alloc();
     let net = network(alloc, ONE_DIRECT)?;
-    let mut out = MemSink::new(alloc, Vec::new(alloc));
+    // A third write would fail: each report is handed on as one piece.
+    let mut out = MemSink::new(alloc, [2].to_vec(alloc)?);
     let bound = Certificate {
         shape: net.counts(),
         claim: Claim::Bound { bound: -1 },

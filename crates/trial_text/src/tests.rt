@@ -17,7 +17,8 @@ const TRIAL: Trial = Trial {
 fn four_lines(rt: HostRuntime) -> Result<(), Fail> {
     let alloc = rt.alloc();
     let net = network(alloc, AS_TRIALS)?;
-    let mut out = MemSink::new(alloc, Vec::new(alloc));
+    // A second write would fail: the lines are handed on as one piece.
+    let mut out = MemSink::new(alloc, [1].to_vec(alloc)?);
     assert_eq!(rt; write_trial(&net, &TRIAL, &mut out), Ok(()));
     let expected =
         b"network 10 3 6 2 arcs 44 paths 120 rows 743\nstatus 10\ncost -800 2 bound -2100 gap 3400\ncheck accepted\n";
