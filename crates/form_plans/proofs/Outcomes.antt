@@ -4,9 +4,10 @@ use Rattle.std.specs.Prelude.{Result, Ok, Err, IfOk, IfErr, OnOk}
 use Rattle.pool_model.specs.Network.{Net, IsLimited}
 use Rattle.program_points.specs.Held.{IsHeldOfQ, IsHeldOfPq}
 use Rattle.program_points.specs.declared.points.PropPoint.{PropPoint}
+use Rattle.program_points.specs.declared.points.QualPoint.{QualPoint}
 use Rattle.program_points.specs.Views.{shown_prop}
 use Rattle.program_model.proofs.FormQ.{point_of_q-point_of_pq}
-use Rattle.form_plans.specs.Taken.{HasPlanOfQ, HasPlanOfPq, IsFaultOfQ, IsFaultOfPq}
+use Rattle.form_plans.specs.Taken.{HasPlanOfQ, HasPlanOfPq, IsFaultOfP, IsFaultOfQ, IsFaultOfPq}
 use Rattle.form_plans.specs.declared.fault.FormFault.{FormFault}
 use Rattle.form_plans.specs.declared.fault.FormFault.TheVariants.{NotAPoint, TooFine, Memory}
 
@@ -25,6 +26,9 @@ err-more (Err e) P Q f h = f e h
 -- want of memory tells nothing
 pub memory-of_q : (n : Net) (q : PropPoint) (f : FormFault) → f ≡ Memory → IsFaultOfQ n q f
 memory-of_q n q f e = subst (IsFaultOfQ n q) (sym e) tt
+
+pub memory-of_p : (n : Net) (q : QualPoint) (f : FormFault) → f ≡ Memory → IsFaultOfP n q f
+memory-of_p n q f e = subst (IsFaultOfP n q) (sym e) tt
 
 -- a point of Q is one of Pq, and the other way round
 held-further : (n : Net) (q : PropPoint) → IsLimited n → IsHeldOfQ n q → IsHeldOfPq n q

@@ -1,3 +1,4 @@
+pub mod Made
 pub mod Slices
 pub mod Faults
 pub mod Taken

@@ -1,15 +1,19 @@
 //! The way back from points of the exact programs to written plans.
 //!
-//! [`q::plan_of`] and [`pq::plan_of`] take a [`PropPoint`](program_points::PropPoint) apart: they test whether it is a point of
-//! the program, row by row and product by product, and give the plan that it stands for, over the least base for its flows. The
+//! [`q::plan_of`] and [`pq::plan_of`] take a [`PropPoint`](program_points::PropPoint) apart, [`p::plan_of`] a
+//! [`QualPoint`](program_points::QualPoint): they test whether it is a point of the program, row by row and product by product,
+//! and give the plan that it stands for, over the least bases for its flows and, of a point of P, for the parts of its feeds. The
 //! plan is well written, it obeys, and it has the point's flows and its cost. [`FormFault`] says why a point has no plan:
 //! [`FormFault::NotAPoint`] exactly where it is none of the program within the limits, and then [`FormFault::TooFine`] exactly
-//! where the least base passes the limit of written plans.
+//! where a least base passes the limit of written plans.
 //!
-//! `point_checks` says what the tests look at, part by part, and `program_plans` what the plan of a point is.
+//! `point_checks` and `quality_checks` say what the tests look at, part by part, `plan_parts` what the parts of feeds are, and
+//! `program_plans` what the plan of a point is.
 #![tactic(auto)]
 
 mod fault;
+mod made;
+pub mod p;
 pub mod pq;
 pub mod q;
 mod slices;
@@ -17,5 +21,7 @@ mod slices;
 pub use fault::FormFault;
 pub use flow_checks::flows_fit;
 
+#[cfg(test)]
+mod quality_tests;
 #[cfg(test)]
 mod tests;

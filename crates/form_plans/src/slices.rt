@@ -1,10 +1,11 @@
 //! The lists of a point, lent.
 
-ghost use Rattle.form_plans.specs.Slices.{AreSlicesOf};
+ghost use Rattle.form_plans.specs.Slices.{AreQualSlicesOf, AreSlicesOf};
 
 use flow_checks::Flows;
 use point_checks::PropSlices;
-use program_points::PropPoint;
+use program_points::{PropPoint, QualPoint};
+use quality_checks::QualSlices;
 
 /// The lists of a point of form Q.
 pub(crate) fn prop_slices(point: &PropPoint) -> PropSlices<'_>
@@ -20,5 +21,22 @@ pub(crate) fn prop_slices(point: &PropPoint) -> PropSlices<'_>
         prop_base: point.prop_base,
         props: point.props.as_slice(),
         paths: point.w.as_slice(),
+    }
+}
+
+/// The lists of a point of form P.
+pub(crate) fn qual_slices(point: &QualPoint) -> QualSlices<'_>
+    ensures { AreQualSlicesOf point.now result }
+{
+    QualSlices {
+        flows: Flows {
+            base: point.base,
+            feeds: point.x.as_slice(),
+            outs: point.y.as_slice(),
+            directs: point.z.as_slice(),
+        },
+        qual_base: point.qual_base,
+        quals: point.quals.as_slice(),
+        mix: point.mix.as_slice(),
     }
 }

@@ -1,14 +1,15 @@
-use Rattle.std.proofs.Common.{◌≡◌, ◌<◌, ◌≤◌, ◌/◌, ℕ, arith, refl}
-use Rattle.std.proofs.lemmas.Bool.{false≢true, cases_lt}
+use Rattle.std.proofs.Common.{◌≡◌, ◌<◌, ◌≤◌, ◌/◌, ℕ, List, IfOk, refl, subst}
+use Rattle.std.proofs.lemmas.Bool.{false≢true}
 use Rattle.pool_model.specs.Network.{net_of}
 use Rattle.plan_core.specs.Views.{shown_plan}
 use Rattle.plan_core.specs.declared.plan.WrittenPlan.{WrittenPlan}
-use Rattle.form_plans.specs.Slices.{IsMade}
+use Rattle.form_plans.specs.Made.{IsMade}
 use Rattle.form_plans.specs.Taken.{HasPlanOfQ, IsFaultOfQ, IsPropPlan}
 use Rattle.form_plans.specs.declared.fault.FormFault.{FormFault}
 use Rattle.form_plans.specs.declared.fault.FormFault.TheVariants.{Memory}
+use Rattle.form_plans.proofs.FlowBases.{above, base-fine, base-too_fine, directs-fine, outs-fine, positive}
 use Rattle.form_plans.proofs.Outcomes.{ok-more, ok-any, err-more, memory-of_q}
-use Rattle.form_plans.proofs.PropPlans.{base-fine, base-too_fine, directs-fine, held-point, made-keeps, outs-fine, point-held, positive, above}
+use Rattle.form_plans.proofs.PropPlans.{flow_lists, held-point, made-keeps, point-held, too_fine-seen, too_fine-shown}
 use Rattle.form_plans.proofs.q.plan_of.Goals as goal
 
 pub returns-then-not-is_prop_point-clause-fault : goal.returns-then-not-is_prop_point-clause-fault
@@ -20,34 +21,43 @@ flow_divisor-divisor-requires c = (c.if-not-is_prop_point.ensures.0 refl).shape.
 
 pub is_fine-requires : goal.is_fine-requires
 is_fine-requires c =
-    positive (net_of c.args.net.now) c.prop_slices-lists.result c.flow_divisor-divisor.result (c.if-not-is_prop_point.ensures.0 refl) c.flow_divisor-divisor.ensures
+    let n = net_of c.args.net.now in
+    let s = c.prop_slices-lists.result in
+    positive n s.flows c.flow_divisor-divisor.result (flow_lists n s (c.if-not-is_prop_point.ensures.0 refl)) c.flow_divisor-divisor.ensures
 
 pub returns-then-not-is_fine-clause-fault : goal.returns-then-not-is_fine-clause-fault
 returns-then-not-is_fine-clause-fault c =
     let n = net_of c.args.net.now in
+    let q = c.args.point.now in
     let s = c.prop_slices-lists.result in
     let g = c.flow_divisor-divisor.result in
     let p = c.if-not-is_prop_point.ensures.0 refl in (
-      point-held n c.args.point.now s c.prop_slices-lists.ensures p,
-      base-too_fine n c.args.point.now s g c.prop_slices-lists.ensures p c.flow_divisor-divisor.ensures (above (s.flows.base / g) c.if-not-is_fine.ensures.1),
+      point-held n q s c.prop_slices-lists.ensures p,
+      too_fine-shown n q s c.prop_slices-lists.ensures (base-too_fine n s.flows g (flow_lists n s p) c.flow_divisor-divisor.ensures (above (s.flows.base / g) c.if-not-is_fine.ensures.1)),
     )
 
-pub written-requires-clause-positive : goal.written-requires-clause-positive
-written-requires-clause-positive c =
-    positive (net_of c.args.net.now) c.prop_slices-lists.result c.flow_divisor-divisor.result (c.if-not-is_prop_point.ensures.0 refl) c.flow_divisor-divisor.ensures
+pub made-requires-clause-positive : goal.made-requires-clause-positive
+made-requires-clause-positive c =
+    let n = net_of c.args.net.now in
+    let s = c.prop_slices-lists.result in
+    positive n s.flows c.flow_divisor-divisor.result (flow_lists n s (c.if-not-is_prop_point.ensures.0 refl)) c.flow_divisor-divisor.ensures
 
-pub written-requires-clause-base : goal.written-requires-clause-base
-written-requires-clause-base c = c.if-not-is_fine.ensures.0 refl
+pub made-requires-clause-base : goal.made-requires-clause-base
+made-requires-clause-base c = c.if-not-is_fine.ensures.0 refl
 
-pub written-requires-clause-outs : goal.written-requires-clause-outs
-written-requires-clause-outs c =
-    outs-fine (net_of c.args.net.now) c.prop_slices-lists.result c.flow_divisor-divisor.result (c.if-not-is_prop_point.ensures.0 refl) c.flow_divisor-divisor.ensures c.sizes-sizes.ensures.limited
-    (c.if-not-is_fine.ensures.0 refl)
+pub made-requires-clause-outs : goal.made-requires-clause-outs
+made-requires-clause-outs c =
+    let n = net_of c.args.net.now in
+    let s = c.prop_slices-lists.result in
+    let p = c.if-not-is_prop_point.ensures.0 refl in
+    outs-fine n s.flows c.flow_divisor-divisor.result (flow_lists n s p) c.flow_divisor-divisor.ensures c.sizes-sizes.ensures.limited p.point.carries (c.if-not-is_fine.ensures.0 refl)
 
-pub written-requires-clause-directs : goal.written-requires-clause-directs
-written-requires-clause-directs c =
-    directs-fine (net_of c.args.net.now) c.prop_slices-lists.result c.flow_divisor-divisor.result (c.if-not-is_prop_point.ensures.0 refl) c.flow_divisor-divisor.ensures c.sizes-sizes.ensures.limited
-    (c.if-not-is_fine.ensures.0 refl)
+pub made-requires-clause-directs : goal.made-requires-clause-directs
+made-requires-clause-directs c =
+    let n = net_of c.args.net.now in
+    let s = c.prop_slices-lists.result in
+    let p = c.if-not-is_prop_point.ensures.0 refl in
+    directs-fine n s.flows c.flow_divisor-divisor.result (flow_lists n s p) c.flow_divisor-divisor.ensures c.sizes-sizes.ensures.limited p.point.carries (c.if-not-is_fine.ensures.0 refl)
 
 pub returns-clause-plan : goal.returns-clause-plan
 returns-clause-plan c =
@@ -56,9 +66,9 @@ returns-clause-plan c =
     let s = c.prop_slices-lists.result in
     let g = c.flow_divisor-divisor.result in
     let p = c.if-not-is_prop_point.ensures.0 refl in
-    ok-more c.written.result (λ (w : WrittenPlan). IsMade s g (shown_plan w)) (λ (w : WrittenPlan). IsPropPlan n q (shown_plan w))
-    (λ w made. made-keeps n q s g (shown_plan w) c.sizes-sizes.ensures.limited c.prop_slices-lists.ensures p c.flow_divisor-divisor.ensures made
-        (c.if-not-is_fine.ensures.0 refl)) c.written.ensures.made
+    ok-more c.made.result (λ (w : WrittenPlan). IsMade s.flows g s.prop_base s.props.now (shown_plan w)) (λ (w : WrittenPlan). IsPropPlan n q (shown_plan w))
+    (λ w made. made-keeps n q s g (shown_plan w) c.sizes-sizes.ensures.limited c.prop_slices-lists.ensures p c.flow_divisor-divisor.ensures made (c.if-not-is_fine.ensures.0 refl))
+    (subst (λ (xs : List ℕ). IfOk c.made.result (λ w. IsMade s.flows g s.prop_base xs (shown_plan w))) c.in_ok-weights.ensures.items c.made.ensures.made)
 
 pub returns-clause-has_plan : goal.returns-clause-has_plan
 returns-clause-has_plan c =
@@ -67,13 +77,13 @@ returns-clause-has_plan c =
     let s = c.prop_slices-lists.result in
     let g = c.flow_divisor-divisor.result in
     let p = c.if-not-is_prop_point.ensures.0 refl in
-    ok-any c.written.result (HasPlanOfQ n q) (
+    ok-any c.made.result (HasPlanOfQ n q) (
       point-held n q s c.prop_slices-lists.ensures p,
-      base-fine n q s g c.prop_slices-lists.ensures p c.flow_divisor-divisor.ensures (c.if-not-is_fine.ensures.0 refl),
+      λ fine. base-fine n s.flows g (flow_lists n s p) c.flow_divisor-divisor.ensures (c.if-not-is_fine.ensures.0 refl) (too_fine-seen n q s c.prop_slices-lists.ensures fine),
     )
 
 pub returns-clause-fault : goal.returns-clause-fault
 returns-clause-fault c =
     let n = net_of c.args.net.now in
     let q = c.args.point.now in
-    err-more c.written.result (λ (f : FormFault). f ≡ Memory) (IsFaultOfQ n q) (λ f e. memory-of_q n q f e) c.written.ensures.memory
+    err-more c.made.result (λ (f : FormFault). f ≡ Memory) (IsFaultOfQ n q) (λ f e. memory-of_q n q f e) c.made.ensures.memory

@@ -1,0 +1,2 @@
+-- Lemmas on parts.
+pub mod Parts
