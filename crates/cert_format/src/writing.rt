@@ -8,8 +8,7 @@ ghost use Rattle.edge_io.specs.Writing.{Wrote};
 ghost use Rattle.plan_core.specs.Views.{shown_plan};
 ghost use Rattle.cert_format.specs.Cert.{IsShaped};
 ghost use Rattle.cert_format.specs.Views.{shown_claim, shown_node_proof, shown_cert};
-ghost use Rattle.cert_format.specs.Text.{field, line, kind_of, head_lines, plan_lines, claimed_plan_lines, part_fields, split_line, split_lines,
-    proof_line, proof_lines, gap_lines, number_lines, rest_lines, text_of};
+ghost use Rattle.cert_format.specs.Text.{field, line, kind_of, head_lines, plan_lines, claimed_plan_lines, part_fields, split_line, split_lines, proof_line, proof_lines, gap_lines, number_lines, rest_lines, text_of};
 
 use crate::certificate::{Certificate, Claim, NodeProof};
 use box_space::{Part, Split};

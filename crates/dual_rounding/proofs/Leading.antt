@@ -78,4 +78,4 @@ pub price-known : (n : Net) (b : Box) (lp : Lp) (advice : Advice) (fallback : Sh
 price-known n b lp advice fallback o limited proper h =
     All-head (ShowsAtMost n b (known_by n b fallback o)) (price_proof n)
     (advised_proof lp advice 1 ∷ advised_proof lp advice (2 ^ 10) ∷ advised_proof lp advice (2 ^ 20) ∷ advised_proof lp advice (2 ^ 30) ∷ [])
-        (tried-at_most n b fallback (tried n lp advice) o h) (price-in_order n b limited proper)
+    (tried-at_most n b fallback (tried n lp advice) o h) (price-in_order n b limited proper)

@@ -174,7 +174,7 @@ flow-ends n b o limited proper lt =
     between (b.low (flow_number n o)) (b.high (flow_number n o)) (min (n.pool_max (n.out_pool o)) (n.product_max (n.out_product o)))
     (subst (λ c. root_low n c ≤ℤ b.low (flow_number n o)) is (proper.low (flow_number n o) place)) (proper.in_order (flow_number n o) place)
     (subst (λ c. b.high (flow_number n o) ≤ℤ root_high n c) is (proper.high (flow_number n o) place))
-        (lesser_of (n.pool_max (n.out_pool o)) (n.product_max (n.out_product o)) (limited.product_maxima (n.out_product o) (limited.out_products o lt)))
+    (lesser_of (n.pool_max (n.out_pool o)) (n.product_max (n.out_product o)) (limited.product_maxima (n.out_product o) (limited.out_products o lt)))
   where
     between : (low high : ℤ) (m : ℕ) → pos 0 ≤ℤ low → low ≤ℤ high → high ≤ℤ pos m → m ≤ 10 ^ 12 → AreFlowEnds low high
     between low high m h i j k = record { low_end = omega (arith, ints); high_end = omega (arith, ints) }
@@ -239,8 +239,12 @@ paths-few : (n : Net) → IsLimited n → path_count n ≤ 2 ^ 20
 paths-few n limited = below n.pools limited.pools
   where
     of_feed : (e : ℕ) → length (feed_paths n e) ≤ 256
-    of_feed e = omega (arith, limited.outs, length-map {B = Path} (numbers_at n.out_pool (n.feed_pool e) n.outs) (λ o. record { feed = e; out = o }),
-        length-numbers_at n.out_pool (n.feed_pool e) n.outs)
+    of_feed e = omega (
+      arith,
+      limited.outs,
+      length-map {B = Path} (numbers_at n.out_pool (n.feed_pool e) n.outs) (λ o. record { feed = e; out = o }),
+      length-numbers_at n.out_pool (n.feed_pool e) n.outs,
+    )
 
     of_pool : (l : ℕ) → length (pool_paths n l) ≤ 65536
     of_pool l = omega (arith, limited.feeds, length-flat_map-most (feed_paths n) 256 (numbers_at n.feed_pool l n.feeds) of_feed, length-numbers_at n.feed_pool l n.feeds)
@@ -312,7 +316,7 @@ narrow n b limited proper =
     let each = λ (v : ℕ) (lt : v < variables n).
     product-most (rest_weight n b p v) (flow_at n v) (18 * 10 ^ 12) (unsigned_abs (by_number n (lows n b) v)) (unsigned_abs (by_number n (highs n b) v)) (10 ^ 14)
     (rest (flow_at n v) (unsigned_abs (by_number n (costs n) v)) (sum_by (λ q. unsigned_abs q.mult * unsigned_abs (coef n b q.row v)) p.parts)
-        (cost-small n limited v lt) (parts-most n b limited v lt))
+    (cost-small n limited v lt) (parts-most n b limited v lt))
     (lows-small n b limited proper v lt) (highs-small n b limited proper v lt) in
     whole (constant_weight n b p) (sum_below term (variables n)) (variables n) (constants-none n b) (sum_below-most term most (variables n) each) (variables-few n limited)
   where

@@ -1,6 +1,5 @@
 -- The rows of a made network stand for it and have no fault, whatever the seed.
-use Rattle.std.proofs.Common.{◌≡◌, ◌≢◌, ℕ, ◌+◌, ◌*◌, ◌<◌, ◌≤◌, ◌⊎◌, inl, inr, List, [], ◌∷◌, ◌++◌, length, map, take, get_or, All, Contains, Bool,
-    true, false, ◌&&◌, ◌||◌, not, is_some, refl, sym, ap, subst, ◌∙◌, arith}
+use Rattle.std.proofs.Common.{◌≡◌, ◌≢◌, ℕ, ◌+◌, ◌*◌, ◌<◌, ◌≤◌, ◌⊎◌, inl, inr, List, [], ◌∷◌, ◌++◌, length, map, take, get_or, All, Contains, Bool, true, false, ◌&&◌, ◌||◌, not, is_some, refl, sym, ap, subst, ◌∙◌, arith}
 use Rattle.std.proofs.lemmas.List.Elements.{All-nil, All-cons, All-get_or}
 use Rattle.integers.specs.Numbers.{tabulate}
 use Rattle.integers.proofs.Tabulate.{length-tabulate, get_or-tabulate, tabulate-same, All-tabulate}
@@ -13,10 +12,8 @@ use Rattle.pool_model.proofs.AllBelow.{all_below-each}
 use Rattle.network_parts.specs.declared.fault.Kind.{Kind}
 use Rattle.network_parts.specs.declared.fault.Kind.TheVariants.{Source, Pool, Product, Quality, Arc}
 use Rattle.network_parts.specs.declared.fault.NetFault.{NetFault}
-use Rattle.network_parts.specs.declared.fault.NetFault.TheVariants.{TooMany, BadName, DuplicateName, UnknownName, ArcBackwards, PoolToPool,
-    DuplicateArc, PoolWithoutInput, PoolWithoutOutput, TooManyPaths, OutOfRange, LeastAboveMost, Memory}
-use Rattle.network_parts.specs.Faults.{IsTooMany, IsName, IsBadAt, IsBadName, IsRepeatAt, IsDuplicateName, IsUnknownName, IsArcBackwards,
-    IsPoolToPool, IsDuplicateArc, IsOutOfRange, IsLeastAboveMost, IsFaultless, IsSourceInRange, IsPoolInRange, IsProductInRange, IsOrderly, no_source_row, no_pool_row, no_product_row}
+use Rattle.network_parts.specs.declared.fault.NetFault.TheVariants.{TooMany, BadName, DuplicateName, UnknownName, ArcBackwards, PoolToPool, DuplicateArc, PoolWithoutInput, PoolWithoutOutput, TooManyPaths, OutOfRange, LeastAboveMost, Memory}
+use Rattle.network_parts.specs.Faults.{IsTooMany, IsName, IsBadAt, IsBadName, IsRepeatAt, IsDuplicateName, IsUnknownName, IsArcBackwards, IsPoolToPool, IsDuplicateArc, IsOutOfRange, IsLeastAboveMost, IsFaultless, IsSourceInRange, IsPoolInRange, IsProductInRange, IsOrderly, no_source_row, no_pool_row, no_product_row}
 use Rattle.network_parts.specs.FirstFault.{Holds, IsFirstFault}
 use Rattle.blend_network.specs.Canonical.{canonical_source, canonical_pool, canonical_product, canonical_rows}
 use Rattle.network_maker.specs.Draws.{state_after}
@@ -78,8 +75,10 @@ good : (letter n : ℕ) → 32 ≤ letter → letter ≤ 126 → n < 10 → IsNa
 good letter n low high small = record {
   least = omega arith;
   most = omega arith;
-  printable = All-cons (λ b. (32 ≤ b) × (b ≤ 126)) letter ((48 + n) ∷ []) (low,
-      high) (All-cons (λ b. (32 ≤ b) × (b ≤ 126)) (48 + n) [] (omega arith, omega arith) (All-nil (λ b. (32 ≤ b) × (b ≤ 126))));
+  printable = All-cons (λ b. (32 ≤ b) × (b ≤ 126)) letter ((48 + n) ∷ []) (
+    low,
+    high,
+  ) (All-cons (λ b. (32 ≤ b) × (b ≤ 126)) (48 + n) [] (omega arith, omega arith) (All-nil (λ b. (32 ≤ b) × (b ≤ 126))));
 }
 
 good_names : (letter count : ℕ) → 32 ≤ letter → letter ≤ 126 → count ≤ 10 → (n : ℕ) → ¬ IsBadAt (tabulate (λ i. letter ∷ (48 + i) ∷ []) count) n

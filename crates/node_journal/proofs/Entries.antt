@@ -101,8 +101,11 @@ unfolding proof_at
 proof_again p rest fits =
     let regrouped : proof_bytes p ++ rest ≡ field 8 p.scale ++ (field 4 (length p.parts) ++ (flat_map part_bytes p.parts ++ rest)) = simp append_assoc in
     ap proof_at regrouped
-    ∙ rw (number_again 8 p.scale (field 4 (length p.parts) ++ (flat_map part_bytes p.parts ++ rest)) (omega (arith, fits.scale)),
-        number_again 4 (length p.parts) (flat_map part_bytes p.parts ++ rest) (omega (arith, fits.count)), parts_again p.parts rest fits.parts) refl
+    ∙ rw (
+      number_again 8 p.scale (field 4 (length p.parts) ++ (flat_map part_bytes p.parts ++ rest)) (omega (arith, fits.scale)),
+      number_again 4 (length p.parts) (flat_map part_bytes p.parts ++ rest) (omega (arith, fits.count)),
+      parts_again p.parts rest fits.parts,
+    ) refl
 
 half_takes : (bytes : List ℕ) (o : Option Proof) (rest : List ℕ) → IsBytes bytes → half_at bytes ≡ Some (o, rest) → Takes bytes (half_bytes o) rest × HalfFits o
 unfolding half_at
@@ -145,8 +148,11 @@ unfolding split_at
 split_again x rest fits =
     let regrouped : split_bytes x ++ rest ≡ field 2 x.leaf ++ (field 4 x.coord ++ (signed_field x.cut ++ rest)) = simp append_assoc in
     ap split_at regrouped
-    ∙ rw (number_again 2 x.leaf (field 4 x.coord ++ (signed_field x.cut ++ rest)) (omega (arith, fits.leaf)),
-        number_again 4 x.coord (signed_field x.cut ++ rest) (omega (arith, fits.coord)), signed_again x.cut rest fits.cut) refl
+    ∙ rw (
+      number_again 2 x.leaf (field 4 x.coord ++ (signed_field x.cut ++ rest)) (omega (arith, fits.leaf)),
+      number_again 4 x.coord (signed_field x.cut ++ rest) (omega (arith, fits.coord)),
+      signed_again x.cut rest fits.cut,
+    ) refl
 
 -- ---- lists of numbers
 
@@ -155,7 +161,7 @@ numbers_take : (width : ℕ) (wide : IsWide width) (n : ℕ) (bytes xs rest : Li
 unfolding numbers_at
 numbers_take width wide zero bytes xs rest fits e =
     as_read (λ (qs : List ℕ) (l : List ℕ). Takes bytes (flat_map (field width) qs) l × (length qs ≡ 0) ×
-        AllByRecursion (λ x. x < 256 ^ width) qs) ([], bytes) (xs, rest) e (Takes-none bytes fits, refl, tt)
+    AllByRecursion (λ x. x < 256 ^ width) qs) ([], bytes) (xs, rest) e (Takes-none bytes fits, refl, tt)
 numbers_take width wide (suc n) bytes xs rest fits e =
     let a = bind_some (number_at width bytes) (λ first. numbers_at width n first.1 >>= λ others. Some (first.0 ∷ others.0, others.1)) (xs, rest) e in
     let b = bind_some (numbers_at width n a.0.1) (λ others. Some (a.0.0 ∷ others.0, others.1)) (xs, rest) a.2 in

@@ -19,13 +19,25 @@ length-parts_bytes (p ∷ ps) = omega (arith, length-append (part_bytes p) (flat
 
 pub length-proof_bytes : (p : Proof) → length (proof_bytes p) ≡ 12 + 12 * length p.parts
 length-proof_bytes p =
-    omega (arith, length-append (field 8 p.scale ++ field 4 (length p.parts)) (flat_map part_bytes p.parts),
-        length-append (field 8 p.scale) (field 4 (length p.parts)), length-field 8 p.scale, length-field 4 (length p.parts), length-parts_bytes p.parts)
+    omega (
+      arith,
+      length-append (field 8 p.scale ++ field 4 (length p.parts)) (flat_map part_bytes p.parts),
+      length-append (field 8 p.scale) (field 4 (length p.parts)),
+      length-field 8 p.scale,
+      length-field 4 (length p.parts),
+      length-parts_bytes p.parts,
+    )
 
 pub length-split_bytes : (s : Split) → length (split_bytes s) ≡ 14
 length-split_bytes s =
-    omega (arith, length-append (field 2 s.leaf ++ field 4 s.coord) (signed_field s.cut), length-append (field 2 s.leaf) (field 4 s.coord),
-        length-field 2 s.leaf, length-field 4 s.coord, length-field 8 (cast_unsigned w64 s.cut))
+    omega (
+      arith,
+      length-append (field 2 s.leaf ++ field 4 s.coord) (signed_field s.cut),
+      length-append (field 2 s.leaf) (field 4 s.coord),
+      length-field 2 s.leaf,
+      length-field 4 s.coord,
+      length-field 8 (cast_unsigned w64 s.cut),
+    )
 
 pub length-numbers : (width : ℕ) (xs : List ℕ) → length (flat_map (field width) xs) ≡ width * length xs
 length-numbers width [] = omega arith
@@ -50,5 +62,16 @@ length-plan_bytes w =
     )
 
 -- the lengths of all that is written
-pub ruleset sizes = (length-append, length-take, length-map, length-field, length-part_bytes, length-parts_bytes, length-proof_bytes,
-    length-split_bytes, length-numbers, length-list_bytes, length-plan_bytes)
+pub ruleset sizes = (
+  length-append,
+  length-take,
+  length-map,
+  length-field,
+  length-part_bytes,
+  length-parts_bytes,
+  length-proof_bytes,
+  length-split_bytes,
+  length-numbers,
+  length-list_bytes,
+  length-plan_bytes,
+)

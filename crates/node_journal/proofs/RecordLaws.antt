@@ -1,6 +1,5 @@
 -- Records at places of a file.
-use Rattle.std.proofs.Common.{◌≡◌, ℕ, zero, suc, ◌+◌, ◌-◌, ◌^◌, ◌<◌, ◌≤◌, ◌⊎◌, min, List, [], ◌∷◌, ◌++◌, length, get_or, take, drop, Option, Some,
-    None, Result, Ok, Err, inl, inr, refl, sym, ap, subst, ◌∙◌, append_assoc, arith, length-append, length-take, length-drop}
+use Rattle.std.proofs.Common.{◌≡◌, ℕ, zero, suc, ◌+◌, ◌-◌, ◌^◌, ◌<◌, ◌≤◌, ◌⊎◌, min, List, [], ◌∷◌, ◌++◌, length, get_or, take, drop, Option, Some, None, Result, Ok, Err, inl, inr, refl, sym, ap, subst, ◌∙◌, append_assoc, arith, length-append, length-take, length-drop}
 use Rattle.std.specs.Prelude.{IfOk}
 use Rattle.std.specs.List.{AllByRecursion}
 use Rattle.std.proofs.lemmas.List.{take-append-drop, take_at, drop_at, append-nil, drop-drop, take_min}
@@ -107,8 +106,14 @@ bad_cut largest rest cut = record {
   where
     short : (e : Entry) (behind : List ℕ) → 1 ∷ cut.0 ≡ record_bytes e ++ behind → 4 ≤ length cut.0
     short e behind is =
-        omega (arith, ap length is, length-append (field 4 (length (payload e)) ++ payload e) behind,
-            length-append (field 4 (length (payload e))) (payload e), length-field 4 (length (payload e)), cut.2)
+        omega (
+          arith,
+          ap length is,
+          length-append (field 4 (length (payload e)) ++ payload e) behind,
+          length-append (field 4 (length (payload e))) (payload e),
+          length-field 4 (length (payload e)),
+          cut.2,
+        )
 
 module _ (largest n : ℕ) (rest more : List ℕ) (small : n < 2 ^ 32) (opens : rest ≡ 1 ∷ field 4 n ++ more) where
   -- an entry that stands there has a payload of this length

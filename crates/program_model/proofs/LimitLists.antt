@@ -18,7 +18,7 @@ product_limits-every limit j (suc q) k u h e =
       | inl same ↦
           subst (λ (m : ℕ). Contains (product_limits limit (suc m) j) found) same
           (subst (λ (xs : List Limit). Contains xs found) (sym (ap (λ m. product_limits limit m j)
-              (sym (add-one k)) ∙ product_limits-some limit j k u e)) (Contains-push (product_limits limit k j) found))
+          (sym (add-one k)) ∙ product_limits-some limit j k u e)) (Contains-push (product_limits limit k j) found))
       | inr below ↦
           let kept = λ (i : ℕ). option_map (λ (z : ℤ). let v : Limit = record { product = j; quality = i; limit = z } in v) (limit j i) in
           subst (λ (xs : List Limit). Contains xs found) (sym (filter_map-append kept (tabulate (λ i. i) q) (q ∷ [])))

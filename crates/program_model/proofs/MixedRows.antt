@@ -99,14 +99,14 @@ p_rows-met n q h = (
         let u = get_or (most_limits n) i no_limit in
         let s = most_limit-set n i lt in
         room-met q.qual_base (mixed_inflow n q u.product u.quality) (u.limit *ℤ pos (product_inflow n (quality_flows q) u.product))
-            (value_over n (quality_values q) (q.base * q.qual_base) (mixed_most_row n u))
+        (value_over n (quality_values q) (q.base * q.qual_base) (mixed_most_row n u))
         (h.at_most u.product u.quality u.limit s.product s.quality s.set) (mixed_most_row-value n q u s.quality),
     (
       λ i lt.
           let u = get_or (least_limits n) i no_limit in
           let s = least_limit-set n i lt in
           room-met q.qual_base (u.limit *ℤ pos (product_inflow n (quality_flows q) u.product)) (mixed_inflow n q u.product u.quality)
-              (value_over n (quality_values q) (q.base * q.qual_base) (mixed_least_row n u))
+          (value_over n (quality_values q) (q.base * q.qual_base) (mixed_least_row n u))
           (h.at_least u.product u.quality u.limit s.product s.quality s.set) (mixed_least_row-value n q u s.quality),
       tt,
     ),

@@ -149,14 +149,14 @@ q_rows-met n q h = (
           let u = get_or (most_limits n) i no_limit in
           let s = most_limit-set n i lt in
           room-met q.prop_base (path_inflow n q u.product u.quality) (u.limit *ℤ pos (product_inflow n (proportion_flows q) u.product))
-              (value_over n (proportion_values q) (q.base * q.prop_base) (path_most_row n u))
+          (value_over n (proportion_values q) (q.base * q.prop_base) (path_most_row n u))
           (h.at_most u.product u.quality u.limit s.product s.quality s.set) (path_most_row-value n q u),
       (
         λ i lt.
             let u = get_or (least_limits n) i no_limit in
             let s = least_limit-set n i lt in
             room-met q.prop_base (u.limit *ℤ pos (product_inflow n (proportion_flows q) u.product)) (path_inflow n q u.product u.quality)
-                (value_over n (proportion_values q) (q.base * q.prop_base) (path_least_row n u))
+            (value_over n (proportion_values q) (q.base * q.prop_base) (path_least_row n u))
             (h.at_least u.product u.quality u.limit s.product s.quality s.set) (path_least_row-value n q u),
         tt,
       ),

@@ -11,8 +11,7 @@ use Rattle.pool_model.specs.Plan.{Plan, Carries, outflow, pool_inflow, source_ou
 use Rattle.pool_model.specs.Limits.{Limit, most_limits, least_limits, no_limit}
 use Rattle.row_model.specs.Boxes.{grain}
 use Rattle.row_model.specs.Variables.{PerVariable, path_count, path_feed, path_out}
-use Rattle.row_model.specs.Catalogue.{Family, network_families, pq_families, source_row, balance_row, pool_row, maximum_row, minimum_row, mixing_row,
-    mixed_most_row, mixed_least_row, proportions_row, feed_row, path_most_row, path_least_row, out_row, share_row}
+use Rattle.row_model.specs.Catalogue.{Family, network_families, pq_families, source_row, balance_row, pool_row, maximum_row, minimum_row, mixing_row, mixed_most_row, mixed_least_row, proportions_row, feed_row, path_most_row, path_least_row, out_row, share_row}
 use Rattle.program_model.specs.Points.{ProportionPoint, QualityPoint, proportion_flows, quality_flows}
 use Rattle.program_model.specs.Programs.{IsPointOfP, IsPointOfQ, IsPointOfPq, mixed_inflow, path_inflow}
 use Rattle.program_model.specs.Rows.{exact_p_families, exact_q_families, with_flows, proportion_values, quality_values, value_over, MeetsRow, MeetsRows, SolvesP, SolvesQ, SolvesPq}
@@ -68,13 +67,21 @@ carries-back n second p others hm h =
 -- ---- limits: what holds of each in the list holds of each that is set
 of_most : (n : Net) (P : Limit → Type 0) → ((i : ℕ) → i < length (most_limits n) → P (get_or (most_limits n) i no_limit))
     → (j k : ℕ) (u : ℤ) → j < n.products → k < n.qualities → n.most j k ≡ Some u → P record { product = j; quality = k; limit = u }
-of_most n P each j k u lj lk set = All-contains P (most_limits n) record { product = j; quality = k; limit =
-    u } (All-from_get_or P (most_limits n) no_limit each) (limits-every n.most n.products n.qualities j k u lj lk set)
+of_most n P each j k u lj lk set = All-contains P (most_limits n) record {
+  product = j;
+  quality = k;
+  limit =
+      u;
+} (All-from_get_or P (most_limits n) no_limit each) (limits-every n.most n.products n.qualities j k u lj lk set)
 
 of_least : (n : Net) (P : Limit → Type 0) → ((i : ℕ) → i < length (least_limits n) → P (get_or (least_limits n) i no_limit))
     → (j k : ℕ) (u : ℤ) → j < n.products → k < n.qualities → n.least j k ≡ Some u → P record { product = j; quality = k; limit = u }
-of_least n P each j k u lj lk set = All-contains P (least_limits n) record { product = j; quality = k; limit =
-    u } (All-from_get_or P (least_limits n) no_limit each) (limits-every n.least n.products n.qualities j k u lj lk set)
+of_least n P each j k u lj lk set = All-contains P (least_limits n) record {
+  product = j;
+  quality = k;
+  limit =
+      u;
+} (All-from_get_or P (least_limits n) no_limit each) (limits-every n.least n.products n.qualities j k u lj lk set)
 
 -- ---- P
 pub solves-point_of_p : (n : Net) (q : QualityPoint) → SolvesP n q → IsPointOfP n q
@@ -88,9 +95,9 @@ solves-point_of_p n q s =
       carries = carries-back n q.qual_base (quality_flows q) v s.qual_base (MeetsRows-front n v base (network_families n) (exact_p_families n) s.rows);
       mixing = λ l k lt lk.
           let met = subst (λ (i : ℕ). MeetsRow n v base (mixing_row n i ((l * n.qualities + k) % n.qualities))) (div-mul-add l n.qualities k lk)
-              (h.0 (l * n.qualities + k) (grid-below n.pools n.qualities l k lt lk)) in
+          (h.0 (l * n.qualities + k) (grid-below n.pools n.qualities l k lt lk)) in
           same_multiples q.qual_base (mix n (quality_flows q) l k) (int_sum_at n.out_pool l (λ o. q.mixed o k) n.outs)
-              (value_over n v base (mixing_row n l k)) s.qual_base (mixing_row-value n q l k lk)
+          (value_over n v base (mixing_row n l k)) s.qual_base (mixing_row-value n q l k lk)
           (subst (λ (i : ℕ). MeetsRow n v base (mixing_row n l i)) (mod-mul-add l n.qualities k lk) met);
       at_most = λ j k u lj lk set.
           let w : Limit = record { product = j; quality = k; limit = u } in
@@ -138,7 +145,7 @@ solves-point_of_q n q s =
     let v = proportion_values q in
     let base = q.base * q.prop_base in
     point_of_q-back n q s.base s.prop_base (MeetsRows-front n v base (network_families n) (exact_q_families n) s.rows)
-        (MeetsRows-behind n v base (network_families n) (exact_q_families n) s.rows) s.products
+    (MeetsRows-behind n v base (network_families n) (exact_q_families n) s.rows) s.products
 
 pub solves-point_of_pq : (n : Net) (q : ProportionPoint) → SolvesPq n q → IsPointOfPq n q
 solves-point_of_pq n q s =

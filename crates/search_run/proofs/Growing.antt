@@ -93,7 +93,7 @@ module _ (n : Net) (o : Orders) (s : Searched) (split : Split) (left right : Opt
       let t = length s.tree.splits in
       let there = is.placed node q e in
       passed node (left_node t) left (if node == right_node t then right else s.tree.proof node) (omega (arith, there)) ∙ passed node
-          (right_node t) right (s.tree.proof node) (omega (arith, there)) ∙ e
+      (right_node t) right (s.tree.proof node) (omega (arith, there)) ∙ e
 
   pub grown-split : (begun : Tree) → IsGrown n o begun s.tree → IsGrown n o begun (after s (split_of split left right)).tree
   grown-split begun g = record {

@@ -45,7 +45,7 @@ pub tree-reached : (n : Net) (tree : Tree) → ForSome (tree_bound n tree) (λ z
 tree-reached n tree z e =
     subst (IsAbove (reach_bound n)) e
     (above-least (reach_bound n) (leaf_bound n tree) (nodes tree.splits)
-        (λ i. above-if (reach_bound n) (is_cut tree.splits i) None (node_bound n tree i) tt (above-after n tree (length tree.splits) i)))
+    (λ i. above-if (reach_bound n) (is_cut tree.splits i) None (node_bound n tree i) tt (above-after n tree (length tree.splits) i)))
 
 -- ---- where a tree has no bound
 

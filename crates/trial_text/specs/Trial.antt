@@ -12,7 +12,7 @@ abbrev pub network_line : Net → List ℕ
 network_line n =
     joined (codes "network " ∷ signed_decimal (pos n.sources) ∷ codes " " ∷ signed_decimal (pos n.pools) ∷ codes " " ∷ signed_decimal (pos n.products) ∷ codes " " ∷ signed_decimal (pos n.qualities)
     ∷ codes " arcs " ∷ signed_decimal (pos (n.feeds + n.outs + n.directs)) ∷ codes " paths " ∷ signed_decimal
-        (pos (length (paths_of n))) ∷ codes " rows " ∷ signed_decimal (pos (rows n)) ∷ codes "\n" ∷ [])
+    (pos (length (paths_of n))) ∷ codes " rows " ∷ signed_decimal (pos (rows n)) ∷ codes "\n" ∷ [])
 
 -- the status, the cost over its base, the bound and the gap, and that the check accepts
 abbrev pub outcome_lines : Trial → List ℕ

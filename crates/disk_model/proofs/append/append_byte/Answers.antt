@@ -20,7 +20,7 @@ returns-in_err-write_at-clause-any_moment g c = λ file is only.
     let at_start = started g.D.Disk.moment g.D.Disk.left_since disk P (λ k left. inl (only k (g.met.D.Disk.only_now disk k left))) in
     let first = goes_on-kept g.D.Disk.moment g.D.Disk.left_since g.D.Disk.may_leave disk disk measured P at_start c.len.ensures.time c.len.ensures.crash (λ k now. inl (only k now)) in
     goes_on-behind g.D.Disk.moment g.D.Disk.left_since g.D.Disk.may_leave disk measured c.write_at.new.self P file c.in_ok-end.end 1 first
-        c.write_at.ensures.time c.write_at.ensures.crash still at_end (one_more file)
+    c.write_at.ensures.time c.write_at.ensures.crash still at_end (one_more file)
 
 pub returns-clause-any_moment : goal.returns-clause-any_moment
 returns-clause-any_moment g c = λ file is only.
@@ -32,6 +32,6 @@ returns-clause-any_moment g c = λ file is only.
     let at_start = started g.D.Disk.moment g.D.Disk.left_since disk P (λ k left. inl (only k (g.met.D.Disk.only_now disk k left))) in
     let first = goes_on-kept g.D.Disk.moment g.D.Disk.left_since g.D.Disk.may_leave disk disk measured P at_start c.len.ensures.time c.len.ensures.crash (λ k now. inl (only k now)) in
     let wrote = goes_on-behind g.D.Disk.moment g.D.Disk.left_since g.D.Disk.may_leave disk measured c.write_at.new.self P file c.in_ok-end.end 1 first
-        c.write_at.ensures.time c.write_at.ensures.crash still at_end (one_more file) in
+    c.write_at.ensures.time c.write_at.ensures.crash still at_end (one_more file) in
     goes_on-kept g.D.Disk.moment g.D.Disk.left_since g.D.Disk.may_leave disk c.write_at.new.self c.sync.new.self P wrote c.sync.ensures.time c.sync.ensures.crash
     (now-has g.D.Disk.moment g.D.Disk.left_since g.D.Disk.may_leave g.met.D.Disk.counts_now disk c.write_at.new.self P wrote)

@@ -95,7 +95,7 @@ returns-clause-plan c =
     let p = c.if-not-is_qual_point.ensures.0 refl in
     ok-more c.made.result (λ (w : WrittenPlan). IsMade s.flows g base weights (shown_plan w)) (λ (w : WrittenPlan). IsQualPlan n q (shown_plan w))
     (λ w made. made-keeps n q s g base weights (shown_plan w) c.sizes-sizes.ensures.limited c.qual_slices-lists.ensures p
-        c.flow_divisor-divisor.ensures c.in-Some.ensures.least c.in_ok-parts.ensures made
+    c.flow_divisor-divisor.ensures c.in-Some.ensures.least c.in_ok-parts.ensures made
     (c.if-not-is_fine.ensures.0 refl) c.in-Some.ensures.small)
     c.made.ensures.made
 

@@ -18,9 +18,11 @@ find_state-requires g c = λ tells.
 
 pub recover-requires-clause-settled : goal.recover-requires-clause-settled
 recover-requires-clause-settled g c = λ tells.
-    let was = c.requires.settled (subst IsTrue c.find_state.ensures.same_disk.same_telling tells) in
-    (was.0, still g.D.Disk.moment g.D.Disk.left_since g.D.Disk.may_leave g.met.D.Disk.counts_now g.met.D.Disk.only_now c.args.disk.now
-        c.find_state.new.disk was.0 (g.D.Disk.reads c.args.disk.now) (g.D.Disk.reads c.find_state.new.disk) c.in_ok-find_state.ensures.same c.find_state.ensures.quiet was.1)
+    let was = c.requires.settled (subst IsTrue c.find_state.ensures.same_disk.same_telling tells) in (
+      was.0,
+      still g.D.Disk.moment g.D.Disk.left_since g.D.Disk.may_leave g.met.D.Disk.counts_now g.met.D.Disk.only_now c.args.disk.now
+          c.find_state.new.disk was.0 (g.D.Disk.reads c.args.disk.now) (g.D.Disk.reads c.find_state.new.disk) c.in_ok-find_state.ensures.same c.find_state.ensures.quiet was.1,
+    )
 
 pub recover-requires-clause-size : goal.recover-requires-clause-size
 recover-requires-clause-size g c = subst (λ o. IfSome o (λ (f : List ℕ). c.args.end ≡ length f)) (sym c.in_ok-find_state.ensures.same) c.requires.size
@@ -30,9 +32,11 @@ recover-requires-clause-start g c = c.in_ok-find_state.ensures.long (ap Ok c.in-
 
 pub bear-requires-clause-settled : goal.bear-requires-clause-settled
 bear-requires-clause-settled g c = λ tells.
-    let was = c.requires.settled (subst IsTrue c.find_state.ensures.same_disk.same_telling tells) in
-    (was.0, still g.D.Disk.moment g.D.Disk.left_since g.D.Disk.may_leave g.met.D.Disk.counts_now g.met.D.Disk.only_now c.args.disk.now
-        c.find_state.new.disk was.0 (g.D.Disk.reads c.args.disk.now) (g.D.Disk.reads c.find_state.new.disk) c.in_ok-find_state.ensures.same c.find_state.ensures.quiet was.1)
+    let was = c.requires.settled (subst IsTrue c.find_state.ensures.same_disk.same_telling tells) in (
+      was.0,
+      still g.D.Disk.moment g.D.Disk.left_since g.D.Disk.may_leave g.met.D.Disk.counts_now g.met.D.Disk.only_now c.args.disk.now
+          c.find_state.new.disk was.0 (g.D.Disk.reads c.args.disk.now) (g.D.Disk.reads c.find_state.new.disk) c.in_ok-find_state.ensures.same c.find_state.ensures.quiet was.1,
+    )
 
 pub bear-requires-clause-whole : goal.bear-requires-clause-whole
 bear-requires-clause-whole g c = omega (arith, ap length c.requires.whole.1)
@@ -46,9 +50,11 @@ bear-requires-clause-zeroed g c = λ file reads.
 
 pub bear-requires-in-Zeroed-clause-settled : goal.bear-requires-in-Zeroed-clause-settled
 bear-requires-in-Zeroed-clause-settled g c = λ tells.
-    let was = c.requires.settled (subst IsTrue c.find_state.ensures.same_disk.same_telling tells) in
-    (was.0, still g.D.Disk.moment g.D.Disk.left_since g.D.Disk.may_leave g.met.D.Disk.counts_now g.met.D.Disk.only_now c.args.disk.now
-        c.find_state.new.disk was.0 (g.D.Disk.reads c.args.disk.now) (g.D.Disk.reads c.find_state.new.disk) c.in_ok-find_state.ensures.same c.find_state.ensures.quiet was.1)
+    let was = c.requires.settled (subst IsTrue c.find_state.ensures.same_disk.same_telling tells) in (
+      was.0,
+      still g.D.Disk.moment g.D.Disk.left_since g.D.Disk.may_leave g.met.D.Disk.counts_now g.met.D.Disk.only_now c.args.disk.now
+          c.find_state.new.disk was.0 (g.D.Disk.reads c.args.disk.now) (g.D.Disk.reads c.find_state.new.disk) c.in_ok-find_state.ensures.same c.find_state.ensures.quiet was.1,
+    )
 
 pub bear-requires-in-Zeroed-clause-whole : goal.bear-requires-in-Zeroed-clause-whole
 bear-requires-in-Zeroed-clause-whole g c = omega (arith, ap length c.requires.whole.1)
@@ -80,7 +86,7 @@ returns-in-Born-clause-opened g c =
     let size = at-file (g.D.Disk.reads c.args.disk.now) file (λ (f : List ℕ). c.args.end ≡ length f) d.read c.requires.size in
     let state = subst (IsIn text file) c.in-Born.is (c.in_ok-find_state.ensures.state text file d.read size (head_is text c.args.whole.now is)) in
     let later = still g.D.Disk.moment g.D.Disk.left_since g.D.Disk.may_leave g.met.D.Disk.counts_now g.met.D.Disk.only_now c.args.disk.now
-        c.find_state.new.disk file (g.D.Disk.reads c.args.disk.now) (g.D.Disk.reads c.find_state.new.disk) c.in_ok-find_state.ensures.same c.find_state.ensures.quiet d in
+    c.find_state.new.disk file (g.D.Disk.reads c.args.disk.now) (g.D.Disk.reads c.find_state.new.disk) c.in_ok-find_state.ensures.same c.find_state.ensures.quiet d in
     h text file later (headed_is text c.args.whole.now file is state)) (λ e free. free)
 
 pub returns-in-Born-clause-refused : goal.returns-in-Born-clause-refused
@@ -90,7 +96,7 @@ returns-in-Born-clause-refused g c =
     let size = at-file (g.D.Disk.reads c.args.disk.now) file (λ (f : List ℕ). c.args.end ≡ length f) d.read c.requires.size in
     let state = subst (IsIn text file) c.in-Born.is (c.in_ok-find_state.ensures.state text file d.read size (head_is text c.args.whole.now is)) in
     let later = still g.D.Disk.moment g.D.Disk.left_since g.D.Disk.may_leave g.met.D.Disk.counts_now g.met.D.Disk.only_now c.args.disk.now
-        c.find_state.new.disk file (g.D.Disk.reads c.args.disk.now) (g.D.Disk.reads c.find_state.new.disk) c.in_ok-find_state.ensures.same c.find_state.ensures.quiet d in
+    c.find_state.new.disk file (g.D.Disk.reads c.args.disk.now) (g.D.Disk.reads c.find_state.new.disk) c.in_ok-find_state.ensures.same c.find_state.ensures.quiet d in
     h text file later (headed_is text c.args.whole.now file is state))
 
 pub returns-in-Born-clause-any_moment : goal.returns-in-Born-clause-any_moment
@@ -98,7 +104,7 @@ returns-in-Born-clause-any_moment g c = λ text file list d is own stands.
     let size = at-file (g.D.Disk.reads c.args.disk.now) file (λ (f : List ℕ). c.args.end ≡ length f) d.read c.requires.size in
     let state = subst (IsIn text file) c.in-Born.is (c.in_ok-find_state.ensures.state text file d.read size (head_is text c.args.whole.now is)) in
     let later = still g.D.Disk.moment g.D.Disk.left_since g.D.Disk.may_leave g.met.D.Disk.counts_now g.met.D.Disk.only_now c.args.disk.now
-        c.find_state.new.disk file (g.D.Disk.reads c.args.disk.now) (g.D.Disk.reads c.find_state.new.disk) c.in_ok-find_state.ensures.same c.find_state.ensures.quiet d in
+    c.find_state.new.disk file (g.D.Disk.reads c.args.disk.now) (g.D.Disk.reads c.find_state.new.disk) c.in_ok-find_state.ensures.same c.find_state.ensures.quiet d in
     let headed = headed_is text c.args.whole.now file is state in
     let Q : List ℕ → Type 0 = λ k. g.D.Disk.may_leave c.args.disk.now k ⊎ IsOwnFor text list k in
     leaves-weaker g.D.Disk.moment g.D.Disk.left_since c.args.disk.now c.recover.new.disk (g.D.Disk.may_leave c.args.disk.now) Q (λ k now. inl now)
@@ -112,7 +118,7 @@ returns-in-Unborn-clause-opened g c =
     let size = at-file (g.D.Disk.reads c.args.disk.now) file (λ (f : List ℕ). c.args.end ≡ length f) d.read c.requires.size in
     let state = subst (IsIn text file) c.in-Unborn.is (c.in_ok-find_state.ensures.state text file d.read size (head_is text c.args.whole.now is)) in
     let later = still g.D.Disk.moment g.D.Disk.left_since g.D.Disk.may_leave g.met.D.Disk.counts_now g.met.D.Disk.only_now c.args.disk.now
-        c.find_state.new.disk file (g.D.Disk.reads c.args.disk.now) (g.D.Disk.reads c.find_state.new.disk) c.in_ok-find_state.ensures.same c.find_state.ensures.quiet d in
+    c.find_state.new.disk file (g.D.Disk.reads c.args.disk.now) (g.D.Disk.reads c.find_state.new.disk) c.in_ok-find_state.ensures.same c.find_state.ensures.quiet d in
     h text file later is state.0) (λ e free. free)
 
 pub returns-in-Unborn-clause-refused : goal.returns-in-Unborn-clause-refused
@@ -123,12 +129,12 @@ returns-in-Unborn-clause-any_moment g c = λ text file list d is own stands.
     let size = at-file (g.D.Disk.reads c.args.disk.now) file (λ (f : List ℕ). c.args.end ≡ length f) d.read c.requires.size in
     let state = subst (IsIn text file) c.in-Unborn.is (c.in_ok-find_state.ensures.state text file d.read size (head_is text c.args.whole.now is)) in
     let later = still g.D.Disk.moment g.D.Disk.left_since g.D.Disk.may_leave g.met.D.Disk.counts_now g.met.D.Disk.only_now c.args.disk.now
-        c.find_state.new.disk file (g.D.Disk.reads c.args.disk.now) (g.D.Disk.reads c.find_state.new.disk) c.in_ok-find_state.ensures.same c.find_state.ensures.quiet d in
+    c.find_state.new.disk file (g.D.Disk.reads c.args.disk.now) (g.D.Disk.reads c.find_state.new.disk) c.in_ok-find_state.ensures.same c.find_state.ensures.quiet d in
     let Q : List ℕ → Type 0 = λ k. g.D.Disk.may_leave c.args.disk.now k ⊎ IsOwnFor text list k in
     goes_further g.D.Disk.moment g.D.Disk.left_since c.args.disk.now c.find_state.new.disk c.bear.new.disk Q
     (leaves-weaker g.D.Disk.moment g.D.Disk.left_since c.args.disk.now c.find_state.new.disk (g.D.Disk.may_leave c.args.disk.now) Q (λ k now. inl now) c.find_state.ensures.quiet)
     (leaves-weaker g.D.Disk.moment g.D.Disk.left_since c.find_state.new.disk c.bear.new.disk (IsOwnFor text []) Q
-        (λ k own_now. inr (subst (λ (l : List Entry). IsOwnFor text l k) (sym (unborn_empty text file list state.0 stands)) own_now))
+    (λ k own_now. inr (subst (λ (l : List Entry). IsOwnFor text l k) (sym (unborn_empty text file list state.0 stands)) own_now))
     (c.bear.ensures.any_moment text file later state.0 own is))
 
 pub returns-in-Zeroed-clause-opened : goal.returns-in-Zeroed-clause-opened
@@ -138,7 +144,7 @@ returns-in-Zeroed-clause-opened g c =
     let size = at-file (g.D.Disk.reads c.args.disk.now) file (λ (f : List ℕ). c.args.end ≡ length f) d.read c.requires.size in
     let state = subst (IsIn text file) c.in-Zeroed.is (c.in_ok-find_state.ensures.state text file d.read size (head_is text c.args.whole.now is)) in
     let later = still g.D.Disk.moment g.D.Disk.left_since g.D.Disk.may_leave g.met.D.Disk.counts_now g.met.D.Disk.only_now c.args.disk.now
-        c.find_state.new.disk file (g.D.Disk.reads c.args.disk.now) (g.D.Disk.reads c.find_state.new.disk) c.in_ok-find_state.ensures.same c.find_state.ensures.quiet d in
+    c.find_state.new.disk file (g.D.Disk.reads c.args.disk.now) (g.D.Disk.reads c.find_state.new.disk) c.in_ok-find_state.ensures.same c.find_state.ensures.quiet d in
     h text file later is state.0) (λ e free. free)
 
 pub returns-in-Zeroed-clause-refused : goal.returns-in-Zeroed-clause-refused
@@ -149,12 +155,12 @@ returns-in-Zeroed-clause-any_moment g c = λ text file list d is own stands.
     let size = at-file (g.D.Disk.reads c.args.disk.now) file (λ (f : List ℕ). c.args.end ≡ length f) d.read c.requires.size in
     let state = subst (IsIn text file) c.in-Zeroed.is (c.in_ok-find_state.ensures.state text file d.read size (head_is text c.args.whole.now is)) in
     let later = still g.D.Disk.moment g.D.Disk.left_since g.D.Disk.may_leave g.met.D.Disk.counts_now g.met.D.Disk.only_now c.args.disk.now
-        c.find_state.new.disk file (g.D.Disk.reads c.args.disk.now) (g.D.Disk.reads c.find_state.new.disk) c.in_ok-find_state.ensures.same c.find_state.ensures.quiet d in
+    c.find_state.new.disk file (g.D.Disk.reads c.args.disk.now) (g.D.Disk.reads c.find_state.new.disk) c.in_ok-find_state.ensures.same c.find_state.ensures.quiet d in
     let Q : List ℕ → Type 0 = λ k. g.D.Disk.may_leave c.args.disk.now k ⊎ IsOwnFor text list k in
     goes_further g.D.Disk.moment g.D.Disk.left_since c.args.disk.now c.find_state.new.disk c.bear-in-Zeroed.new.disk Q
     (leaves-weaker g.D.Disk.moment g.D.Disk.left_since c.args.disk.now c.find_state.new.disk (g.D.Disk.may_leave c.args.disk.now) Q (λ k now. inl now) c.find_state.ensures.quiet)
     (leaves-weaker g.D.Disk.moment g.D.Disk.left_since c.find_state.new.disk c.bear-in-Zeroed.new.disk (IsOwnFor text []) Q
-        (λ k own_now. inr (subst (λ (l : List Entry). IsOwnFor text l k) (sym (unborn_empty text file list state.0 stands)) own_now))
+    (λ k own_now. inr (subst (λ (l : List Entry). IsOwnFor text l k) (sym (unborn_empty text file list state.0 stands)) own_now))
     (c.bear-in-Zeroed.ensures.any_moment text file later state.0 own is))
 
 pub returns-in_err-find_state-clause-untouched : goal.returns-in_err-find_state-clause-untouched
@@ -165,8 +171,11 @@ returns-in_err-find_state-clause-untouched g c =
 pub returns-in-Born-clause-untouched : goal.returns-in-Born-clause-untouched
 returns-in-Born-clause-untouched g c =
     MatchResult-weaker c.recover.result c.recover.ensures.untouched (λ o free. free)
-    (λ e left. elim left [ inl free ↦ inl free | inr quiet ↦ inr (quiet-then g.D.Disk.moment g.D.Disk.left_since g.D.Disk.may_leave
-        g.met.D.Disk.counts_now g.met.D.Disk.only_now c.args.disk.now c.find_state.new.disk c.recover.new.disk c.find_state.ensures.quiet quiet) ])
+    (λ e left. elim left [
+      | inl free ↦ inl free
+      | inr quiet ↦ inr (quiet-then g.D.Disk.moment g.D.Disk.left_since g.D.Disk.may_leave
+          g.met.D.Disk.counts_now g.met.D.Disk.only_now c.args.disk.now c.find_state.new.disk c.recover.new.disk c.find_state.ensures.quiet quiet)
+    ])
 
 pub returns-in-Unborn-clause-untouched : goal.returns-in-Unborn-clause-untouched
 returns-in-Unborn-clause-untouched g c = MatchResult-weaker c.bear.result c.bear.ensures.free (λ o free. free) (λ e h. inl h)

@@ -67,13 +67,13 @@ returns-clause-opened g c = λ text file d headed.
     let list = map shown_entry c.in_ok-entries.entries.items in
     let recs : AreRecordsAt (length c.args.room.items - 5) c.args.start file list c.in_ok-entries.gate = subst (λ (n : ℕ). AreRecordsAt n c.args.start file list c.in_ok-entries.gate) same read.0 in
     let mid = still g.D.Disk.moment g.D.Disk.left_since g.D.Disk.may_leave g.met.D.Disk.counts_now g.met.D.Disk.only_now c.args.disk.now
-        c.read_records.new.disk file (g.D.Disk.reads c.args.disk.now) (g.D.Disk.reads c.read_records.new.disk)
+    c.read_records.new.disk file (g.D.Disk.reads c.args.disk.now) (g.D.Disk.reads c.read_records.new.disk)
     c.in_ok-entries.ensures.same c.read_records.ensures.quiet d in
     let done = c.in_ok-shut.ensures.on_disk file mid size read.1 in
     let opened = recovered text c.args.start (length c.args.room.items - 5) file headed list c.in_ok-entries.gate done.0
-        (g.D.Disk.reads c.shut.new.disk) (g.D.Disk.may_leave c.shut.new.disk) recs read.1 done.1 done.2 done.3 in
+    (g.D.Disk.reads c.shut.new.disk) (g.D.Disk.may_leave c.shut.new.disk) recs read.1 done.1 done.2 done.3 in
     subst (λ (n : ℕ). IsOpenedAs text (length c.args.room.items - 5) file list n (g.D.Disk.reads c.shut.new.disk)
-        (g.D.Disk.may_leave c.shut.new.disk)) (sym (ap (λ (r : Ready). r.gate) c.at.ensures)) opened
+    (g.D.Disk.may_leave c.shut.new.disk)) (sym (ap (λ (r : Ready). r.gate) c.at.ensures)) opened
 
 pub returns-clause-quiet : goal.returns-clause-quiet
 returns-clause-quiet g c = λ text file list d headed kept.

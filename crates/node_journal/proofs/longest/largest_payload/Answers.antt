@@ -9,7 +9,7 @@ returns-clause-enough c = λ s e is.
     let n = net_of c.args.net.now in
     let counts = c.sizes-sizes.ensures.counts in
     let whole = longest_is n c.rows.result c.sizes-sizes.result.feeds c.sizes-sizes.result.outs c.sizes-sizes.result.directs c.max.result
-        c.rows.ensures.count counts.feeds counts.outs counts.directs c.max.ensures in
+    c.rows.ensures.count counts.feeds counts.outs counts.directs c.max.ensures in
     subst (λ (k : ℕ). length (payload e) ≤ k) (sym whole) (short_payload n s e is)
 
 pub returns-clause-narrow : goal.returns-clause-narrow

@@ -9,5 +9,5 @@ returns c =
     let n = net_of c.args.net.now in
     line-same n _ _ c.write_side.new.row c.write_side.result
     (side_at n (shown_box c.args.v.now) c.args.n c.sizes-counts.result.qualities _ _ _ c.sizes-counts.ensures.counts.qualities
-        c.envelope_at-out.ensures.out c.envelope_at-out.ensures.quality c.envelope_at-out.ensures.side)
+    c.envelope_at-out.ensures.out c.envelope_at-out.ensures.quality c.envelope_at-out.ensures.side)
     c.write_side.ensures

@@ -9,7 +9,7 @@ loop-part-init c = divisor-none c.args.start (λ (i : ℕ). get_or c.args.parts.
 pub loop-part-preserved : goal.loop-part-preserved
 loop-part-preserved c =
     divisor-more c.args.start (λ (i : ℕ). get_or c.args.parts.now i 0) c.loop-part.part-index c.loop-part.divisor c.gcd-divisor.result
-        (c.loop-part.invariant.positive c.requires) c.loop-part.invariant c.gcd-divisor.ensures
+    (c.loop-part.invariant.positive c.requires) c.loop-part.invariant c.gcd-divisor.ensures
 
 pub returns : goal.returns
 returns c =

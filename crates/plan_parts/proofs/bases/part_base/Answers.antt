@@ -21,7 +21,7 @@ returns-then-least-gt-MAX_BASE-clause-too_fine c =
     let n = net_of c.args.net.now in
     let p = flows_plan c.args.flows.now in
     base-too_fine n p _ c.lcm-least.result (base-more n p c.loop-pool.pool c.loop-pool.least c.pool_base.result c.lcm-least.result
-        c.loop-pool.invariant.below c.pool_base.ensures.least c.lcm-least.ensures.least) (omega arith)
+    c.loop-pool.invariant.below c.pool_base.ensures.least c.lcm-least.ensures.least) (omega arith)
 
 pub loop-pool-preserved : goal.loop-pool-preserved
 loop-pool-preserved c =

@@ -11,7 +11,7 @@ overflow_cast-result c =
     let p = flows_plan c.args.flows.now in
     let sent : c.sum_at_node-sent.result ≡ outflow n p (n.feed_pool c.args.feed) = c.sum_at_node-sent.ensures.sum ∙ ap (outflow n p) c.feed-pool.ensures.pool in
     let within = part-within n p c.args.base c.from.result c.sum_at_node-sent.result c.args.feed c.sizes-sizes.ensures.limited c.requires.carries
-        c.requires.feed c.requires.whole c.from.ensures sent c.if-sent-gt0.true in
+    c.requires.feed c.requires.whole c.from.ensures sent c.if-sent-gt0.true in
     omega (arith, within, c.requires.small)
 
 pub returns-then-sent-gt0 : goal.returns-then-sent-gt0

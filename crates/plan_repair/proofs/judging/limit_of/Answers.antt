@@ -11,4 +11,4 @@ pub returns-in-Some : goal.returns-in-Some
 returns-in-Some c =
     let n = net_of c.args.net.now in
     subst (λ (o : Option (Bor WrittenPlan)). IsLimit n (shown_best (option_copied o)) c.cost_of.result) (sym c.in-Some.is)
-        (limit-is n (shown_plan c.in-Some.best.now) c.cost_of.result c.cost_of.ensures)
+    (limit-is n (shown_plan c.in-Some.best.now) c.cost_of.result c.cost_of.ensures)

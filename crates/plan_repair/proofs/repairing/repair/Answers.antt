@@ -21,7 +21,7 @@ answer c =
     let refused : IfNone c.judge-plain.result (¬ IsAccepted n plain) = subst (λ (w : Written). IfNone c.judge-plain.result (¬ IsAccepted n w)) written c.judge-plain.ensures.refused in
     let choice : IsChoice n plain c.cheapest.result = subst (λ (o : Option Judged). IsChoice n plain o) (sym c.cheapest.ensures)
     (chosen n plain c.in_ok-near.near c.judge-plain.result c.in_ok-near.ensures c.judge-plain.ensures.cost
-        (same-plan c.in_ok-plain_plan.field-0 plain c.judge-plain.result written c.judge-plain.ensures.plan) refused) in
+    (same-plan c.in_ok-plain_plan.field-0 plain c.judge-plain.result written c.judge-plain.ensures.plan) refused) in
     subst (λ (o : Option WrittenPlan). IsAnswer n plain best o) (sym c.gained.ensures) (answered n plain best c.cheapest.result c.limit_of-limit.result choice c.limit_of-limit.ensures)
 
 pub returns-clause-gain : goal.returns-clause-gain

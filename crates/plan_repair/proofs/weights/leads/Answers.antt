@@ -14,5 +14,5 @@ returns-then-goes_before c =
     let same : n.feed_pool other ≡ n.feed_pool feed = sym c.feed-its_pool.ensures.pool ∙ c.if-its_pool-pool.true ∙ c.feed-pool.ensures.pool in
     let before : goes_before flow other feed ≡ true =
     goes_before-is flow other feed c.feed_flow.result c.feed_flow-flow.result c.goes_before.result c.feed_flow.ensures.value
-        c.feed_flow-flow.ensures.value c.goes_before.ensures c.if-goes_before.true in
+    c.feed_flow-flow.ensures.value c.goes_before.ensures c.if-goes_before.true in
     sym (led n.feed_pool flow other feed n.feeds among same before)

@@ -21,5 +21,5 @@ returns c =
     let s = c.args.point.now in
     same-test _ (IsPropPoint n s) c.keep_limits.result c.keep_limits.ensures
     (all-point n s (c.if-not-has_shape.ensures.0 refl) (c.if-not-are_products.ensures.0 refl) (c.if-not-sum_to_one.ensures.0 refl)
-        (c.if-not-come_from_feeds.ensures.0 refl) (c.if-not-flows_carry.ensures.0 refl))
+    (c.if-not-come_from_feeds.ensures.0 refl) (c.if-not-flows_carry.ensures.0 refl))
     (point-limits n s)

@@ -22,12 +22,12 @@ returns c =
     let pooled : c.sum_at_node-pooled.result ≡ sum_at n.out_product j q.out n.outs = c.sum_at_node-pooled.ensures.sum in
     let direct : c.sum_at_node-direct.result ≡ sum_at n.direct_product j q.direct n.directs = c.sum_at_node-direct.ensures.sum in
     let inflow : c.sum_at_node-pooled.result + c.sum_at_node-direct.result ≡ product_inflow n (proportion_flows q) j =
-        ap (λ z. z + c.sum_at_node-direct.result) pooled ∙ ap (λ z. sum_at n.out_product j q.out n.outs + z) direct in
+    ap (λ z. z + c.sum_at_node-direct.result) pooled ∙ ap (λ z. sum_at n.out_product j q.out n.outs + z) direct in
     let by_paths : along ≡ int_sum_at (λ a. n.out_product (path_out n a)) j
-        (λ a. n.source_quality (n.feed_source (path_feed n a)) k *ℤ pos (q.path a)) (path_count n) = c.quality_into-along.ensures.value in
+    (λ a. n.source_quality (n.feed_source (path_feed n a)) k *ℤ pos (q.path a)) (path_count n) = c.quality_into-along.ensures.value in
     let by_directs : straight ≡ direct_mix n (proportion_flows q) j k = c.quality_into-straight.ensures.value in
     let brought = wide_sum along straight c.quality_into-along.ensures.small c.quality_into-straight.ensures.small
     ∙ ap (λ z. z +ℤ straight) by_paths ∙ ap (λ z. int_sum_at (λ a. n.out_product (path_out n a)) j
-        (λ a. n.source_quality (n.feed_source (path_feed n a)) k *ℤ pos (q.path a)) (path_count n) +ℤ z) by_directs in
+    (λ a. n.source_quality (n.feed_source (path_feed n a)) k *ℤ pos (q.path a)) (path_count n) +ℤ z) by_directs in
     same-test _ (KeepsLimits n q j k) c.is_within_limits.result c.is_within_limits.ensures
     (meets-same n j k _ _ _ _ inflow brought) (meets-same n j k _ _ _ _ (sym inflow) (sym brought))

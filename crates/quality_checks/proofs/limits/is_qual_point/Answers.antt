@@ -16,13 +16,13 @@ returns-then-not-fits c =
 pub keep_qualities-requires-clause-small : goal.keep_qualities-requires-clause-small
 keep_qualities-requires-clause-small c =
     small-point (net_of c.args.net.now) c.args.point.now c.sizes-sizes.ensures.limited (c.if-not-has_shape.ensures.0 refl)
-        (c.if-not-lie_between.ensures.0 refl) (c.if-not-have_qualities.ensures.0 refl)
+    (c.if-not-lie_between.ensures.0 refl) (c.if-not-have_qualities.ensures.0 refl)
     (c.if-not-flows_carry.ensures.0 refl)
 
 pub keep_limits-requires-clause-small : goal.keep_limits-requires-clause-small
 keep_limits-requires-clause-small c =
     small-point (net_of c.args.net.now) c.args.point.now c.sizes-sizes.ensures.limited (c.if-not-has_shape.ensures.0 refl)
-        (c.if-not-lie_between.ensures.0 refl) (c.if-not-have_qualities.ensures.0 refl)
+    (c.if-not-lie_between.ensures.0 refl) (c.if-not-have_qualities.ensures.0 refl)
     (c.if-not-flows_carry.ensures.0 refl)
 
 pub returns-then-not-keep_qualities : goal.returns-then-not-keep_qualities

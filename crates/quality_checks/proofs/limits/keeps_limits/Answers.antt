@@ -20,7 +20,7 @@ returns c =
     let pooled : c.sum_at_node-pooled.result ≡ sum_at n.out_product j q.out n.outs = c.sum_at_node-pooled.ensures.sum in
     let direct : c.sum_at_node-direct.result ≡ sum_at n.direct_product j q.direct n.directs = c.sum_at_node-direct.ensures.sum in
     let inflow : c.sum_at_node-pooled.result + c.sum_at_node-direct.result ≡ product_inflow n (quality_flows q) j =
-        ap (λ z. z + c.sum_at_node-direct.result) pooled ∙ ap (λ z. sum_at n.out_product j q.out n.outs + z) direct in
+    ap (λ z. z + c.sum_at_node-direct.result) pooled ∙ ap (λ z. sum_at n.out_product j q.out n.outs + z) direct in
     let by_outs : mixed ≡ int_sum_at n.out_product j (λ o. q.mixed o k) n.outs = c.mixed_sum-mixed.ensures.value in
     let by_directs : straight ≡ direct_mix n (quality_flows q) j k = c.quality_into-straight.ensures.value in
     let brought = wide_sum mixed straight c.mixed_sum-mixed.ensures.small c.quality_into-straight.ensures.small

@@ -21,7 +21,7 @@ loop-out-preserved c =
     let p = get_or c.args.mix.now c.cell.result (pos 0) in
     let term = λ (o : ℕ). get_or c.args.mix.now (o * n.qualities + c.args.quality) (pos 0) in
     let there : c.cell.result < length c.args.mix.now = place-within c.cell.result c.sizes-counts.result.outs c.sizes-counts.result.qualities n.outs
-        n.qualities (length c.args.mix.now) c.cell.ensures.within counts.outs counts.qualities c.requires.long in
+    n.qualities (length c.args.mix.now) c.cell.ensures.within counts.outs counts.qualities c.requires.long in
     let small : unsigned_abs p ≤ 2 ^ 113 = c.requires.small c.cell.result there in
     let is_term : p ≡ term o = ap (λ (j : ℕ). get_or c.args.mix.now j (pos 0)) (c.cell.ensures.place ∙ ap (λ w. o * w + c.args.quality) counts.qualities) in
     let few : i ≤ 512 = omega (arith, c.numbers_at-out-items.ensures.few, c.loop-out-test.true) in

@@ -21,7 +21,7 @@ fed-sum-requires-clause-small c =
     let n = net_of c.args.net.now in
     let flow = λ (e : ℕ). get_or c.args.flows.now e 0 in
     let room = so_far flow c.numbers_at-feed-items.result.now _ c.loop-feed.feed-index _ c.loop-feed-test.true c.numbers_at-feed-items.ensures.numbers
-        (numbers_at-total flow n.feed_pool c.args.pool n.feeds) c.requires.small in
+    (numbers_at-total flow n.feed_pool c.args.pool n.feeds) c.requires.small in
     omega (arith, room)
 
 pub overflow_add-sum : goal.overflow_add-sum
@@ -32,7 +32,7 @@ overflow_add-sum c =
     let i = c.loop-feed.feed-index in
     let room = so_far flow items _ i _ c.loop-feed-test.true c.numbers_at-feed-items.ensures.numbers (numbers_at-total flow n.feed_pool c.args.pool n.feeds) c.requires.small in
     total_fits (to_z w128 c.loop-feed.sum-bits) c.fed-sum.result (10 ^ 11 * sum_by flow (take i items))
-        (10 ^ 11 * flow (get_or items i 0)) c.loop-feed.invariant.size c.fed-sum.ensures.small (omega (arith, room))
+    (10 ^ 11 * flow (get_or items i 0)) c.loop-feed.invariant.size c.fed-sum.ensures.small (omega (arith, room))
 
 pub loop-feed-preserved : goal.loop-feed-preserved
 loop-feed-preserved c =

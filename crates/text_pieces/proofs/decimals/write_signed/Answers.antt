@@ -36,6 +36,6 @@ returns-clause-wrote g c =
     let u = decimal (c.args.size / 1000000) in
     let d = fixed 6 (c.args.size % 1000000) in
     wrote-four c.write_whole-3.result (g.K.Sink.taken c.args.out.now) s (g.K.Sink.taken c.write_whole.new.out) u
-        (g.K.Sink.taken c.write_units.new.out) (codes ".") (g.K.Sink.taken c.write_whole-2.new.out) d (g.K.Sink.taken c.write_whole-3.new.out)
+    (g.K.Sink.taken c.write_units.new.out) (codes ".") (g.K.Sink.taken c.write_whole-2.new.out) d (g.K.Sink.taken c.write_whole-3.new.out)
     (rw c.minus.ensures at c.in_ok-write_whole.ensures.wrote) c.in_ok-write_units.ensures.wrote c.in_ok-write_whole-2.ensures.wrote
     (rw c.six_digits.ensures at c.write_whole-3.ensures.wrote)

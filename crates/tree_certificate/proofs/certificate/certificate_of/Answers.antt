@@ -26,7 +26,7 @@ pub claim_of-requires-clause-low : goal.claim_of-requires-clause-low
 claim_of-requires-clause-low c =
     let n = net_of c.args.net.now in
     tree_low n (searched_of c.args.tree.kept).tree c.bound-bound.result
-        (subst (λ z. unsigned_abs z ≤ 128 * 10 ^ 24) c.reach_bound-reach.ensures.bound c.reach_bound-reach.ensures.size) (c.bound-bound.ensures.bound n c.requires)
+    (subst (λ z. unsigned_abs z ≤ 128 * 10 ^ 24) c.reach_bound-reach.ensures.bound c.reach_bound-reach.ensures.size) (c.bound-bound.ensures.bound n c.requires)
 
 pub cert_law-requires : goal.cert_law-requires
 cert_law-requires c =
@@ -34,9 +34,9 @@ cert_law-requires c =
     let k = c.args.tree.kept in
     let held = map (option_map shown_proof) c.into_parts-parts.result.proofs.items in
     let found = found_cert n k c.counts-shape.result (shown_claim c.claim_of.result) (option_map shown_plan c.plan_of.result) c.bound-bound.result
-        (map shown_split c.into_parts-parts.result.splits.items)
+    (map shown_split c.into_parts-parts.result.splits.items)
     (map shown_node_proof c.in_ok-node_proofs.field-0.items) held (length c.into_parts-parts.result.proofs.items) c.counts-shape.ensures.counts
-        c.claim_of.ensures (c.plan_of.ensures ∙ c.into_parts-parts.ensures.plan)
+    c.claim_of.ensures (c.plan_of.ensures ∙ c.into_parts-parts.ensures.plan)
     (c.bound-bound.ensures.bound n c.requires) c.into_parts-parts.ensures.splits c.in_ok-node_proofs.ensures (sym (length-map c.into_parts-parts.result.proofs.items (option_map shown_proof)))
     c.into_parts-parts.ensures.proofs c.requires.kept.proved in
     subst IsShaped (sym found) (found_shaped n (searched_of k) (omega (arith, c.rows-rows.ensures.few, c.rows-rows.ensures.count)) c.requires.kept.searched)
@@ -48,7 +48,7 @@ returns-clause-found c =
     let held = map (option_map shown_proof) c.into_parts-parts.result.proofs.items in
     found_cert n k c.counts-shape.result (shown_claim c.claim_of.result) (option_map shown_plan c.plan_of.result) c.bound-bound.result (map shown_split c.into_parts-parts.result.splits.items)
     (map shown_node_proof c.in_ok-node_proofs.field-0.items) held (length c.into_parts-parts.result.proofs.items) c.counts-shape.ensures.counts
-        c.claim_of.ensures (c.plan_of.ensures ∙ c.into_parts-parts.ensures.plan)
+    c.claim_of.ensures (c.plan_of.ensures ∙ c.into_parts-parts.ensures.plan)
     (c.bound-bound.ensures.bound n c.requires) c.into_parts-parts.ensures.splits c.in_ok-node_proofs.ensures (sym (length-map c.into_parts-parts.result.proofs.items (option_map shown_proof)))
     c.into_parts-parts.ensures.proofs c.requires.kept.proved
 
@@ -58,9 +58,9 @@ returns-clause-valid c =
     let k = c.args.tree.kept in
     let held = map (option_map shown_proof) c.into_parts-parts.result.proofs.items in
     let found = found_cert n k c.counts-shape.result (shown_claim c.claim_of.result) (option_map shown_plan c.plan_of.result) c.bound-bound.result
-        (map shown_split c.into_parts-parts.result.splits.items)
+    (map shown_split c.into_parts-parts.result.splits.items)
     (map shown_node_proof c.in_ok-node_proofs.field-0.items) held (length c.into_parts-parts.result.proofs.items) c.counts-shape.ensures.counts
-        c.claim_of.ensures (c.plan_of.ensures ∙ c.into_parts-parts.ensures.plan)
+    c.claim_of.ensures (c.plan_of.ensures ∙ c.into_parts-parts.ensures.plan)
     (c.bound-bound.ensures.bound n c.requires) c.into_parts-parts.ensures.splits c.in_ok-node_proofs.ensures (sym (length-map c.into_parts-parts.result.proofs.items (option_map shown_proof)))
     c.into_parts-parts.ensures.proofs c.requires.kept.proved in
     subst (IsValid n) (sym found) (found_valid n (searched_of k) c.counts-shape.ensures.limited c.requires.kept.searched)

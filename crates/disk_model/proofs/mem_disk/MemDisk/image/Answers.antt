@@ -25,7 +25,7 @@ loop-step-preserved c =
           let image = w.in_ok-image-in_default.image.items in
           let held = w.deref-in_default.ensures.value in
           replayed-other start steps c.args.choice k w.choose-way.result s c.loop-step.file.items c.loop-step.image.items c.match-step.file.items
-              c.match-step.image.items more w.in_default.not-Sync c.loop-step.invariant
+          c.match-step.image.items more w.in_default.not-Sync c.loop-step.invariant
           w.choose-way.ensures.none w.choose-way.ensures.whole
           (subst (λ (l : List ℕ). Lands s l c.match-step.image.items) held
           (subst (λ (l : List ℕ). Lands s w.deref-in_default.result.now l) (sym (ap items_of w.image-is)) w.in_ok-image-in_default.ensures.landed))

@@ -41,7 +41,7 @@ returns-clause-allowed g c =
     let size : length c.in_ok-room.room.items - 5 ≡ c.args.largest = omega (arith, c.in_ok-room.ensures.len, c.in_ok-room.room.ok.0) in
     MatchResult-weaker c.open_measured.result c.open_measured.ensures.opened
     (λ o h file is. subst (λ (n : ℕ). AllByRecursion (IsAllowed n) (map shown_entry o.entries.items)) size
-        (h c.args.text.now file (c.in_ok-end.ensures.on_disk file is) (c.deref.ensures.value ∙ c.in_ok-whole.ensures)).allowed) (λ e free. free)
+    (h c.args.text.now file (c.in_ok-end.ensures.on_disk file is) (c.deref.ensures.value ∙ c.in_ok-whole.ensures)).allowed) (λ e free. free)
 
 pub returns-clause-left : goal.returns-clause-left
 returns-clause-left g c =
@@ -78,13 +78,13 @@ pub returns-in_err-room-clause-any_moment : goal.returns-in_err-room-clause-any_
 returns-in_err-room-clause-any_moment g c = λ file list is own stands.
     let Q : List ℕ → Type 0 = λ k. g.D.Disk.may_leave c.args.disk.now k ⊎ IsOwnFor c.args.text.now list k in
     leaves-weaker g.D.Disk.moment g.D.Disk.left_since c.args.disk.now c.args.disk.now (g.D.Disk.may_leave c.args.disk.now) Q (λ k now. inl now)
-        (quiet-start g.D.Disk.moment g.D.Disk.left_since g.D.Disk.may_leave g.met.D.Disk.counts_now g.met.D.Disk.only_now c.args.disk.now)
+    (quiet-start g.D.Disk.moment g.D.Disk.left_since g.D.Disk.may_leave g.met.D.Disk.counts_now g.met.D.Disk.only_now c.args.disk.now)
 
 pub returns-in_err-whole-clause-any_moment : goal.returns-in_err-whole-clause-any_moment
 returns-in_err-whole-clause-any_moment g c = λ file list is own stands.
     let Q : List ℕ → Type 0 = λ k. g.D.Disk.may_leave c.args.disk.now k ⊎ IsOwnFor c.args.text.now list k in
     leaves-weaker g.D.Disk.moment g.D.Disk.left_since c.args.disk.now c.args.disk.now (g.D.Disk.may_leave c.args.disk.now) Q (λ k now. inl now)
-        (quiet-start g.D.Disk.moment g.D.Disk.left_since g.D.Disk.may_leave g.met.D.Disk.counts_now g.met.D.Disk.only_now c.args.disk.now)
+    (quiet-start g.D.Disk.moment g.D.Disk.left_since g.D.Disk.may_leave g.met.D.Disk.counts_now g.met.D.Disk.only_now c.args.disk.now)
 
 pub returns-in_err-end-clause-any_moment : goal.returns-in_err-end-clause-any_moment
 returns-in_err-end-clause-any_moment g c = λ file list is own stands.
@@ -108,11 +108,14 @@ returns-clause-taken g c = λ file list is stands allowed.
     let size : length c.in_ok-room.room.items - 5 ≡ c.args.largest = omega (arith, c.in_ok-room.ensures.len, c.in_ok-room.room.ok.0) in
     taken_of c.open_measured.result c.args.text.now (length c.in_ok-room.room.items - 5) file list
     (MatchResult-weaker c.open_measured.result c.open_measured.ensures.refused (λ o free. free)
-        (λ e h. h c.args.text.now file (c.in_ok-end.ensures.on_disk file is) (c.deref.ensures.value ∙ c.in_ok-whole.ensures)))
+    (λ e h. h c.args.text.now file (c.in_ok-end.ensures.on_disk file is) (c.deref.ensures.value ∙ c.in_ok-whole.ensures)))
     stands (subst (λ (n : ℕ). AllByRecursion (IsAllowed n) list) (sym size) allowed)
 
 pub returns-clause-untouched : goal.returns-clause-untouched
 returns-clause-untouched g c =
     MatchResult-weaker c.open_measured.result c.open_measured.ensures.untouched (λ o free. free)
-    (λ e left. elim left [ inl free ↦ inl free | inr quiet ↦ inr (quiet-then g.D.Disk.moment g.D.Disk.left_since g.D.Disk.may_leave
-        g.met.D.Disk.counts_now g.met.D.Disk.only_now c.args.disk.now c.measure.new.disk c.open_measured.new.disk c.measure.ensures.quiet quiet) ])
+    (λ e left. elim left [
+      | inl free ↦ inl free
+      | inr quiet ↦ inr (quiet-then g.D.Disk.moment g.D.Disk.left_since g.D.Disk.may_leave
+          g.met.D.Disk.counts_now g.met.D.Disk.only_now c.args.disk.now c.measure.new.disk c.open_measured.new.disk c.measure.ensures.quiet quiet)
+    ])

@@ -32,7 +32,7 @@ returns-then-at-eq1 c =
     subst (λ (z : ℤ). IsSpanOf (box_of n k.list c.args.node) c.args.coord record { low = z; high = to_z w64 (of_z w64 (get_or c.splits-splits.result.now t no_held).cut) }) (sym (to_z-of_z low_fits))
     (subst (λ (z : ℤ). IsSpanOf (box_of n k.list c.args.node) c.args.coord record { low = (get_or c.as_slice-spans.result.now t no_span).low; high = z }) (sym (to_z-of_z cut_fits))
     (span-left n k c.args.coord c.args.node c.loop-at.at c.splits-splits.result.now c.requires.tree held c.loop-at-test.true c.loop-at.invariant
-        c.as_slice-spans.result.now spans c.if-at-eq1.true c.if-split-coord.true))
+    c.as_slice-spans.result.now spans c.if-at-eq1.true c.if-split-coord.true))
 
 pub returns-else-at-eq1 : goal.returns-else-at-eq1
 returns-else-at-eq1 c =
@@ -46,7 +46,7 @@ returns-else-at-eq1 c =
     subst (λ (z : ℤ). IsSpanOf (box_of n k.list c.args.node) c.args.coord record { low = z; high = to_z w64 (of_z w64 (get_or c.as_slice-spans.result.now t no_span).high) }) (sym (to_z-of_z cut_fits))
     (subst (λ (z : ℤ). IsSpanOf (box_of n k.list c.args.node) c.args.coord record { low = (get_or c.splits-splits.result.now t no_held).cut; high = z }) (sym (to_z-of_z high_fits))
     (span-right n k c.args.coord c.args.node c.loop-at.at c.splits-splits.result.now c.requires.tree held c.loop-at-test.true c.loop-at.invariant
-        c.as_slice-spans.result.now spans c.if-at-eq1.false c.if-split-coord.true))
+    c.as_slice-spans.result.now spans c.if-at-eq1.false c.if-split-coord.true))
 
 pub returns : goal.returns
 returns c =
