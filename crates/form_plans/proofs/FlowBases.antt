@@ -6,7 +6,7 @@ use Rattle.std.proofs.Math.Nat.{div-mul_cancel, mul-le-mul_left}
 use Rattle.std.proofs.lemmas.Nat.Gcd.{dvd_refl, dvd_trans, le_of_dvd}
 use Rattle.std.proofs.lemmas.List.{get_or-map, length-map}
 use Rattle.pool_model.specs.Network.{Net, IsLimited}
-use Rattle.pool_model.specs.Plan.{Plan, Written, Carries}
+use Rattle.pool_model.specs.Plan.{Written, Carries}
 use Rattle.program_plans.specs.LeastBases.{IsLeastFlowBase}
 use Rattle.program_plans.specs.Plans.{HasFlowsOf}
 use Rattle.program_plans.proofs.Bounds.{carries-bounded}

@@ -1,8 +1,8 @@
 -- The plan that is made of a point of Q.
 use Rattle.std.proofs.Common.{◌≡◌, ℕ, ◌/◌, ◌≤◌, List, length, get_or, arith, sym, ap, subst, ◌∙◌}
 use Rattle.pool_model.specs.Network.{Net, IsLimited}
-use Rattle.pool_model.specs.Plan.{Written, IsWritten, Obeys, plan_of}
-use Rattle.program_model.specs.Points.{SameCost, SameFlows, proportion_flows}
+use Rattle.pool_model.specs.Plan.{Written, plan_of}
+use Rattle.program_model.specs.Points.{proportion_flows}
 use Rattle.program_model.specs.Programs.{IsPointOfQ}
 use Rattle.program_model.proofs.FormQ.{point_of_q-obeys}
 use Rattle.program_model.proofs.SameFlows.{cost-same}
@@ -20,7 +20,7 @@ use Rattle.form_plans.specs.Faults.{AreTooFine}
 use Rattle.form_plans.specs.Made.{IsMade}
 use Rattle.form_plans.specs.Slices.{AreSlicesOf}
 use Rattle.form_plans.specs.Taken.{IsPropPlan}
-use Rattle.form_plans.proofs.FlowBases.{HasFlowLists, base-fine, base-too_fine, made-flows}
+use Rattle.form_plans.proofs.FlowBases.{HasFlowLists, made-flows}
 
 -- ---- lent lists
 

@@ -1,10 +1,10 @@
 -- The plan that is made of a point of P.
-use Rattle.std.proofs.Common.{◌≡◌, ℕ, ◌*◌, ◌/◌, ◌<◌, ◌≤◌, ◌^◌, List, length, get_or, ℤ, arith, sym, ap, subst, ◌∙◌}
+use Rattle.std.proofs.Common.{◌≡◌, ℕ, ◌*◌, ◌/◌, ◌≤◌, List, length, get_or, ℤ, arith, sym, ap, subst, ◌∙◌}
 use Rattle.std.proofs.lemmas.Nat.Gcd.{dvd_refl}
 use Rattle.pool_model.specs.Network.{Net, IsLimited}
-use Rattle.pool_model.specs.Plan.{Written, IsWritten, Obeys, plan_of, outflow}
+use Rattle.pool_model.specs.Plan.{Written, plan_of, outflow}
 use Rattle.pool_model.specs.Starting.{first_weight}
-use Rattle.program_model.specs.Points.{SameCost, SameFlows, quality_flows}
+use Rattle.program_model.specs.Points.{quality_flows}
 use Rattle.program_model.specs.Programs.{IsPointOfP}
 use Rattle.program_model.proofs.FormP.{point_of_p-obeys}
 use Rattle.program_model.proofs.SameFlows.{cost-same}

@@ -1,4 +1,4 @@
-use Rattle.std.proofs.Common.{◌≡◌, ◌<◌, ◌≤◌, ◌/◌, ℕ, inl, inr, IfOk, refl}
+use Rattle.std.proofs.Common.{◌≡◌, ◌/◌, inl, inr, refl}
 use Rattle.std.proofs.lemmas.Bool.{false≢true}
 use Rattle.pool_model.specs.Network.{net_of}
 use Rattle.plan_core.specs.Views.{shown_plan}

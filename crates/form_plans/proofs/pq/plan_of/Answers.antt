@@ -1,7 +1,6 @@
 use Rattle.pool_model.specs.Network.{net_of}
 use Rattle.plan_core.specs.declared.plan.WrittenPlan.{WrittenPlan}
 use Rattle.form_plans.specs.Taken.{HasPlanOfPq, HasPlanOfQ, IsFaultOfPq, IsFaultOfQ}
-use Rattle.form_plans.specs.declared.fault.FormFault.{FormFault}
 use Rattle.form_plans.proofs.Outcomes.{ok-more, err-more, plan-further, fault-further}
 use Rattle.form_plans.proofs.pq.plan_of.Goals as goal
 
