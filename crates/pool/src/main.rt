@@ -1,6 +1,7 @@
 //! The program: real files and streams round the top call.
 #![tactic(auto)]
 
+use disk_model::FileDisk;
 use edge_io::{FileShelf, StdSink};
 use pool_cli::{Status, run, write_message};
 use std::env;
@@ -13,7 +14,8 @@ fn main(rt: HostRuntime) -> ExitCode {
         Ok(words) => {
             let mut shelf = FileShelf::new(&rt);
             let mut out = StdSink::new(rt.stdout());
-            run(rt.alloc(), &words, &mut shelf, &mut out)
+            let mut disk = FileDisk::new(&rt);
+            run(rt.alloc(), &words, &mut shelf, &mut out, &mut disk)
         }
         Err(status) => status,
     };

@@ -4,10 +4,8 @@ use Rattle.std.proofs.lemmas.Int.{ints}
 use Rattle.integers.proofs.Ring.{linear}
 use Rattle.cli_words.specs.Items.{Text}
 use Rattle.cli_words.specs.Asks.{Asks, IsGap}
-use Rattle.pool_cli.specs.Ends.{HasGap, asked_of}
+use Rattle.cli_words.specs.Requests.{Solving, solve}
 use Rattle.pool_cli.specs.Gaps.{IsGapAsked}
-use Rattle.pool_cli.specs.declared.words.Command.{Command}
-use Rattle.pool_cli.specs.declared.words.Command.TheVariants as commands
 
 low : (z q : ℤ) → z ≡ q *ℤ pos (10 ^ 6) → pos 0 ≤ℤ q → pos 0 ≤ℤ z
 low z q e h = omega (arith, linear)
@@ -19,8 +17,5 @@ of_option : (o : Option Text) (z : ℤ) → IsGap o z → IsGapAsked z
 of_option None z e = record { least = omega (arith, ints); most = omega (arith, ints) }
 of_option (Some text) z m = record { least = low z m.quantity m.amount m.low; most = high z m.quantity m.amount m.high }
 
-pub gap-asked : (words : List Text) (c : Command) → Asks words (asked_of c) → HasGap c
-gap-asked words (commands.Solve solving) asks = of_option _ solving.gap asks.says.gap
-gap-asked words (commands.Check net cert) asks = tt
-gap-asked words (commands.Formulate net form) asks = tt
-gap-asked words (commands.Make number) asks = tt
+pub gap-asked : (words : List Text) (s : Solving) → Asks words (solve s) → IsGapAsked s.gap
+gap-asked words s asks = of_option _ s.gap asks.says.gap

@@ -1,4 +1,9 @@
+mod Commands
 mod Gaps
+mod Journaling
 mod Networks
 mod Outcomes
+mod Resuming
 mod Solutions
+mod Trials
+mod Reported

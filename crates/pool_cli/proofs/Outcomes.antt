@@ -1,16 +1,17 @@
 -- What an outcome tells of the files, and what the files tell of the outcome.
-use Rattle.std.proofs.Common.{◌≡◌, ℕ, inl, inr, List, length, nat_lt, Bool, true, false, if◌then◌else◌, Option, None, Some, ℤ, pos, ◌*ℤ◌, int_le, refl, sym, ap, subst, ◌∙◌, arith}
+use Rattle.std.proofs.Common.{◌≡◌, ◌≢◌, ◌⊎◌, ℕ, inl, inr, List, length, nat_lt, Bool, true, false, if◌then◌else◌, Option, None, Some, ℤ, pos, ◌*ℤ◌, int_le, refl, sym, ap, subst, ◌∙◌, arith}
 use Rattle.edge_io.specs.Files.{file_of}
 use Rattle.pool_model.specs.Network.{Network, net_of}
 use Rattle.cert_format.specs.Cert.{Cert}
 use Rattle.cert_format.specs.Valid.{IsValid}
 use Rattle.cert_checker.specs.Answers.{Spells}
 use Rattle.box_space.specs.declared.coordinates.Form.{Form}
-use Rattle.cli_words.specs.Requests.{Asked, Solving, solve, check, formulate, make}
+use Rattle.cli_words.specs.Requests.{Asked, Solving, solve, check, report, formulate, make, trial}
 use Rattle.network_json.specs.declared.fault.ReadNet.{ReadNet}
 use Rattle.pool_model.specs.Plan.{Written, plan_of}
 use Rattle.pool_model.specs.Claim.{Claimed, with_gap, with_bound, no_plan, Follows, HasNoPlan}
 use Rattle.row_model.specs.Trees.{tree_bound}
+use Rattle.row_model.specs.Entries.{Searched}
 use Rattle.search_run.specs.Found.{CoversStarts, HasNoStart}
 use Rattle.search_run.specs.declared.ended.Ended.{Ended}
 use Rattle.search_run.specs.declared.ended.Ended.TheVariants as ends
@@ -18,12 +19,20 @@ use Rattle.tree_certificate.specs.Certificates.{claim_of}
 use Rattle.pool_cli.specs.Ends.{AnswersAs, DecidedAs}
 use Rattle.pool_cli.specs.Reads.{Files, IsRefusedAs, ReadsNone, ReadsUnder}
 use Rattle.edge_io.specs.Writing.{behind}
-use Rattle.pool_cli.specs.Solution.{IsSolution, end_by, status_of}
-use Rattle.pool_cli.specs.Took.{Part, whole, printed_by, Took, TookPart}
-use Rattle.pool_cli.specs.SolveEnds.{EndsWith, IsPlanned, IsPrinted, IsWithinBudget, NoPlanUnder, NoStartUnder, OverUnder, SolveDecided, SolveEnds, SolvesAs, StartUnder, WithinUnder, orders_of}
+use Rattle.pool_cli.specs.Solution.{IsSolutionFrom, end_by, status_of}
+use Rattle.pool_cli.specs.Took.{IsCutShort, Part, whole, printed_by, Took, TookPart, unread_status}
+use Rattle.pool_cli.specs.Journaled.{IsUnopened}
+use Rattle.node_journal.specs.declared.fault.JournalFault.TheVariants as journal_faults
+use Rattle.recorded_run.specs.declared.fault.RunFault.{RunFault}
+use Rattle.recorded_run.specs.declared.fault.RunFault.TheVariants as faults
+use Rattle.pool_cli.specs.declared.reading.Unread.{Unread}
+use Rattle.pool_cli.specs.declared.reading.Unread.TheVariants as unread
+use Rattle.pool_cli.specs.SolveEnds.{EndsWith, IsHeldUp, IsJournalEnd, IsPlanned, IsPrinted, IsWithinBudget, JournalUnder, NoPlanUnder, NoStartUnder, OverUnder, SolveDecided, SolveEnds, SolvesAs, StartUnder, WithinUnder, fault_status, orders_of}
 use Rattle.pool_cli.specs.FormulateEnds.{FormulateDecided, FormulateEnds, FormulatesAs}
 use Rattle.pool_cli.specs.MakeEnds.{MakeDecided, MakeEnds, MakesAs}
+use Rattle.pool_cli.specs.TrialEnds.{TrialDecided, TrialEnds, TriesAs}
 use Rattle.pool_cli.specs.CheckEnds.{AreRead, CheckDecided, CheckEnds, ChecksAs, JudgedUnder, LongUnder}
+use Rattle.pool_cli.specs.ReportEnds.{ReportDecided, ReportEnds, ReportsAs, as_check}
 use Rattle.pool_cli.specs.declared.status.Status.{Status}
 use Rattle.pool_cli.specs.declared.status.Status.TheVariants as statuses
 use Rattle.pool_cli.proofs.Networks.{one_network, refused_unread, some_same}
@@ -64,12 +73,101 @@ module _ (files : Option Files) (s : Solving) (network : Network) (reads : Reads
   by_claim before after asked nodes splits (with_bound z) best bound e covers follows = record { solvable = here; none = no_start best bound z e covers }
   by_claim before after asked nodes splits no_plan best bound e covers follows = record { solvable = here; none = follows }
 
-  pub solution_ends : (before after : ℕ) (c : Cert) (end status : Status) → IsSolution (net_of network) (orders_of s) end c → EndsWith end status → SolveEnds files s before after status
-  solution_ends before after c end status found ended = elim ended [
+  pub solution_ends : (before after : ℕ) (begun : Searched) (c : Cert) (end status : Status) → IsSolutionFrom (net_of network) (orders_of s) begun end c → EndsWith end status → SolveEnds files s before after status
+  solution_ends before after begun c end status found ended = elim ended [
     | inl is ↦ subst (SolveEnds files s before after) (sym (is ∙ found.ends))
         (by_claim before after s.gap s.nodes (length c.splits) c.claim found.found.best (tree_bound (net_of network) found.found.tree) (ap (λ (x : Cert). x.claim) found.is) found.search.starts found.follows)
     | inr is ↦ subst (SolveEnds files s before after) (sym is) here
   ]
+
+-- ---- a search gave no answer
+
+-- nothing was printed
+pub took_nothing : (Answer : Status → List ℕ → Type 0) (fault : RunFault) (taken : Option (List ℕ)) → Took Answer (fault_status fault) taken taken
+took_nothing Answer (faults.Journal journal_faults.Disk) taken = refl
+took_nothing Answer (faults.Journal journal_faults.NotAJournal) taken = refl
+took_nothing Answer (faults.Journal (journal_faults.UnknownVersion version)) taken = refl
+took_nothing Answer (faults.Journal journal_faults.OtherNetwork) taken = refl
+took_nothing Answer (faults.Journal (journal_faults.BadRecord number)) taken = refl
+took_nothing Answer (faults.Journal journal_faults.Memory) taken = refl
+took_nothing Answer (faults.OutOfOrder number) taken = refl
+
+-- memory ran out, or the run ended at its journal
+pub fault_held : (fault : RunFault) → IsCutShort (fault_status fault) ⊎ IsJournalEnd (fault_status fault)
+fault_held (faults.Journal journal_faults.Disk) = inr tt
+fault_held (faults.Journal journal_faults.NotAJournal) = inr tt
+fault_held (faults.Journal (journal_faults.UnknownVersion version)) = inr tt
+fault_held (faults.Journal journal_faults.OtherNetwork) = inr tt
+fault_held (faults.Journal (journal_faults.BadRecord number)) = inr tt
+fault_held (faults.Journal journal_faults.Memory) = inl tt
+fault_held (faults.OutOfOrder number) = inr tt
+
+-- only a failed disk is told as such, and no fault is told as one of shelf or sink
+pub disk_fault_is : (fault : RunFault) → fault_status fault ≡ statuses.DiskFault → fault ≡ faults.Journal journal_faults.Disk
+disk_fault_is (faults.Journal journal_faults.Disk) e = refl
+disk_fault_is (faults.Journal journal_faults.NotAJournal) e = cc
+disk_fault_is (faults.Journal (journal_faults.UnknownVersion version)) e = cc
+disk_fault_is (faults.Journal journal_faults.OtherNetwork) e = cc
+disk_fault_is (faults.Journal (journal_faults.BadRecord number)) e = cc
+disk_fault_is (faults.Journal journal_faults.Memory) e = cc
+disk_fault_is (faults.OutOfOrder number) e = cc
+
+pub no_read_fault : (fault : RunFault) → fault_status fault ≢ statuses.ReadFault
+no_read_fault (faults.Journal journal_faults.Disk) e = cc
+no_read_fault (faults.Journal journal_faults.NotAJournal) e = cc
+no_read_fault (faults.Journal (journal_faults.UnknownVersion version)) e = cc
+no_read_fault (faults.Journal journal_faults.OtherNetwork) e = cc
+no_read_fault (faults.Journal (journal_faults.BadRecord number)) e = cc
+no_read_fault (faults.Journal journal_faults.Memory) e = cc
+no_read_fault (faults.OutOfOrder number) e = cc
+
+pub no_write_fault : (fault : RunFault) → fault_status fault ≢ statuses.WriteFault
+no_write_fault (faults.Journal journal_faults.Disk) e = cc
+no_write_fault (faults.Journal journal_faults.NotAJournal) e = cc
+no_write_fault (faults.Journal (journal_faults.UnknownVersion version)) e = cc
+no_write_fault (faults.Journal journal_faults.OtherNetwork) e = cc
+no_write_fault (faults.Journal (journal_faults.BadRecord number)) e = cc
+no_write_fault (faults.Journal journal_faults.Memory) e = cc
+no_write_fault (faults.OutOfOrder number) e = cc
+
+-- a search that ended is told as a failure of nothing
+pub no_end_fault : (ended : Ended) (status : Status) → EndsWith (status_of ended) status → status ≢ statuses.DiskFault
+no_end_fault ended status (inr e) f = cc (e, f)
+no_end_fault ends.Closed status (inl e) f = cc (e, f)
+no_end_fault ends.Stopped status (inl e) f = cc (e, f)
+no_end_fault ends.Stuck status (inl e) f = cc (e, f)
+no_end_fault ends.Infeasible status (inl e) f = cc (e, f)
+no_end_fault ends.Undecided status (inl e) f = cc (e, f)
+
+pub no_unread_disk : (why : Unread) → unread_status why ≢ statuses.DiskFault
+no_unread_disk (unread.Refused cause) e = cc
+no_unread_disk unread.Failed e = cc
+no_unread_disk unread.Memory e = cc
+
+pub unread_unopened : (why : Unread) → IsUnopened (unread_status why)
+unread_unopened (unread.Refused cause) = tt
+unread_unopened unread.Failed = tt
+unread_unopened unread.Memory = tt
+
+-- it ends so where a network is read, what is asked is within the budget, and a journal is named
+module _ (files : Option Files) (s : Solving) (before after : ℕ) where
+  journal_ends : (status : Status) → IsJournalEnd status → JournalUnder files s → SolveEnds files s before after status
+  journal_ends statuses.DiskFault h under = under
+  journal_ends statuses.OtherNetwork h under = under
+  journal_ends (statuses.BadJournal number) h under = under
+  journal_ends (statuses.UnknownVersion version) h under = under
+  journal_ends statuses.NotAJournal h under = under
+  journal_ends status h under = absurd h
+
+  cut_ends : (status : Status) → IsCutShort status → SolveEnds files s before after status
+  cut_ends statuses.ReadFault h = tt
+  cut_ends statuses.OutOfMemory h = tt
+  cut_ends status h = absurd h
+
+  pub unsolved_ends : (network : Network) (status : Status) → ReadsUnder files s.net network → IsWithinBudget (net_of network) s.nodes → IsHeldUp s.journal status → SolveEnds files s before after status
+  unsolved_ends network status reads within (inl cut) = cut_ends status cut
+  unsolved_ends network status reads within (inr held) =
+      journal_ends status held.0 record { solvable = record { network = network; reads = reads; within = within }; journal = held.1.0; named = held.1.1 }
 
 -- ---- what the told files decide of `solve`
 
@@ -86,6 +184,15 @@ module _ (told : Files) (s : Solving) where
     over_budget = λ o. absurd (not_over h o);
     within_budget = λ w. inl printed;
     some_start = λ f. inl (planned f);
+  }
+
+  -- the run ended at the journal
+  journal_decides : (status : Status) → JournalUnder (Some told) s → IsJournalEnd status → SolveDecided told s status
+  journal_decides status h ends = record {
+    no_network = λ none. absurd (none h.solvable.network h.solvable.reads);
+    over_budget = λ o. absurd (not_over h.solvable o);
+    within_budget = λ w. inr (inr (ends, (h.journal, h.named)));
+    some_start = λ f. inr (inr (ends, (h.journal, h.named)));
   }
 
   no_plan_starts : NoPlanUnder (Some told) s → StartUnder (Some told) s → ⊥
@@ -115,8 +222,13 @@ module _ (told : Files) (s : Solving) where
     within_budget = λ w. absurd (refused_unread told s.net cause w.network h.own (h.told told refl) w.reads);
     some_start = λ f. absurd (refused_unread told s.net cause f.solvable.network h.own (h.told told refl) f.solvable.reads);
   }
-  decided_solve before after statuses.ReadFault h = record { no_network = λ none. inr tt; over_budget = λ o. inr tt; within_budget = λ w. inr tt; some_start = λ f. inr tt }
-  decided_solve before after statuses.OutOfMemory h = record { no_network = λ none. inr tt; over_budget = λ o. inr tt; within_budget = λ w. inr tt; some_start = λ f. inr tt }
+  decided_solve before after statuses.ReadFault h = record { no_network = λ none. inr tt; over_budget = λ o. inr tt; within_budget = λ w. inr (inl tt); some_start = λ f. inr (inl tt) }
+  decided_solve before after statuses.OutOfMemory h = record { no_network = λ none. inr tt; over_budget = λ o. inr tt; within_budget = λ w. inr (inl tt); some_start = λ f. inr (inl tt) }
+  decided_solve before after statuses.DiskFault h = journal_decides statuses.DiskFault h tt
+  decided_solve before after statuses.OtherNetwork h = journal_decides statuses.OtherNetwork h tt
+  decided_solve before after (statuses.BadJournal number) h = journal_decides (statuses.BadJournal number) h tt
+  decided_solve before after (statuses.UnknownVersion version) h = journal_decides (statuses.UnknownVersion version) h tt
+  decided_solve before after statuses.NotAJournal h = journal_decides statuses.NotAJournal h tt
   decided_solve before after status h = absurd h
 
 solve_decided : (files : Option Files) (told : Files) (s : Solving) (before after : ℕ) (status : Status) → files ≡ Some told → SolveEnds files s before after status → SolveDecided told s status
@@ -218,6 +330,12 @@ module _ (files : Option Files) (net : List ℕ) (asked : Asked) (s t : Status) 
   pub check_decides : (cert : List ℕ) (told : Files) (before after : ℕ) → asked ≡ check net cert → files ≡ Some told → CheckEnds files net cert before after t → DecidedAs told asked s
   check_decides cert told before after a f h = subst (λ x. DecidedAs told x s) (sym a) (subst (CheckDecided told net cert) (sym is) (check_decided files told net cert before after t f h))
 
+  pub report_took : (cert : List ℕ) (old new : Option (List ℕ)) → asked ≡ report net cert → Took (ReportsAs files net cert) t old new → Took (AnswersAs files asked) s old new
+  report_took cert old new a h = subst (λ x. Took (AnswersAs files x) s old new) (sym a) (subst (λ x. Took (ReportsAs files net cert) x old new) (sym is) h)
+
+  pub report_decides : (cert : List ℕ) (told : Files) (before after : ℕ) → asked ≡ report net cert → files ≡ Some told → ReportEnds files net cert before after t → DecidedAs told asked s
+  report_decides cert told before after a f h = subst (λ x. DecidedAs told x s) (sym a) (subst (ReportDecided told net cert) (sym is) (check_decided files told net cert before after (as_check t) f h))
+
   pub formulate_took : (form : Form) (old new : Option (List ℕ)) → asked ≡ formulate net form → Took (FormulatesAs files net form) t old new → Took (AnswersAs files asked) s old new
   formulate_took form old new a h = subst (λ x. Took (AnswersAs files x) s old new) (sym a) (subst (λ x. Took (FormulatesAs files net form) x old new) (sym is) h)
 
@@ -229,3 +347,9 @@ module _ (files : Option Files) (net : List ℕ) (asked : Asked) (s t : Status) 
 
   pub make_decides : (number : ℕ) (told : Files) → asked ≡ make number → MakeEnds t → DecidedAs told asked s
   make_decides number told a h = subst (λ x. DecidedAs told x s) (sym a) (subst MakeDecided (sym is) h)
+
+  pub trial_took : (number : ℕ) (old new : Option (List ℕ)) → asked ≡ trial number → Took (TriesAs number) t old new → Took (AnswersAs files asked) s old new
+  trial_took number old new a h = subst (λ x. Took (AnswersAs files x) s old new) (sym a) (subst (λ x. Took (TriesAs number) x old new) (sym is) h)
+
+  pub trial_decides : (number : ℕ) (told : Files) → asked ≡ trial number → TrialEnds t → DecidedAs told asked s
+  trial_decides number told a h = subst (λ x. DecidedAs told x s) (sym a) (subst TrialDecided (sym is) h)

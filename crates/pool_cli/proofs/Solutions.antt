@@ -15,7 +15,7 @@ use Rattle.search_run.specs.Found.{IsFound}
 use Rattle.search_run.specs.declared.orders.Orders.{Orders}
 use Rattle.search_run.specs.declared.ended.Ended.{Ended}
 use Rattle.search_run.specs.declared.ended.Ended.TheVariants as ends
-use Rattle.pool_cli.specs.Solution.{IsHeld, IsSolution, end_by, end_of, status_of}
+use Rattle.pool_cli.specs.Solution.{IsHeld, IsSolution, IsSolutionFrom, end_by, end_of, status_of}
 use Rattle.pool_cli.specs.declared.status.Status.TheVariants as statuses
 
 -- ---- the status by the claim
@@ -84,17 +84,22 @@ module _ (n : Net) (o : Orders) (s : Searched) where
 
 -- ---- the certificate
 
-pub solved : (n : Net) (o : Orders) (begun found : Searched) (ended : Ended) (c : Cert) → IsLimited n → begun ≡ start → IsRun n o begun found ended → IsFound n o begun found ended
-    → c ≡ cert_of n found → IsValid n c → IsSolution n o (status_of ended) c
-solved n o begun found ended c limited from run search is valid = record {
+pub solved-from : (n : Net) (o : Orders) (begun found : Searched) (ended : Ended) (c : Cert) → IsLimited n → IsRun n o begun found ended → IsFound n o begun found ended
+    → c ≡ cert_of n found → IsValid n c → IsSolutionFrom n o begun (status_of ended) c
+solved-from n o begun found ended c limited run search is valid = record {
   found = found;
   ended = ended;
   is = is;
   valid = valid;
   follows = valid-follows n c limited valid;
-  run = subst (λ (x : Searched). IsRun n o x found ended) from run;
-  search = subst (λ (x : Searched). IsFound n o x found ended) from search;
+  run = run;
+  search = search;
   told = refl;
   ends = end-told n o found ended run.end ∙ ap (λ (x : Cert). end_of o x) (sym is);
   held = end-held n o found ended run.end;
 }
+
+pub solved : (n : Net) (o : Orders) (begun found : Searched) (ended : Ended) (c : Cert) → IsLimited n → begun ≡ start → IsRun n o begun found ended → IsFound n o begun found ended
+    → c ≡ cert_of n found → IsValid n c → IsSolution n o (status_of ended) c
+solved n o begun found ended c limited from run search is valid =
+    solved-from n o start found ended c limited (subst (λ (x : Searched). IsRun n o x found ended) from run) (subst (λ (x : Searched). IsFound n o x found ended) from search) is valid

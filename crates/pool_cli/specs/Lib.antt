@@ -2,11 +2,16 @@ pub mod CheckEnds
 pub mod Ends
 pub mod FormulateEnds
 pub mod Gaps
+pub mod Journaled
 pub mod MakeEnds
 pub mod Messages
 pub mod Reads
+pub mod Recorded
+pub mod ReportEnds
+pub mod Resumed
 pub mod Solution
 pub mod SolveEnds
 pub mod Took
+pub mod TrialEnds
 pub mod Unreads
 pub mod Verdicts

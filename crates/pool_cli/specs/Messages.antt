@@ -23,7 +23,12 @@ code_of statuses.Infeasible = 12
 code_of statuses.Undecided = 13
 code_of statuses.ReadFault = 20
 code_of statuses.WriteFault = 21
+code_of statuses.DiskFault = 22
 code_of statuses.OutOfMemory = 23
+code_of statuses.OtherNetwork = 30
+code_of (statuses.BadJournal number) = 31
+code_of (statuses.UnknownVersion version) = 32
+code_of statuses.NotAJournal = 33
 
 -- what a line says of a reason: its number, and where rows are refused the number of their fault behind it
 abbrev pub reason_of : ReadNet → List ℕ
@@ -46,4 +51,9 @@ message_of statuses.Infeasible = []
 message_of statuses.Undecided = []
 message_of statuses.ReadFault = codes "pool: read fault\n"
 message_of statuses.WriteFault = codes "pool: write fault\n"
+message_of statuses.DiskFault = codes "pool: disk fault\n"
 message_of statuses.OutOfMemory = codes "pool: out of memory\n"
+message_of statuses.OtherNetwork = codes "pool: journal of another network\n"
+message_of (statuses.BadJournal number) = codes "pool: journal record " ++ (signed_decimal (pos number) ++ codes " is bad\n")
+message_of (statuses.UnknownVersion version) = codes "pool: journal of unknown version " ++ (signed_decimal (pos version) ++ codes "\n")
+message_of statuses.NotAJournal = codes "pool: not a journal\n"

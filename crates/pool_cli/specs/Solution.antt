@@ -43,16 +43,20 @@ pub record IsHeld (n : Net) (o : Orders) (found : Searched) (status : Status) : 
   pub stuck : status ≡ statuses.Stuck → IsStuck n o.form found
   pub undecided : status ≡ statuses.Undecided → IsSpent (options_of o) found ⊎ IsStuck n o.form found
 
--- The certificate of what a search found that began with the root alone, with the status that it ends with. It is valid, and what it
+-- The certificate of what a search found that began with this tree, with the status that it ends with. It is valid, and what it
 -- claims follows. What the steps were, and what follows of the tree and the plan, is said by `search_run`.
-pub record IsSolution (n : Net) (o : Orders) (status : Status) (c : Cert) : Type 0 where
+pub record IsSolutionFrom (n : Net) (o : Orders) (begun : Searched) (status : Status) (c : Cert) : Type 0 where
   pub found : Searched
   pub ended : Ended
   pub is : c ≡ cert_of n found
   pub valid : IsValid n c
   pub follows : Follows n c.claim
-  pub run : IsRun n o start found ended
-  pub search : IsFound n o start found ended
+  pub run : IsRun n o begun found ended
+  pub search : IsFound n o begun found ended
   pub told : status ≡ status_of ended
   pub ends : status ≡ end_of o c
   pub held : IsHeld n o found status
+
+-- the same of a search that began with the root alone
+abbrev pub IsSolution : Net → Orders → Status → Cert → Type 0
+IsSolution n o status c = IsSolutionFrom n o start status c

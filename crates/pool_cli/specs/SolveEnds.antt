@@ -1,17 +1,21 @@
 -- How `solve` ends.
-use Rattle.std.specs.Prelude.{◌≡◌, ◌⊎◌, ◌+◌, ◌*◌, ◌≤◌, ℕ, List, Option, Some}
+use Rattle.std.specs.Prelude.{◌≡◌, ◌⊎◌, ◌+◌, ◌*◌, ◌≤◌, ℕ, List, [], Option, None, Some}
 use Rattle.pool_model.specs.Network.{Net, Network, net_of}
 use Rattle.pool_model.specs.Plan.{Written, plan_of, Obeys}
 use Rattle.pool_model.specs.Starting.{IsStarting}
 use Rattle.pool_model.specs.Claim.{HasNoPlan}
 use Rattle.row_model.specs.Catalogue.{rows}
 use Rattle.row_model.specs.Trees.{most_splits}
+use Rattle.row_model.specs.Entries.{Entry, made_by, AreInOrder}
 use Rattle.cert_format.specs.Cert.{Cert}
 use Rattle.cert_checker.specs.Answers.{Spells}
 use Rattle.cli_words.specs.Requests.{Solving}
 use Rattle.search_run.specs.Found.{HasNoStart}
 use Rattle.search_run.specs.declared.orders.Orders.{Orders}
-use Rattle.pool_cli.specs.Solution.{IsSolution, status_of}
+use Rattle.node_journal.specs.declared.fault.JournalFault.TheVariants as journal_faults
+use Rattle.recorded_run.specs.declared.fault.RunFault.{RunFault}
+use Rattle.recorded_run.specs.declared.fault.RunFault.TheVariants as faults
+use Rattle.pool_cli.specs.Solution.{IsSolutionFrom, status_of}
 use Rattle.pool_cli.specs.Reads.{Files, IsRefusedAs, ReadsNone, ReadsUnder}
 use Rattle.pool_cli.specs.Took.{IsCutShort, IsNetworkRefused, unread_status}
 use Rattle.pool_cli.specs.declared.solve.SolveOutcome.{SolveOutcome}
@@ -19,12 +23,22 @@ use Rattle.pool_cli.specs.declared.solve.SolveOutcome.TheVariants as outcomes
 use Rattle.pool_cli.specs.declared.status.Status.{Status}
 use Rattle.pool_cli.specs.declared.status.Status.TheVariants as statuses
 
+-- the status of a search that gives no answer
+abbrev pub fault_status : RunFault → Status
+fault_status (faults.Journal journal_faults.Disk) = statuses.DiskFault
+fault_status (faults.Journal journal_faults.NotAJournal) = statuses.NotAJournal
+fault_status (faults.Journal (journal_faults.UnknownVersion version)) = statuses.UnknownVersion version
+fault_status (faults.Journal journal_faults.OtherNetwork) = statuses.OtherNetwork
+fault_status (faults.Journal (journal_faults.BadRecord number)) = statuses.BadJournal number
+fault_status (faults.Journal journal_faults.Memory) = statuses.OutOfMemory
+fault_status (faults.OutOfOrder number) = statuses.BadJournal number
+
 -- the status that it ends with
 abbrev pub solve_status : SolveOutcome → Status
 solve_status (outcomes.Ended ended) = status_of ended
 solve_status outcomes.OverBudget = statuses.BudgetTooLarge
 solve_status (outcomes.Unread why) = unread_status why
-solve_status outcomes.Memory = statuses.OutOfMemory
+solve_status (outcomes.Unsolved fault) = fault_status fault
 solve_status outcomes.WriteFault = statuses.WriteFault
 
 -- what the search is asked for
@@ -40,13 +54,17 @@ pub record IsWithinBudget (n : Net) (nodes : ℕ) : Type 0 where
   pub few : nodes ≤ most_splits
   pub short : (2 * nodes + 1) * rows n ≤ most_rows
 
--- the text of a certificate of the network in the file that is named, and the status that it ends with
+-- The text of a certificate of the network in the file that is named, and the status that it ends with. The search began with the
+-- tree of entries that a journal held, or without one with the root alone.
 pub record SolvesAs (files : Option Files) (s : Solving) (status : Status) (text : List ℕ) : Type 0 where
   pub network : Network
   pub certificate : Cert
   pub reads : ReadsUnder files s.net network
   pub within : IsWithinBudget (net_of network) s.nodes
-  pub solution : IsSolution (net_of network) (orders_of s) status certificate
+  pub first : List Entry
+  pub in_order : AreInOrder (net_of network) first
+  pub alone : s.journal ≡ None → first ≡ []
+  pub solution : IsSolutionFrom (net_of network) (orders_of s) (made_by first) status certificate
   pub spelled : Spells text certificate
 
 -- a network is read from the file that is named, and what is asked is within the budget
@@ -78,7 +96,14 @@ pub record StartUnder (files : Option Files) (s : Solving) : Type 0 where
   pub starting : IsStarting (net_of solvable.network) plan
   pub obeys : Obeys (net_of solvable.network) (plan_of (net_of solvable.network) plan)
 
--- Each status comes only where its line holds of what is asked; no other comes. The counts are of the bytes taken.
+-- a network is read, what is asked is within the budget, and a journal is named
+pub record JournalUnder (files : Option Files) (s : Solving) : Type 0 where
+  pub solvable : WithinUnder files s
+  pub journal : List ℕ
+  pub named : s.journal ≡ Some journal
+
+-- Each status comes only where its line holds of what is asked; no other comes. The counts are of the bytes taken. Of the file of
+-- the journal more is said in `specs/Journaled.antt`.
 abbrev pub SolveEnds : Option Files → Solving → (before after : ℕ) → Status → Type 0
 SolveEnds files s before after statuses.Closed = WithinUnder files s
 SolveEnds files s before after statuses.Stopped = WithinUnder files s
@@ -89,8 +114,22 @@ SolveEnds files s before after statuses.WriteFault = WithinUnder files s
 SolveEnds files s before after statuses.BudgetTooLarge = OverUnder files s
 SolveEnds files s before after (statuses.NetworkRefused cause) = IsRefusedAs files s.net before after cause
 SolveEnds files s before after statuses.ReadFault = Unit {0}
+SolveEnds files s before after statuses.DiskFault = JournalUnder files s
+SolveEnds files s before after statuses.OtherNetwork = JournalUnder files s
+SolveEnds files s before after (statuses.BadJournal number) = JournalUnder files s
+SolveEnds files s before after (statuses.UnknownVersion version) = JournalUnder files s
+SolveEnds files s before after statuses.NotAJournal = JournalUnder files s
 SolveEnds files s before after statuses.OutOfMemory = Unit {0}
 SolveEnds files s before after status = ⊥
+
+-- a certificate was printed
+abbrev pub IsEnded : Status → Type 0
+IsEnded statuses.Closed = Unit {0}
+IsEnded statuses.Stopped = Unit {0}
+IsEnded statuses.Stuck = Unit {0}
+IsEnded statuses.Infeasible = Unit {0}
+IsEnded statuses.Undecided = Unit {0}
+IsEnded status = ⊥
 
 -- a certificate was printed, or the sink failed
 abbrev pub IsPrinted : Status → Type 0
@@ -110,6 +149,19 @@ IsPlanned statuses.Stuck = Unit {0}
 IsPlanned statuses.WriteFault = Unit {0}
 IsPlanned status = ⊥
 
+-- the disk failed, or the journal is refused
+abbrev pub IsJournalEnd : Status → Type 0
+IsJournalEnd statuses.DiskFault = Unit {0}
+IsJournalEnd statuses.OtherNetwork = Unit {0}
+IsJournalEnd (statuses.BadJournal number) = Unit {0}
+IsJournalEnd (statuses.UnknownVersion version) = Unit {0}
+IsJournalEnd statuses.NotAJournal = Unit {0}
+IsJournalEnd status = ⊥
+
+-- the shelf failed, or memory ran out; or it ended at the journal that is named
+abbrev pub IsHeldUp : Option (List ℕ) → Status → Type 0
+IsHeldUp journal status = IsCutShort status ⊎ (IsJournalEnd status × ((file : List ℕ) × (journal ≡ Some file)))
+
 -- this status, or the sink failed
 abbrev pub EndsWith : Status → Status → Type 0
 EndsWith end status = (status ≡ end) ⊎ (status ≡ statuses.WriteFault)
@@ -118,5 +170,5 @@ EndsWith end status = (status ≡ end) ⊎ (status ≡ statuses.WriteFault)
 pub record SolveDecided (told : Files) (s : Solving) (status : Status) : Type 0 where
   pub no_network : ReadsNone told s.net → IsNetworkRefused status ⊎ IsCutShort status
   pub over_budget : OverUnder (Some told) s → (status ≡ statuses.BudgetTooLarge) ⊎ IsCutShort status
-  pub within_budget : WithinUnder (Some told) s → IsPrinted status ⊎ IsCutShort status
-  pub some_start : StartUnder (Some told) s → IsPlanned status ⊎ IsCutShort status
+  pub within_budget : WithinUnder (Some told) s → IsPrinted status ⊎ IsHeldUp s.journal status
+  pub some_start : StartUnder (Some told) s → IsPlanned status ⊎ IsHeldUp s.journal status

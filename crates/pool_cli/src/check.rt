@@ -16,7 +16,7 @@ use edge_io::{Shelf, ShelfFault, Sink};
 use std::alloc::Global;
 
 /// How many bytes a certificate may have.
-const MOST_BYTES: usize = 1_073_741_824;
+pub(crate) const MOST_BYTES: usize = 1_073_741_824;
 
 /// How `check` ended.
 #[derive(Debug, Drop)]

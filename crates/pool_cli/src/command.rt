@@ -2,32 +2,48 @@
 
 ghost use Rattle.std.specs.Prelude.{◌≡◌, ◌⊎◌, List, ℕ, Some, IsTrue, map, string_bytes};
 ghost use Rattle.edge_io.specs.Counts.{Rose};
+ghost use Rattle.edge_io.specs.Writing.{behind};
+ghost use Rattle.disk_model.specs.Disks.{LeavesOnly};
 ghost use Rattle.pool_model.specs.Network.{Network};
 ghost use Rattle.box_space.specs.declared.coordinates.Form.{Form};
+ghost use Rattle.cert_format.specs.Text.{text_of};
 ghost use Rattle.cli_words.specs.Asks.{Asks};
-ghost use Rattle.cli_words.specs.Requests.{Asked, Solving, solve, check, formulate};
-ghost use Rattle.pool_cli.specs.Ends.{AnswersAs, DecidedAs, EndsAs, IsServed, IsUnanswered};
+ghost use Rattle.cli_words.specs.Requests.{Asked, Solving, solve, check, report, formulate};
+ghost use Rattle.pool_cli.specs.Ends.{AnswersAs, DecidedAs, EndsAs, HasNoJournal, IsUnanswered};
+ghost use Rattle.pool_cli.specs.Journaled.{Journaled};
 ghost use Rattle.pool_cli.specs.Reads.{Files, ReadsUnder};
 ghost use Rattle.pool_cli.specs.Took.{Took};
 
 use crate::check::check;
 use crate::formulate::formulate;
 use crate::make::make;
+use crate::report::report;
 use crate::solve::solve;
 use crate::status::Status;
-use crate::words::{Command, command_of};
-use cli_words::WordsFault;
+use crate::trial::trial;
+use cli_words::{Request, WordsFault, read_words};
+use disk_model::Disk;
 use edge_io::{Shelf, Sink};
 use std::alloc::Global;
 
-/// Runs the program on the words behind its name: takes files from the shelf, and gives what it prints to the sink.
+/// Runs the program on the words behind its name: takes files from the shelf, gives what it prints to the sink, and keeps the journal
+/// that the words name, if any, on the disk.
 ///
-/// `solve NET` prints the certificate of the network in the file NET. `check NET CERT` prints what the certificate in the
-/// file CERT says of the network in the file NET, or why it is refused. `formulate NET` prints an exact program of the
+/// `solve NET` prints the certificate of the network in the file NET; with `--journal FILE` it goes on from the entries in that file,
+/// and records each entry there before it is taken. `check NET CERT` prints what the certificate in the file CERT says of the network in
+/// the file NET, or why it is refused, and `report NET CERT` tells it to a person. `formulate NET` prints an exact program of the
 /// network in the file NET, and `make N` the network of the number N.
-pub fn run<S: Shelf, K: Sink>(alloc: Global, words: &[String], shelf: &mut S, out: &mut K) -> Status
+pub fn run<S: Shelf, K: Sink, D: Disk>(
+    alloc: Global,
+    words: &[String],
+    shelf: &mut S,
+    out: &mut K,
+    disk: &mut D,
+) -> Status
     requires solve { (s : Solving) → Asks (map string_bytes words.now) (solve s) → IsTrue (S.admits shelf.old s.net) }
     requires check { (net cert : List ℕ) → Asks (map string_bytes words.now) (check net cert) → IsTrue (S.admits shelf.old net) }
+
+    requires report { (net cert : List ℕ) → Asks (map string_bytes words.now) (report net cert) → IsTrue (S.admits shelf.old net) }
 
     requires formulate { (net : List ℕ) (form : Form) → Asks (map string_bytes words.now) (formulate net form) → IsTrue (S.admits shelf.old net) }
 
@@ -35,31 +51,49 @@ pub fn run<S: Shelf, K: Sink>(alloc: Global, words: &[String], shelf: &mut S, ou
     requires certificate { (net cert : List ℕ) (network : Network) → Asks (map string_bytes words.now) (check net cert)
         → ReadsUnder (S.files shelf.old) net network → IsTrue (S.admits shelf.old cert) }
 
+    requires reported { (net cert : List ℕ) (network : Network) → Asks (map string_bytes words.now) (report net cert)
+        → ReadsUnder (S.files shelf.old) net network → IsTrue (S.admits shelf.old cert) }
+
+    // The disk is asked for the journal alone.
+    requires journal { (s : Solving) (file : List ℕ) → Asks (map string_bytes words.now) (solve s) → s.journal ≡ Some file → IsTrue (D.admits disk.old file) }
+
     // What the sink took: under `Closed`, `Stopped`, `Stuck`, `Infeasible` and `Undecided` the text of a certificate that answers the
-    // words, under `Accepted` and `Refused` the line on the certificate that they name, under `Done` the program or the network, under
+    // words, under `Accepted` and `Refused` the line on the certificate that they name, under `Done` the report, the program or the network, under
     // `WriteFault` a front of such a text, and under every other status nothing.
     ensures took { (asked : Asked) → Asks (map string_bytes words.now) asked → Took (AnswersAs (S.files shelf.old) asked) result (K.taken out.old) (K.taken out.new) }
     ensures unanswered { IsUnanswered result → K.taken out.new ≡ K.taken out.old }
 
-    // Words that ask for something that is served get an answer, and no others do, memory aside.
-    ensures usage { result ≡ Status.Usage → (asked : Asked) → Asks (map string_bytes words.now) asked → ¬ IsServed asked }
-    ensures asked { IsUnanswered result ⊎ ((asked : Asked) × Asks (map string_bytes words.now) asked × IsServed asked) }
+    // Words that ask for something get an answer, and no others do, memory aside.
+    ensures usage { result ≡ Status.Usage → (asked : Asked) → ¬ Asks (map string_bytes words.now) asked }
+    ensures asked { IsUnanswered result ⊎ ((asked : Asked) × Asks (map string_bytes words.now) asked) }
 
     // When each status comes, and by what the told files say which one does, where the run isn't cut short.
-    ensures ends { (asked : Asked) → Asks (map string_bytes words.now) asked → IsServed asked → EndsAs (S.files shelf.old) (S.taken shelf.old) (S.taken shelf.new) asked result }
-    ensures decided { (told : Files) (asked : Asked) → S.files shelf.old ≡ Some told → Asks (map string_bytes words.now) asked → IsServed asked → DecidedAs told asked result }
+    ensures ends { (asked : Asked) → Asks (map string_bytes words.now) asked → EndsAs (S.files shelf.old) (S.taken shelf.old) (S.taken shelf.new) asked result }
+    ensures decided { (told : Files) (asked : Asked) → S.files shelf.old ≡ Some told → Asks (map string_bytes words.now) asked → DecidedAs told asked result }
     ensures read_fault { result ≡ Status.ReadFault → Rose (S.faults shelf.old) (S.faults shelf.new) }
     ensures write_fault { result ≡ Status.WriteFault → Rose (K.faults out.old) (K.faults out.new) }
+    ensures disk_fault { result ≡ Status.DiskFault → Rose (D.faults disk.old) (D.faults disk.new) }
+
+    // What a crash at any moment leaves of the journal, what the journal holds at the end, and when it is refused. Without a journal the
+    // disk is not touched.
+    ensures journal { (s : Solving) (file : List ℕ) → Asks (map string_bytes words.now) (solve s) → s.journal ≡ Some file → IsTrue (D.tells disk.old) →
+        Journaled (S.files shelf.old) s (LeavesOnly D.moment D.left_since disk.old disk.new) (D.may_leave disk.old) (D.reads disk.new) (D.may_leave disk.new)
+        result (λ c. K.taken out.new ≡ behind (K.taken out.old) (text_of c)) }
+    ensures apart { (asked : Asked) → Asks (map string_bytes words.now) asked → HasNoJournal asked → disk.new ≡ disk.old }
 {
-    match command_of(alloc, words) {
-        Ok(Command::Solve(words)) => Status::from(solve(alloc, &words, shelf, out)),
-        Ok(Command::Check(net, cert)) => {
+    match read_words(alloc, words) {
+        Ok(Request::Solve(words)) => Status::from(solve(alloc, &words, shelf, out, disk)),
+        Ok(Request::Check(net, cert)) => {
             Status::from(check(alloc, net.as_str(), cert.as_str(), shelf, out))
         }
-        Ok(Command::Formulate(net, form)) => {
+        Ok(Request::Report(net, cert)) => {
+            Status::from(report(alloc, net.as_str(), cert.as_str(), shelf, out))
+        }
+        Ok(Request::Formulate(net, form)) => {
             Status::from(formulate(alloc, net.as_str(), form, shelf, out))
         }
-        Ok(Command::Make(number)) => Status::from(make(alloc, number, out)),
+        Ok(Request::Make(number)) => Status::from(make(alloc, number, out)),
+        Ok(Request::Trial(number)) => Status::from(trial(alloc, number, out)),
         Err(WordsFault::Usage) => Status::Usage,
         Err(WordsFault::Memory) => Status::OutOfMemory,
     }

@@ -1,10 +1,10 @@
-//! The top call: what the program does, over any shelf of files and any sink.
+//! The top call: what the program does, over any shelf of files, any sink and any disk.
 //!
 //! `run` takes the words of the command line, a shelf that files are read from and a sink for what is printed, and answers
 //! a status. Its contract is the promise of the whole program. Of `solve`, what the sink took is the text of a certificate
 //! whose plan obeys the network of the named file exactly, whose bound holds for every plan of any denominator, and whose
 //! gap is their exact difference. Of `check`, it is the line of a valid certificate, of which all that is claimed follows,
-//! or the line of the first cause to refuse it. Of `formulate`, it is the text of an exact program of the network, and of `make`
+//! or the line of the first cause to refuse it; of `report`, the report of that certificate, or that line. Of `formulate`, it is the text of an exact program of the network, and of `make`
 //! the text of the network of a number. And it says when each other status comes. The words of that contract are
 //! in `specs/Ends.antt`, which has a line for each command, and beside it a file for each, as `specs/SolveEnds.antt`.
 //!
@@ -18,16 +18,13 @@ mod command;
 mod formulate;
 mod make;
 mod reading;
+mod recorded;
+mod report;
 mod solution;
 mod solve;
 mod status;
+mod trial;
 mod verdict;
-mod words;
 
 pub use command::run;
 pub use status::{Status, write_message};
-
-#[cfg(test)]
-mod check_cases;
-#[cfg(test)]
-mod tests;

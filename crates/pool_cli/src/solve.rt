@@ -1,27 +1,40 @@
 //! The command `solve`.
 
-ghost use Rattle.std.specs.Prelude.{◌≡◌, ◌≢◌, ℕ, List, Option, IsTrue, string_bytes};
+ghost use Rattle.std.specs.Prelude.{◌≡◌, ◌≢◌, ℕ, List, Option, None, Some, IsTrue, IfOk, IfErr, IsErrOf, option_map, string_bytes};
 ghost use Rattle.edge_io.specs.Counts.{Rose};
+ghost use Rattle.edge_io.specs.Writing.{behind};
+ghost use Rattle.disk_model.specs.Disks.{LeavesOnly};
+ghost use Rattle.pool_model.specs.Network.{net_of};
 ghost use Rattle.cert_format.specs.Cert.{IsCert};
 ghost use Rattle.cert_format.specs.Views.{shown_cert};
 ghost use Rattle.cert_format.specs.Text.{text_of};
 ghost use Rattle.cli_words.specs.Requests.{Solving};
 ghost use Rattle.cli_words.specs.Views.{shown_solving};
+ghost use Rattle.network_text.specs.Canonical.{canonical_text};
+ghost use Rattle.node_journal.specs.declared.fault.JournalFault.TheVariants as journal_faults;
+ghost use Rattle.search_core.specs.Searches.{IsAsked};
+ghost use Rattle.search_run.specs.Orders.{options_of};
 ghost use Rattle.pool_cli.specs.Gaps.{IsGapAsked};
+ghost use Rattle.pool_cli.specs.Journaled.{Journaled};
 ghost use Rattle.pool_cli.specs.Reads.{Files, ReadsUnder};
+ghost use Rattle.pool_cli.specs.Recorded.{IsBegun, IsOpened};
 ghost use Rattle.pool_cli.specs.Solution.{status_of};
-ghost use Rattle.pool_cli.specs.SolveEnds.{EndsWith, SolveEnds, SolvesAs, solve_status};
+ghost use Rattle.pool_cli.specs.SolveEnds.{EndsWith, IsEnded, IsHeldUp, SolveEnds, SolvesAs, fault_status, solve_status};
 ghost use Rattle.pool_cli.specs.Took.{Took};
 
 use crate::budget::orders_within;
 use crate::reading::{Unread, network_under};
+use crate::recorded::recorded_solution;
 use crate::solution::{Solution, solution_of};
 use crate::status::Status;
 use blend_network::Network;
 use cert_format::write_cert;
 use cli_words::SolveWords;
-use edge_io::{Memory, Shelf, Sink};
-use search_run::Ended;
+use disk_model::Disk;
+use edge_io::{Shelf, Sink};
+use node_journal::JournalFault;
+use recorded_run::RunFault;
+use search_run::{Ended, Orders};
 use std::alloc::Global;
 
 /// How `solve` ended.
@@ -33,8 +46,8 @@ pub(crate) enum SolveOutcome {
     OverBudget,
     /// No network was read.
     Unread(Unread),
-    /// Memory ran out.
-    Memory,
+    /// The search gives no answer.
+    Unsolved(RunFault),
     /// The sink failed.
     WriteFault,
 }
@@ -47,7 +60,7 @@ impl From<SolveOutcome> for Status {
             SolveOutcome::Ended(ended) => Status::from(ended),
             SolveOutcome::OverBudget => Status::BudgetTooLarge,
             SolveOutcome::Unread(why) => Status::from(why),
-            SolveOutcome::Memory => Status::OutOfMemory,
+            SolveOutcome::Unsolved(fault) => Status::from(fault),
             SolveOutcome::WriteFault => Status::WriteFault,
         }
     }
@@ -67,45 +80,101 @@ impl From<Ended> for Status {
     }
 }
 
-/// Solves the network in the file that the words name.
-pub(crate) fn solve<S: Shelf, K: Sink>(
+impl From<RunFault> for Status {
+    ghost from_gives = { λ fault status. status ≡ fault_status fault };
+
+    fn from(fault: RunFault) -> Status {
+        match fault {
+            RunFault::Journal(JournalFault::Disk) => Status::DiskFault,
+            RunFault::Journal(JournalFault::NotAJournal) => Status::NotAJournal,
+            RunFault::Journal(JournalFault::UnknownVersion(version)) => {
+                Status::UnknownVersion(version)
+            }
+            RunFault::Journal(JournalFault::OtherNetwork) => Status::OtherNetwork,
+            RunFault::Journal(JournalFault::BadRecord(number)) => Status::BadJournal(number),
+            RunFault::Journal(JournalFault::Memory) => Status::OutOfMemory,
+            RunFault::OutOfOrder(number) => Status::BadJournal(number),
+        }
+    }
+}
+
+/// Solves the network in the file that the words name, with the journal that they name, if any.
+pub(crate) fn solve<S: Shelf, K: Sink, D: Disk>(
     alloc: Global,
     words: &SolveWords,
     shelf: &mut S,
     out: &mut K,
+    disk: &mut D,
 ) -> SolveOutcome
     requires admits { IsTrue (S.admits shelf.old (string_bytes words.now.net)) }
+    requires journal { (file : List ℕ) → (shown_solving words.now).journal ≡ Some file → IsTrue (D.admits disk.old file) }
     requires gap { IsGapAsked words.now.gap }
     ensures took { Took (SolvesAs (S.files shelf.old) (shown_solving words.now)) (solve_status result) (K.taken out.old) (K.taken out.new) }
     ensures ends { SolveEnds (S.files shelf.old) (shown_solving words.now) (S.taken shelf.old) (S.taken shelf.new) (solve_status result) }
+    ensures journal { (file : List ℕ) → (shown_solving words.now).journal ≡ Some file → IsTrue (D.tells disk.old) →
+        Journaled (S.files shelf.old) (shown_solving words.now) (LeavesOnly D.moment D.left_since disk.old disk.new) (D.may_leave disk.old) (D.reads disk.new) (D.may_leave disk.new)
+        (solve_status result) (λ c. K.taken out.new ≡ behind (K.taken out.old) (text_of c)) }
+    ensures apart { (shown_solving words.now).journal ≡ None → disk.new ≡ disk.old }
     ensures read_fault { solve_status result ≡ Status.ReadFault → Rose (S.faults shelf.old) (S.faults shelf.new) }
     ensures write_fault { solve_status result ≡ Status.WriteFault → Rose (K.faults out.old) (K.faults out.new) }
+    ensures disk_fault { solve_status result ≡ Status.DiskFault → Rose (D.faults disk.old) (D.faults disk.new) }
 {
     match network_under(alloc, words.net.as_str(), shelf) {
-        Ok(net) => solve_network(alloc, &net, words, out),
+        Ok(net) => solve_network(alloc, &net, words, out, disk),
         Err(why) => SolveOutcome::Unread(why),
     }
 }
 
 /// Solves a network that was read.
-fn solve_network<K: Sink>(
+fn solve_network<K: Sink, D: Disk>(
     alloc: Global,
     net: &Network,
     words: &SolveWords,
     out: &mut K,
+    disk: &mut D,
 ) -> SolveOutcome
-    requires { IsGapAsked words.now.gap }
+    requires gap { IsGapAsked words.now.gap }
+    requires journal { (file : List ℕ) → (shown_solving words.now).journal ≡ Some file → IsTrue (D.admits disk.old file) }
     ensures took { (files : Option Files) → ReadsUnder files (string_bytes words.now.net) net.now → Took (SolvesAs files (shown_solving words.now)) (solve_status result) (K.taken out.old) (K.taken out.new) }
     ensures ends { (files : Option Files) (before after : ℕ) → ReadsUnder files (string_bytes words.now.net) net.now → SolveEnds files (shown_solving words.now) before after (solve_status result) }
+    ensures journal { (files : Option Files) (file : List ℕ) → ReadsUnder files (string_bytes words.now.net) net.now → (shown_solving words.now).journal ≡ Some file → IsTrue (D.tells disk.old) →
+        Journaled files (shown_solving words.now) (LeavesOnly D.moment D.left_since disk.old disk.new) (D.may_leave disk.old) (D.reads disk.new) (D.may_leave disk.new)
+        (solve_status result) (λ c. K.taken out.new ≡ behind (K.taken out.old) (text_of c)) }
+    ensures apart { (shown_solving words.now).journal ≡ None → disk.new ≡ disk.old }
     ensures read { solve_status result ≢ Status.ReadFault }
     ensures write_fault { solve_status result ≡ Status.WriteFault → Rose (K.faults out.old) (K.faults out.new) }
+    ensures disk_fault { solve_status result ≡ Status.DiskFault → Rose (D.faults disk.old) (D.faults disk.new) }
 {
     let Some(orders) = orders_within(net, words) else {
         return SolveOutcome::OverBudget;
     };
-    match solution_of(alloc, net, orders) {
+    match solution_for(alloc, net, orders, &words.journal, disk) {
         Ok(solution) => print(&solution, out),
-        Err(Memory) => SolveOutcome::Memory,
+        Err(fault) => SolveOutcome::Unsolved(fault),
+    }
+}
+
+/// The certificate of what a search finds for these orders, with the journal of this name or without one.
+fn solution_for<D: Disk>(
+    alloc: Global,
+    net: &Network,
+    orders: Orders,
+    journal: &Option<String>,
+    disk: &mut D,
+) -> Result<Solution, RunFault>
+    requires journal { (file : List ℕ) → option_map string_bytes journal.now ≡ Some file → IsTrue (D.admits disk.old file) }
+    requires asked { IsAsked (options_of orders) }
+    ensures solved { IfOk result (IsBegun (net_of net.now) orders (option_map string_bytes journal.now)) }
+    ensures certificate { IfOk result (λ s. IsCert (shown_cert s.certificate)) }
+    ensures unsolved { IfErr result (λ fault. IsHeldUp (option_map string_bytes journal.now) (fault_status fault)) }
+    ensures journal { (file : List ℕ) → option_map string_bytes journal.now ≡ Some file → IsTrue (D.tells disk.old) → IsOpened (net_of net.now) (canonical_text net.now) orders
+        (LeavesOnly D.moment D.left_since disk.old disk.new) (D.may_leave disk.old) (D.reads disk.new) (D.may_leave disk.new) result }
+    ensures apart { option_map string_bytes journal.now ≡ None → disk.new ≡ disk.old }
+    ensures failed { IsErrOf result (RunFault.Journal journal_faults.Disk) → Rose (D.faults disk.old) (D.faults disk.new) }
+{
+    match journal {
+        Some(name) => recorded_solution(alloc, net, orders, name.as_str(), disk),
+        None => Ok(solution_of(alloc, net, orders)?),
     }
 }
 
@@ -115,6 +184,7 @@ fn print<K: Sink>(solution: &Solution, out: &mut K) -> SolveOutcome
     ensures took { (files : Option Files) (s : Solving) → SolvesAs files s (status_of solution.now.ended) (text_of (shown_cert solution.now.certificate))
         → Took (SolvesAs files s) (solve_status result) (K.taken out.old) (K.taken out.new) }
     ensures ended { EndsWith (status_of solution.now.ended) (solve_status result) }
+    ensures whole { IsEnded (solve_status result) → K.taken out.new ≡ behind (K.taken out.old) (text_of (shown_cert solution.now.certificate)) }
     ensures write_fault { solve_status result ≡ Status.WriteFault → Rose (K.faults out.old) (K.faults out.new) }
 {
     match write_cert(&solution.certificate, out) {

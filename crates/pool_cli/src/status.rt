@@ -44,8 +44,18 @@ pub enum Status {
     ReadFault,
     /// The sink failed.
     WriteFault,
+    /// The disk failed.
+    DiskFault,
     /// Memory ran out.
     OutOfMemory,
+    /// The journal is of another network.
+    OtherNetwork,
+    /// The record of this number, from 0, holds no entry, or one that is not in order after those before it.
+    BadJournal(u64),
+    /// The journal is of this version, and not of the one that is known.
+    UnknownVersion(u8),
+    /// The file is no journal.
+    NotAJournal,
 }
 
 impl Status {
@@ -66,7 +76,12 @@ impl Status {
             Status::Undecided => 13,
             Status::ReadFault => 20,
             Status::WriteFault => 21,
+            Status::DiskFault => 22,
             Status::OutOfMemory => 23,
+            Status::OtherNetwork => 30,
+            Status::BadJournal(_) => 31,
+            Status::UnknownVersion(_) => 32,
+            Status::NotAJournal => 33,
         }
     }
 }
@@ -105,12 +120,39 @@ fn put_message<K: Sink>(status: &Status, err: &mut K) -> Result<(), WriteFault>
         Status::CertTooLong => write_whole(err, b"pool: certificate too long\n"),
         Status::ReadFault => write_whole(err, b"pool: read fault\n"),
         Status::WriteFault => write_whole(err, b"pool: write fault\n"),
+        Status::DiskFault => write_whole(err, b"pool: disk fault\n"),
         Status::OutOfMemory => write_whole(err, b"pool: out of memory\n"),
+        Status::OtherNetwork => write_whole(err, b"pool: journal of another network\n"),
+        Status::BadJournal(number) => {
+            write_between(b"pool: journal record ", *number, b" is bad\n", err)
+        }
+        Status::UnknownVersion(version) => write_between(
+            b"pool: journal of unknown version ",
+            u64::from(*version),
+            b"\n",
+            err,
+        ),
+        Status::NotAJournal => write_whole(err, b"pool: not a journal\n"),
     }
 }
 
 const USAGE: &[u8] =
     b"pool: usage: solve NET, check NET CERT, report NET CERT, formulate NET, make N or trial N\n";
+
+/// Writes a number between words.
+fn write_between<K: Sink>(
+    before: &[u8],
+    number: u64,
+    behind: &[u8],
+    err: &mut K,
+) -> Result<(), WriteFault>
+    ensures wrote { Wrote result (K.taken err.old) (before.now ++ (signed_decimal (pos number) ++ behind.now)) (K.taken err.new) }
+    ensures failed { OnErr result (Rose (K.faults err.old) (K.faults err.new)) }
+{
+    write_whole(err, before)?;
+    write_number(err, i128::from(number))?;
+    write_whole(err, behind)
+}
 
 /// Writes the line of a refusal.
 fn write_refusal<K: Sink>(cause: &ReadNet, err: &mut K) -> Result<(), WriteFault>

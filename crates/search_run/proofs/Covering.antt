@@ -48,11 +48,11 @@ not-less : (b a : ℤ) → ¬ ((b *ℤ a) <ℤ (a *ℤ b))
 not-less b a h = omega (arith, ints, simp sorted at h)
 
 -- a over x is less than b over y, and that less than c over z
-lt-then-lt : (a x b y c z : ℤ) → pos 0 <ℤ x → pos 0 <ℤ y → pos 0 <ℤ z → (y *ℤ a) <ℤ (b *ℤ x) → (z *ℤ b) <ℤ (c *ℤ y) → (z *ℤ a) <ℤ (c *ℤ x)
+pub lt-then-lt : (a x b y c z : ℤ) → pos 0 <ℤ x → pos 0 <ℤ y → pos 0 <ℤ z → (y *ℤ a) <ℤ (b *ℤ x) → (z *ℤ b) <ℤ (c *ℤ y) → (z *ℤ a) <ℤ (c *ℤ x)
 lt-then-lt a x b y c z p q r h k =
     lt-cancel y (z *ℤ a) (c *ℤ x) q (simp sorted (omega (arith, additive, simp sorted at (lt-mul z (y *ℤ a) (b *ℤ x) r h), simp sorted at (lt-mul x (z *ℤ b) (c *ℤ y) p k))))
 
-written-base : (n : Net) (w : Written) → IsWritten n w → pos 0 <ℤ pos (base_of w)
+pub written-base : (n : Net) (w : Written) → IsWritten n w → pos 0 <ℤ pos (base_of w)
 written-base n w is = omega (arith, ints, product w.flow_base w.base is.flow_base.0 is.base.0)
   where
     product : (a b : ℕ) → 1 ≤ a → 1 ≤ b → 1 ≤ a * b

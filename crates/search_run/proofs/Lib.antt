@@ -1,11 +1,11 @@
-mod NodeBounds
-mod Proofs
+pub mod NodeBounds
+pub mod Proofs
 mod Growing
 mod Rooting
 mod Sound
-mod Covering
+pub mod Covering
 mod Reaching
 mod Choosing
-mod Stepping
-mod Nearer
-mod Ending
+pub mod Stepping
+pub mod Nearer
+pub mod Ending

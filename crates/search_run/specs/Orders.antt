@@ -1,8 +1,9 @@
 -- What a run is asked for: the options of the search, and what its cut rule keeps to.
-use Rattle.std.specs.Prelude.{ℕ}
+use Rattle.std.specs.Prelude.{ℕ, List}
 use denote.Ref.{Bor}
 use Rattle.branching.specs.Rows.{View, HasOpen}
-use Rattle.branching.specs.Known.{IsFirstOpen, IsFirstGreatest, IsNarrower}
+use Rattle.branching.specs.Known.{IsFirstOpen, IsFirstGreatest, IsLessMissed, IsNarrower}
+use Rattle.branching.specs.declared.view.CoordRow.{CoordRow}
 use Rattle.cli_words.specs.declared.request.RuleName.{RuleName}
 use Rattle.cli_words.specs.declared.request.RuleName.TheVariants.{First, Widest, Violated}
 use Rattle.search_core.specs.declared.options.Options.{Options}
@@ -17,6 +18,12 @@ looks_of Widest = 0
 -- the options of the search; no program changes its basis more than 10,000 times
 abbrev pub options_of : Orders → Options
 options_of o = record { form = o.form; nodes = o.nodes; gap = o.gap; pivots = 10000; looks = looks_of o.rule }
+
+-- the row that the rule of a name picks: the first open one, or of the open ones the first of the widest, or of the most violated
+abbrev pub IsPickedBy : RuleName → List CoordRow → ℕ → Type 0
+IsPickedBy First rows i = IsFirstOpen rows i
+IsPickedBy Widest rows i = IsFirstGreatest IsNarrower rows i
+IsPickedBy Violated rows i = IsFirstGreatest IsLessMissed rows i
 
 -- A closure, by what it may answer, keeps to the rule of a name: the first open row, or the first of the widest. Of the rule that
 -- goes by what a cut gains nothing is said.

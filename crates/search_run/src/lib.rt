@@ -21,4 +21,4 @@ mod tests;
 
 pub use ended::{Ended, Outcome};
 pub use orders::Orders;
-pub use rules::run_search;
+pub use rules::{pick_by, run_search};

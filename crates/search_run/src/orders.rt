@@ -28,7 +28,7 @@ pub struct Orders {
 
 impl Orders {
     /// The options of the search.
-    pub(crate) fn options(&self) -> Options
+    pub fn options(&self) -> Options
         ensures { result ≡ given.options_of self.now }
     {
         Options {

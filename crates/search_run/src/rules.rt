@@ -1,12 +1,11 @@
-//! A run under the rule of a name. A function that boxes a closure lends its rule down.
+//! A run under the rule of a name. The function that boxes the rule lends it down.
 
 ghost use Rattle.std.specs.Prelude.{◌≡◌, IfOk};
 ghost use Rattle.pool_model.specs.Network.{net_of};
 ghost use Rattle.box_tree.specs.Kept.{IsOf, searched_of};
 ghost use Rattle.branching.specs.Rows.{HasOpen};
-ghost use Rattle.branching.specs.Known.{IsFirstOpen, IsFirstGreatest, IsLessMissed, IsNarrower};
 ghost use Rattle.search_core.specs.Searches.{IsAsked};
-ghost use Rattle.search_run.specs.Orders.{options_of};
+ghost use Rattle.search_run.specs.Orders.{options_of, IsPickedBy};
 ghost use Rattle.search_run.specs.Runs.{IsRun};
 ghost use Rattle.search_run.specs.Found.{IsFound};
 
@@ -37,69 +36,26 @@ pub fn run_search(
     ensures run { IfOk result (λ r. IsRun (net_of net.now) orders (searched_of tree.kept) (searched_of r.tree.kept) r.ended) }
     ensures found { IfOk result (λ r. IsFound (net_of net.now) orders (searched_of tree.kept) (searched_of r.tree.kept) r.ended) }
 {
-    match orders.rule {
-        RuleName::First => run_first(alloc, net, orders, tree),
-        RuleName::Widest => run_widest(alloc, net, orders, tree),
-        RuleName::Violated => run_violated(alloc, net, orders, tree),
+    let name = orders.rule;
+    let closure = Box::new(
+        alloc,
+        move |view: &LeafView| -> usize
+            requires { HasOpen view.now.rows }
+            ensures { IsPickedBy name view.now.rows result }
+        { pick_by(name, view) },
+    )?;
+    let rule = CutRule::new(closure);
+    run_under(alloc, net, orders, tree, &rule)
+}
+
+/// The row that the rule of a name picks. Rules that are boxed call it.
+pub fn pick_by(name: RuleName, view: &LeafView) -> usize
+    requires { HasOpen view.now.rows }
+    ensures { IsPickedBy name view.now.rows result }
+{
+    match name {
+        RuleName::First => first_open(view),
+        RuleName::Widest => widest(view),
+        RuleName::Violated => most_violated(view),
     }
-}
-
-/// A run that cuts the first coordinate that can be cut.
-fn run_first(alloc: Global, net: &Network, orders: Orders, tree: Tree) -> Result<Outcome, Memory>
-    requires rule { orders.rule ≡ RuleName.First }
-    requires asked { IsAsked (options_of orders) }
-    requires tree { IsOf (net_of net.now) tree }
-    ensures tree { IfOk result (λ r. IsOf (net_of net.now) r.tree) }
-    ensures run { IfOk result (λ r. IsRun (net_of net.now) orders (searched_of tree.kept) (searched_of r.tree.kept) r.ended) }
-    ensures found { IfOk result (λ r. IsFound (net_of net.now) orders (searched_of tree.kept) (searched_of r.tree.kept) r.ended) }
-{
-    let closure = Box::new(
-        alloc,
-        |view: &LeafView| -> usize
-            requires { HasOpen view.now.rows }
-            ensures { IsFirstOpen view.now.rows result }
-        { first_open(view) },
-    )?;
-    let rule = CutRule::new(closure);
-    run_under(alloc, net, orders, tree, &rule)
-}
-
-/// A run that cuts the widest coordinate, measured by its width in the root box.
-fn run_widest(alloc: Global, net: &Network, orders: Orders, tree: Tree) -> Result<Outcome, Memory>
-    requires rule { orders.rule ≡ RuleName.Widest }
-    requires asked { IsAsked (options_of orders) }
-    requires tree { IsOf (net_of net.now) tree }
-    ensures tree { IfOk result (λ r. IsOf (net_of net.now) r.tree) }
-    ensures run { IfOk result (λ r. IsRun (net_of net.now) orders (searched_of tree.kept) (searched_of r.tree.kept) r.ended) }
-    ensures found { IfOk result (λ r. IsFound (net_of net.now) orders (searched_of tree.kept) (searched_of r.tree.kept) r.ended) }
-{
-    let closure = Box::new(
-        alloc,
-        |view: &LeafView| -> usize
-            requires { HasOpen view.now.rows }
-            ensures { IsFirstGreatest IsNarrower view.now.rows result }
-        { widest(view) },
-    )?;
-    let rule = CutRule::new(closure);
-    run_under(alloc, net, orders, tree, &rule)
-}
-
-/// A run that cuts where the most is expected to be gained.
-fn run_violated(alloc: Global, net: &Network, orders: Orders, tree: Tree) -> Result<Outcome, Memory>
-    requires rule { orders.rule ≡ RuleName.Violated }
-    requires asked { IsAsked (options_of orders) }
-    requires tree { IsOf (net_of net.now) tree }
-    ensures tree { IfOk result (λ r. IsOf (net_of net.now) r.tree) }
-    ensures run { IfOk result (λ r. IsRun (net_of net.now) orders (searched_of tree.kept) (searched_of r.tree.kept) r.ended) }
-    ensures found { IfOk result (λ r. IsFound (net_of net.now) orders (searched_of tree.kept) (searched_of r.tree.kept) r.ended) }
-{
-    let closure = Box::new(
-        alloc,
-        |view: &LeafView| -> usize
-            requires { HasOpen view.now.rows }
-            ensures { IsFirstGreatest IsLessMissed view.now.rows result }
-        { most_violated(view) },
-    )?;
-    let rule = CutRule::new(closure);
-    run_under(alloc, net, orders, tree, &rule)
 }

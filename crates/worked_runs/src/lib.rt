@@ -5,4 +5,10 @@
 #![tactic(auto)]
 
 #[cfg(test)]
+mod answers;
+#[cfg(test)]
+mod journals;
+#[cfg(test)]
+mod reports;
+#[cfg(test)]
 mod tests;

@@ -1,5 +1,6 @@
 //! `solve`, with its options, and `check` of what it prints.
 
+use disk_model::MemDisk;
 use edge_io::{MemShelf, MemSink};
 use pool_cli::run;
 use std::alloc::{AllocError, Global};
@@ -7,7 +8,7 @@ use std::test::Fail;
 use worked_networks::{HAVERLY_1, HAVERLY_2, HAVERLY_3};
 
 /// Words, parted at each space.
-fn words_of(alloc: Global, line: &str) -> Result<Vec<String>, AllocError> {
+pub(crate) fn words_of(alloc: Global, line: &str) -> Result<Vec<String>, AllocError> {
     let mut words = Vec::new(alloc);
     for word in line.split(' ') {
         words.push(String::from_str(alloc, word)?)?;
@@ -15,8 +16,30 @@ fn words_of(alloc: Global, line: &str) -> Result<Vec<String>, AllocError> {
     Ok(words)
 }
 
+/// A shelf with these files, whose call of the number `failing` fails.
+pub(crate) fn shelf_failing(
+    alloc: Global,
+    files: &[(&str, &str)],
+    failing: u64,
+) -> Result<MemShelf, AllocError> {
+    let mut held = Vec::new(alloc);
+    for (name, text) in files {
+        held.push((
+            String::from_str(alloc, name)?,
+            Vec::from_slice(alloc, text.as_bytes())?,
+        ))?;
+    }
+    let mut calls = Vec::new(alloc);
+    calls.push(failing)?;
+    Ok(MemShelf::new(held, calls))
+}
+
 /// A shelf with a network, and a certificate where there is one.
-fn shelf_of(alloc: Global, network: &str, certificate: &[u8]) -> Result<MemShelf, AllocError> {
+pub(crate) fn shelf_of(
+    alloc: Global,
+    network: &str,
+    certificate: &[u8],
+) -> Result<MemShelf, AllocError> {
     let mut files = Vec::new(alloc);
     files.push((
         String::from_str(alloc, "net")?,
@@ -30,7 +53,7 @@ fn shelf_of(alloc: Global, network: &str, certificate: &[u8]) -> Result<MemShelf
 }
 
 /// The code of `solve net` with these options, and what it printed.
-fn solved(
+pub(crate) fn solved(
     alloc: Global,
     network: &str,
     options: &str,
@@ -39,7 +62,8 @@ fn solved(
     let line = format!(in alloc; "solve net {options}")?;
     let words = words_of(alloc, line.as_str().trim_end())?;
     let mut shelf = shelf_of(alloc, network, b"")?;
-    Ok(run(alloc, &words, &mut shelf, sink).code())
+    let mut disk = MemDisk::new(alloc, Vec::new(alloc));
+    Ok(run(alloc, &words, &mut shelf, sink, &mut disk).code())
 }
 
 /// The code of `check net cert` on what was printed, and its line.
@@ -51,7 +75,8 @@ fn checked(
 ) -> Result<u8, AllocError> {
     let words = words_of(alloc, "check net cert")?;
     let mut shelf = shelf_of(alloc, network, certificate)?;
-    Ok(run(alloc, &words, &mut shelf, sink).code())
+    let mut disk = MemDisk::new(alloc, Vec::new(alloc));
+    Ok(run(alloc, &words, &mut shelf, sink, &mut disk).code())
 }
 
 /// The number behind a label of a line, up to the next space.

@@ -1,0 +1,86 @@
+-- What a file is a cause of: it has one cause at most, and none where its entries are in order.
+use Rattle.std.proofs.Common.{◌≡◌, ◌⊎◌, inl, inr, ℕ, List, [], ◌∷◌, ◌++◌, length, refl, sym, ap, subst, ◌∙◌, arith}
+use Rattle.std.specs.List.{AllByRecursion}
+use Rattle.pool_model.specs.Network.{Net}
+use Rattle.row_model.specs.Entries.{Entry, Searched, start, after, made_from, AreInOrder, AreInOrderFrom, IsEntryInOrder}
+use Rattle.node_journal.specs.Faults.{IsAllowed}
+use Rattle.node_journal.specs.Files.{Stands}
+use Rattle.node_journal.specs.Longest.{longest}
+use Rattle.node_journal.proofs.Decided.{one_fault, one_standing, stands_sound}
+use Rattle.node_journal.proofs.ShortPayloads.{allowed_in_order}
+use Rattle.recorded_run.specs.Recorded.{IsFirstOutOfOrder, IsReplayFault, HasOutOfOrder, IsCause, IsFreeFault, IsLeftAlone}
+use Rattle.recorded_run.specs.declared.fault.RunFault.{RunFault}
+use Rattle.recorded_run.specs.declared.fault.RunFault.TheVariants.{Journal, OutOfOrder}
+
+-- ---- the first entry that is not in order
+
+head-same : (x y : Entry) (xs ys : List Entry) → x ∷ xs ≡ y ∷ ys → x ≡ y
+head-same x y xs ys is = cc
+
+tail-same : (x y : Entry) (xs ys : List Entry) → x ∷ xs ≡ y ∷ ys → xs ≡ ys
+tail-same x y xs ys is = cc
+
+-- an entry behind those in front, of a list that is in order
+behind-in_order : (n : Net) (s : Searched) (front : List Entry) (e : Entry) (rest : List Entry) → AreInOrderFrom n s (front ++ e ∷ rest) → IsEntryInOrder n (made_from s front) e
+behind-in_order n s [] e rest are = are.0
+behind-in_order n s (x ∷ front) e rest are = behind-in_order n (after s x) front e rest are.1
+
+-- where all are in order there is none
+pub all-in_order : (n : Net) (list : List Entry) (k : ℕ) → AreInOrder n list → ¬ IsFirstOutOfOrder n list k
+all-in_order n list k are first = first.out (behind-in_order n start first.front first.entry first.rest (subst (AreInOrder n) first.parts are))
+
+-- it has one number
+one_front : (n : Net) (s : Searched) (a b : List Entry) (e f : Entry) (x y : List Entry) → AreInOrderFrom n s a → AreInOrderFrom n s b
+    → ¬ IsEntryInOrder n (made_from s a) e → ¬ IsEntryInOrder n (made_from s b) f → a ++ e ∷ x ≡ b ++ f ∷ y → length a ≡ length b
+one_front n s [] [] e f x y are bre out off is = refl
+one_front n s [] (h ∷ b) e f x y are bre out off is = absurd (out (subst (IsEntryInOrder n s) (sym (head-same e h x (b ++ f ∷ y) is)) bre.0))
+one_front n s (g ∷ a) [] e f x y are bre out off is = absurd (off (subst (IsEntryInOrder n s) (head-same g f (a ++ e ∷ x) y is) are.0))
+one_front n s (g ∷ a) (h ∷ b) e f x y are bre out off is =
+    let same = sym (head-same g h (a ++ e ∷ x) (b ++ f ∷ y) is) in
+    let others = one_front n (after s g) a b e f x y are.1 (subst (λ (z : Entry). AreInOrderFrom n (after s z) b) same bre.1) out
+    (subst (λ (z : Entry). ¬ IsEntryInOrder n (made_from (after s z) b) f) same off) (tail-same g h (a ++ e ∷ x) (b ++ f ∷ y) is) in
+    omega (arith, others)
+
+one_number : (n : Net) (list : List Entry) (k m : ℕ) → IsFirstOutOfOrder n list k → IsFirstOutOfOrder n list m → k ≡ m
+one_number n list k m a b =
+    a.count ∙ one_front n start a.front b.front a.entry b.entry a.rest b.rest a.in_order b.in_order a.out b.out (sym a.parts ∙ b.parts) ∙ sym b.count
+
+-- ---- causes
+
+-- a file has one cause
+pub one_cause : (n : Net) (text file : List ℕ) (c d : RunFault) → IsCause n text file c → IsCause n text file d → c ≡ d
+one_cause n text file (Journal f) (Journal g) a b = ap Journal (one_fault text (longest n) file f g a b)
+one_cause n text file (Journal f) (OutOfOrder m) a b = absurd (stands_sound text (longest n) file b.list f b.stands b.allowed a)
+one_cause n text file (OutOfOrder k) (Journal g) a b = absurd (stands_sound text (longest n) file a.list g a.stands a.allowed b)
+one_cause n text file (OutOfOrder k) (OutOfOrder m) a b =
+    ap OutOfOrder (one_number n a.list k m a.first (subst (λ (l : List Entry). IsFirstOutOfOrder n l m) (one_standing file text b.list a.list b.stands a.stands) b.first))
+
+-- and none where it stands for entries that are in order
+pub no_cause : (n : Net) (text file : List ℕ) (list : List Entry) (c : RunFault) → Stands file text list → AreInOrder n list → ¬ IsCause n text file c
+no_cause n text file list (Journal fault) stands are has = stands_sound text (longest n) file list fault stands (allowed_in_order n text file list are stands) has
+no_cause n text file list (OutOfOrder k) stands are has =
+    all-in_order n has.list k (subst (AreInOrder n) (one_standing file text list has.list stands has.stands) are) has.first
+
+-- what is answered is the cause that is there
+pub decided-by : (n : Net) (text file : List ℕ) (f cause : RunFault) → IsFreeFault f ⊎ IsCause n text file f → IsCause n text file cause → IsFreeFault f ⊎ (f ≡ cause)
+decided-by n text file f cause (inl free) has = inl free
+decided-by n text file f cause (inr other) has = inr (one_cause n text file f cause other has)
+
+-- ---- entries that are not replayed
+
+pub replay-cause : (n : Net) (text file : List ℕ) (list : List Entry) (fault : RunFault) → Stands file text list → AllByRecursion (IsAllowed (longest n)) list → IsReplayFault n list fault
+    → IsFreeFault fault ⊎ IsCause n text file fault
+replay-cause n text file list (Journal fault) stands allowed is = inl (inr is)
+replay-cause n text file list (OutOfOrder k) stands allowed is = inr (record { list = list; stands = stands; allowed = allowed; first = is })
+
+pub replay-free : (n : Net) (list : List Entry) (fault : RunFault) → AreInOrder n list → IsReplayFault n list fault → IsFreeFault fault
+replay-free n list (Journal fault) are is = inr is
+replay-free n list (OutOfOrder k) are is = absurd (all-in_order n list k are is)
+
+pub replay-alone : (n : Net) (list : List Entry) (fault : RunFault) (Untouched : Type 0) → IsReplayFault n list fault → IsLeftAlone fault Untouched
+replay-alone n list (Journal fault) Untouched is = inl (inr is)
+replay-alone n list (OutOfOrder k) Untouched is = tt
+
+pub free-alone : (fault : RunFault) (Untouched : Type 0) → IsFreeFault fault → IsLeftAlone fault Untouched
+free-alone (Journal fault) Untouched free = inl free
+free-alone (OutOfOrder k) Untouched free = absurd free

@@ -1,0 +1,212 @@
+-- Lists that grow entry by entry, and what a crash leaves meanwhile.
+use Rattle.std.proofs.Common.{◌≡◌, ◌≢◌, ◌⊎◌, inl, inr, Bool, ℕ, suc, ◌<◌, map, get_or, take, drop, ◌+◌, ◌≤◌, List, [], ◌∷◌, ◌++◌, length, Option, Some, refl, sym, ap, subst, ◌∙◌, append_assoc, arith}
+use Rattle.std.proofs.lemmas.List.{append-nil, map-id, map-append, take-append-drop}
+use Rattle.std.proofs.Math.Seq.{drop-cons}
+use Rattle.disk_model.specs.Disks.{LeavesOnly, Only}
+use Rattle.disk_model.proofs.Moments.{goes_further, leaves-weaker}
+use Rattle.pool_model.specs.Network.{Net}
+use Rattle.row_model.specs.Entries.{Entry, Searched, start, after, made_from, made_by, AreInOrder, AreInOrderFrom, IsEntryInOrder}
+use Rattle.box_tree.specs.declared.entry.EntryFault.{EntryFault}
+use Rattle.box_tree.specs.declared.entry.EntryFault.TheVariants as entry_faults
+use Rattle.node_journal.specs.Files.{Stands, IsKept, IsOwnFor}
+use Rattle.node_journal.specs.Journals.{IsBeforeOrAfter}
+use Rattle.node_journal.specs.Records.{IsKeptAt}
+use Rattle.edge_io.proofs.Counting.{grows-same, grows-then}
+use Rattle.node_journal.specs.Settled.{IsOnDisk, IsSameDisk}
+use Rattle.node_journal.proofs.Births.{kept-own}
+use Rattle.node_journal.proofs.Decided.{kept_of}
+use Rattle.node_journal.proofs.Runs.{quiet-start}
+use Rattle.recorded_run.specs.Recorded.{BeginsWith, IsNetworksOwn, IsBetween, IsRecorded, Ends, IsFirstOutOfOrder, IsReplayFault, refused_as}
+
+-- ---- one entry more
+
+pub made-more : (s : Searched) (list : List Entry) (e : Entry) → made_from s (list ++ e ∷ []) ≡ after (made_from s list) e
+made-more s [] e = refl
+made-more s (x ∷ list) e = made-more (after s x) list e
+
+pub in_order-more : (n : Net) (s : Searched) (list : List Entry) (e : Entry) → AreInOrderFrom n s list → IsEntryInOrder n (made_from s list) e → AreInOrderFrom n s (list ++ e ∷ [])
+in_order-more n s [] e are is = (is, tt)
+in_order-more n s (x ∷ list) e are is = (are.0, in_order-more n (after s x) list e are.1 is)
+
+pub begins-same : (list : List Entry) → BeginsWith list list
+begins-same list = ([], sym (append-nil list))
+
+pub begins-more : (list front : List Entry) (e : Entry) → BeginsWith list front → BeginsWith (list ++ e ∷ []) front
+begins-more list front e (rest, is) = (rest ++ e ∷ [], ap (λ (l : List Entry). l ++ e ∷ []) is ∙ append_assoc front rest (e ∷ []))
+
+-- ---- files
+
+pub kept-own_file : (n : Net) (text : List ℕ) (list : List Entry) (file : List ℕ) → IsKept text list file → AreInOrder n list → IsNetworksOwn n text list file
+kept-own_file n text list file kept are = let own = kept-own text list file kept in record { own = own.0; stands = own.1; in_order = are }
+
+pub between-later : (n : Net) (text : List ℕ) (first last : List Entry) (e : Entry) (file : List ℕ) → IsBetween n text first last file → IsBetween n text first (last ++ e ∷ []) file
+between-later n text first last e file is = record { list = is.list; own = is.own; begins = is.begins; goes_on = begins-more last is.list e is.goes_on }
+
+-- the file while an entry is recorded behind the last list
+pub between-recorded : (n : Net) (text : List ℕ) (first last : List Entry) (e : Entry) (file : List ℕ) → BeginsWith last first → AreInOrder n last → AreInOrder n (last ++ e ∷ [])
+    → IsBeforeOrAfter text last e file → IsBetween n text first (last ++ e ∷ []) file
+between-recorded n text first last e file begins are more (inl before) = record {
+  list = last;
+  own = kept-own_file n text last file before are;
+  begins = begins;
+  goes_on = begins-more last last e (begins-same last);
+}
+between-recorded n text first last e file begins are more (inr behind) = record {
+  list = last ++ e ∷ [];
+  own = kept-own_file n text (last ++ e ∷ []) file behind more;
+  begins = begins-more last first e begins;
+  goes_on = begins-same (last ++ e ∷ []);
+}
+
+-- ---- what is recorded
+
+pub recorded-more : (n : Net) (text : List ℕ) (list : List Entry) (e : Entry) (gate : ℕ) (s t : Searched) (file : List ℕ) (reads : Option (List ℕ)) (images : List ℕ → Type 0)
+    → AreInOrder n list → s ≡ made_by list → IsEntryInOrder n s e → t ≡ after s e → IsOnDisk file reads images → IsKeptAt gate text (list ++ e ∷ []) file
+    → IsRecorded n text (list ++ e ∷ []) gate t reads images
+recorded-more n text list e gate s t file reads images are made is then d kept = record {
+  file = file;
+  on_disk = d;
+  kept = kept;
+  in_order = in_order-more n start list e are (subst (λ (x : Searched). IsEntryInOrder n x e) made is);
+  made = then ∙ ap (λ (x : Searched). after x e) made ∙ sym (made-more start list e);
+}
+
+pub recorded-ends : (n : Net) (text : List ℕ) (list : List Entry) (gate : ℕ) (s : Searched) (reads : Option (List ℕ)) (images : List ℕ → Type 0) → IsRecorded n text list gate s reads images
+    → Ends n text list s reads images
+recorded-ends n text list gate s reads images is = record {
+  file = is.file;
+  on_disk = is.on_disk;
+  own = kept-own_file n text list is.file (kept_of gate text is.file list is.kept) is.in_order;
+  made = is.made;
+}
+
+-- so far: a crash left a list between the first and the last, and the disk holds the last
+pub record SoFar {D : Type 0} (n : Net) (moment : D → ℕ) (left_since : D → ℕ → List ℕ → Type 0) (reads : D → Option (List ℕ)) (may_leave : D → List ℕ → Type 0)
+    (text : List ℕ) (first : List Entry) (old now : D) (gate : ℕ) (s : Searched) : Type 0 where
+  pub last : List Entry
+  pub begins : BeginsWith last first
+  pub any_moment : LeavesOnly moment left_since old now (IsBetween n text first last)
+  pub held : IsRecorded n text last gate s (reads now) (may_leave now)
+
+module _ {D : Type 0} (n : Net) (moment : D → ℕ) (left_since : D → ℕ → List ℕ → Type 0) (reads : D → Option (List ℕ)) (may_leave : D → List ℕ → Type 0)
+    (counts_now : (disk : D) (t : ℕ) (c : List ℕ) → t ≤ moment disk → may_leave disk c → left_since disk t c)
+    (only_now : (disk : D) (c : List ℕ) → left_since disk (moment disk) c → may_leave disk c) where
+  pub so_far-start : (text : List ℕ) (first : List Entry) (d : D) (gate : ℕ) (s : Searched) → IsRecorded n text first gate s (reads d) (may_leave d) →
+      SoFar n moment left_since reads may_leave text first d d gate s
+  so_far-start text first d gate s is = record {
+    last = first;
+    begins = begins-same first;
+    any_moment = leaves-weaker moment left_since d d (may_leave d) (IsBetween n text first first)
+        (λ k now. record {
+          list = first;
+          own = subst (IsNetworksOwn n text first) (sym (is.on_disk.only k now)) (kept-own_file n text first is.file (kept_of gate text is.file first is.kept) is.in_order);
+          begins = begins-same first;
+          goes_on = begins-same first;
+        })
+        (quiet-start moment left_since may_leave counts_now only_now d);
+    held = is;
+  }
+
+  pub so_far-moments : (text : List ℕ) (first last : List Entry) (e : Entry) (old mid new : D) → BeginsWith last first → AreInOrder n last → AreInOrder n (last ++ e ∷ [])
+      → LeavesOnly moment left_since old mid (IsBetween n text first last) → LeavesOnly moment left_since mid new (IsBeforeOrAfter text last e)
+      → LeavesOnly moment left_since old new (IsBetween n text first (last ++ e ∷ []))
+  so_far-moments text first last e old mid new begins are more before step =
+      goes_further moment left_since old mid new (IsBetween n text first (last ++ e ∷ []))
+      (leaves-weaker moment left_since old mid (IsBetween n text first last) (IsBetween n text first (last ++ e ∷ [])) (λ k is. between-later n text first last e k is) before)
+      (leaves-weaker moment left_since mid new (IsBeforeOrAfter text last e) (IsBetween n text first (last ++ e ∷ [])) (λ k is. between-recorded n text first last e k begins are more is) step)
+
+-- ---- entries that are replayed
+
+pub none_out : (n : Net) → AreInOrder n []
+none_out n = tt
+
+-- the entry that a tree of those before it refuses
+pub out_of_order : (n : Net) (s : Searched) (front : List Entry) (e : Entry) (rest list : List Entry) (k : ℕ) → list ≡ front ++ e ∷ rest → k ≡ length front → AreInOrder n front → s ≡ made_by front
+    → ¬ IsEntryInOrder n s e → IsFirstOutOfOrder n list k
+out_of_order n s front e rest list k parts count are made out = record {
+  front = front;
+  entry = e;
+  rest = rest;
+  parts = parts;
+  count = count;
+  in_order = are;
+  out = λ is. out (subst (λ (x : Searched). IsEntryInOrder n x e) (sym made) is);
+}
+
+-- an entry that is not taken for another cause than memory is not in order
+pub refused-fault : (n : Net) (list : List Entry) (number : ℕ) (fault : EntryFault) → (fault ≢ entry_faults.Memory → IsFirstOutOfOrder n list number) → IsReplayFault n list (refused_as number fault)
+refused-fault n list number entry_faults.Memory first = refl
+refused-fault n list number entry_faults.NotALeaf first = first (λ e. cc)
+refused-fault n list number entry_faults.BadCoord first = first (λ e. cc)
+refused-fault n list number entry_faults.CutOutside first = first (λ e. cc)
+refused-fault n list number entry_faults.TooManySplits first = first (λ e. cc)
+refused-fault n list number (entry_faults.BadProof proof) first = first (λ e. cc)
+refused-fault n list number (entry_faults.BadPlan plan) first = first (λ e. cc)
+refused-fault n list number entry_faults.PlanNotBetter first = first (λ e. cc)
+refused-fault n list number entry_faults.RootLate first = first (λ e. cc)
+
+-- ---- one disk
+
+pub same_disk-same : {D : Type 0} (faults : D → ℕ) (tells : D → Bool) (admits : D → List ℕ → Bool) (d : D) → IsSameDisk faults tells admits d d
+same_disk-same faults tells admits d = record { faults_grow = grows-same (faults d); same_telling = refl; same_names = refl }
+
+pub same_disk-then : {D : Type 0} (faults : D → ℕ) (tells : D → Bool) (admits : D → List ℕ → Bool) (a b d : D) → IsSameDisk faults tells admits a b →
+    IsSameDisk faults tells admits b d → IsSameDisk faults tells admits a d
+same_disk-then faults tells admits a b d first second = record {
+  faults_grow = grows-then (faults a) (faults b) (faults d) first.faults_grow second.faults_grow;
+  same_telling = second.same_telling ∙ first.same_telling;
+  same_names = second.same_names ∙ first.same_names;
+}
+
+-- ---- a list, item by item
+
+-- the items so far, this one, and those behind it
+pub split_here : {A B : Type 0} (f : A → B) (items xs : List A) (x : A) → map (λ (y : A). y) xs ≡ take (length xs) items → length xs < length items → x ≡ get_or items (length xs) x
+    → map f items ≡ map f xs ++ f x ∷ map f (drop (suc (length xs)) items)
+split_here {A} f items xs x so_far lt here =
+    let behind = drop (suc (length xs)) items in
+    let front : xs ≡ take (length xs) items = sym (map-id xs) ∙ so_far in
+    let rest : drop (length xs) items ≡ x ∷ behind = drop-cons items (length xs) x lt ∙ ap (λ (y : A). y ∷ behind) (sym here) in
+    ap (map f) (sym (take-append-drop (length xs) items) ∙ ap (λ (l : List A). l ++ drop (length xs) items) (sym front) ∙ ap (λ (l : List A). xs ++ l) rest) ∙ map-append f xs (x ∷ behind)
+
+-- ---- from the file to the end
+
+pub own-between : (n : Net) (text : List ℕ) (first last : List Entry) (file : List ℕ) → AreInOrder n first → BeginsWith last first → IsOwnFor text first file → IsBetween n text first last file
+own-between n text first last file are begins own = record {
+  list = first;
+  own = record { own = own.0; stands = own.1; in_order = are };
+  begins = begins-same first;
+  goes_on = begins;
+}
+
+-- the disk after the journal was opened, and the tree of what was found
+pub opened-recorded : (n : Net) (text : List ℕ) (first list : List Entry) (gate : ℕ) (s : Searched) (file : List ℕ) (reads : Option (List ℕ))
+    (images : List ℕ → Type 0) → list ≡ first → AreInOrder n first
+    → s ≡ made_by list → IsOnDisk file reads images → IsKeptAt gate text list file → IsRecorded n text first gate s reads images
+opened-recorded n text first list gate s file reads images same are made d kept = record {
+  file = file;
+  on_disk = d;
+  kept = subst (λ (l : List Entry). IsKeptAt gate text l file) same kept;
+  in_order = are;
+  made = made ∙ ap made_by same;
+}
+
+module _ {D : Type 0} (n : Net) (moment : D → ℕ) (left_since : D → ℕ → List ℕ → Type 0) (may_leave : D → List ℕ → Type 0) where
+  -- what the opening leaves, where nothing follows
+  pub opening-moments : (text : List ℕ) (first : List Entry) (old new : D) → AreInOrder n first → LeavesOnly moment left_since old new (λ c. may_leave old c ⊎ IsOwnFor text first c)
+      → LeavesOnly moment left_since old new (λ c. may_leave old c ⊎ IsBetween n text first first c)
+  opening-moments text first old new are opening =
+      let P : List ℕ → Type 0 = λ c. may_leave old c ⊎ IsOwnFor text first c in
+      let Q : List ℕ → Type 0 = λ c. may_leave old c ⊎ IsBetween n text first first c in
+      leaves-weaker moment left_since old new P Q (λ k is. elim is [ inl before ↦ inl before | inr own ↦ inr (own-between n text first first k are (begins-same first) own) ]) opening
+
+  -- and what the run behind it leaves
+  pub run-moments : (text : List ℕ) (first last : List Entry) (old mid new : D) → AreInOrder n first → BeginsWith last first
+      → LeavesOnly moment left_since old mid (λ c. may_leave old c ⊎ IsOwnFor text first c) → LeavesOnly moment left_since mid new (IsBetween n text first last)
+      → LeavesOnly moment left_since old new (λ c. may_leave old c ⊎ IsBetween n text first last c)
+  run-moments text first last old mid new are begins opening run =
+      let P : List ℕ → Type 0 = λ c. may_leave old c ⊎ IsOwnFor text first c in
+      let Q : List ℕ → Type 0 = λ c. may_leave old c ⊎ IsBetween n text first last c in
+      goes_further moment left_since old mid new Q
+      (leaves-weaker moment left_since old mid P Q (λ k is. elim is [ inl before ↦ inl before | inr own ↦ inr (own-between n text first last k are begins own) ]) opening)
+      (leaves-weaker moment left_since mid new (IsBetween n text first last) Q (λ k is. inr is) run)

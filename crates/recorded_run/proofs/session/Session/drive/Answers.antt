@@ -1,0 +1,180 @@
+-- Step after step: what the tree is, what the disk holds, and what a crash leaves.
+use Rattle.std.proofs.Common.{◌≡◌, ℕ, List, [], ◌∷◌, ◌++◌, subst, sym, ◌∙◌}
+use Rattle.std.specs.Prelude.{IsTrue}
+use Rattle.std.proofs.lemmas.Result.{err_from_is_err_and}
+use Rattle.edge_io.proofs.Counting.{rose-behind}
+use Rattle.pool_model.specs.Network.{net_of}
+use Rattle.row_model.specs.Entries.{Searched, start, IsEntryInOrder}
+use Rattle.box_tree.specs.Views.{shown_entry}
+use Rattle.search_core.specs.Searches.{searched}
+use Rattle.search_run.proofs.Stepping.{way-start, way-more, next-step, next-closed, next-stopped, next-stuck, next-infeasible, next-undecided}
+use Rattle.search_run.proofs.Nearer.{nearer}
+use Rattle.recorded_run.proofs.Recording.{so_far-start, so_far-moments, in_order-more, begins-more, recorded-more, same_disk-same, same_disk-then}
+use Rattle.recorded_run.proofs.session.Session.drive.Goals as goal
+
+pub steps-init : goal.steps-init
+steps-init g c = record {
+  session = c.requires.session;
+  way = way-start (net_of c.args.net.now) c.args.orders (searched c.args.self.now.search);
+  left = c.requires.left;
+  so_far = λ text first is.
+      so_far-start (net_of c.args.net.now) g.D.Disk.moment g.D.Disk.left_since g.D.Disk.reads g.D.Disk.may_leave g.met.D.Disk.counts_now g.met.D.Disk.only_now
+      text first c.args.disk.now c.args.self.now.journal.gate (searched c.args.self.now.search) is;
+  same_disk = same_disk-same g.D.Disk.faults g.D.Disk.tells g.D.Disk.admits c.args.disk.now;
+}
+
+pub steps-preserved : goal.steps-preserved
+steps-preserved g c =
+    let n = net_of c.args.net.now in
+    let s = c.steps.self.search in
+    let e = shown_entry c.in-Do.entry in
+    let in_order = rw c.in-Do.is at c.in_ok-entry.ensures.in_order in
+    let due = rw c.in-Do.is at c.in_ok-entry.ensures.next in
+    let done = c.in_ok-record-in-Do.ensures in
+    let then = c.record.new.self in
+    record {
+      session = done.session;
+      way = way-more n c.args.orders (searched c.args.self.now.search) (searched s) (searched then.search) c.steps.invariant.way
+          (next-step n c.args.orders (searched s) s.options c.steps.invariant.session.options s.repaired _ c.requires.rule (searched then.search) c.in-Do.entry due in_order done.taken);
+      left = λ tells.
+          let was = c.steps.invariant.left (subst IsTrue c.record.ensures.same_disk.same_telling tells) in
+          let put = done.recorded was.0 was.2 was.1 was.3 was.4 in
+          (was.0, was.1 ++ e ∷ [], put.0, put.1, put.2);
+      so_far = λ text first is.
+          let so = c.steps.invariant.so_far text first is in
+          let put = done.recorded text so.held.file so.last so.held.on_disk so.held.kept in
+          let order = subst (λ (x : Searched). IsEntryInOrder n x e) so.held.made in_order in
+          record {
+            last = so.last ++ e ∷ [];
+            begins = begins-more so.last first e so.begins;
+            any_moment = so_far-moments n g.D.Disk.moment g.D.Disk.left_since g.D.Disk.reads g.D.Disk.may_leave g.met.D.Disk.counts_now g.met.D.Disk.only_now
+                text first so.last e c.args.disk.now c.steps.disk c.record.new.disk so.begins so.held.in_order (in_order-more n start so.last e so.held.in_order order) so.any_moment
+                (c.record.ensures.any_moment text so.held.file so.last so.held.on_disk so.held.kept);
+            held = recorded-more n text so.last e then.journal.gate (searched s) (searched then.search) put.0 (g.D.Disk.reads c.record.new.disk) (g.D.Disk.may_leave c.record.new.disk)
+                so.held.in_order so.held.made in_order done.taken put.1 put.2;
+          };
+      same_disk = same_disk-then g.D.Disk.faults g.D.Disk.tells g.D.Disk.admits c.args.disk.now c.steps.disk c.record.new.disk c.steps.invariant.same_disk c.record.ensures.same_disk;
+    }
+
+pub steps-smaller : goal.steps-smaller
+steps-smaller g c =
+    let n = net_of c.args.net.now in
+    let s = c.steps.self.search in
+    let e = shown_entry c.in-Do.entry in
+    let in_order = rw c.in-Do.is at c.in_ok-entry.ensures.in_order in
+    let due = rw c.in-Do.is at c.in_ok-entry.ensures.next in
+    let done = c.in_ok-record-in-Do.ensures in
+    let then = c.record.new.self.search in
+    nearer n s then c.steps.invariant.session.search done.session.search (done.session.options ∙ sym c.steps.invariant.session.options) c.args.orders.rule _ c.requires.rule c.in-Do.entry
+    done.taken done.repaired in_order due
+
+-- ---- ends
+
+pub returns-in_err-entry-clause-recorded : goal.returns-in_err-entry-clause-recorded
+returns-in_err-entry-clause-recorded g c =
+    let p = err_from_is_err_and c.from_residual.result c.from_residual.ensures.1 in
+    rw (p.1)
+    (λ text first is.
+    let so = c.steps.invariant.so_far text first is in
+    record { last = so.last; begins = so.begins; any_moment = so.any_moment; held = tt })
+
+pub returns-in_err-record-in-Do-clause-recorded : goal.returns-in_err-record-in-Do-clause-recorded
+returns-in_err-record-in-Do-clause-recorded g c =
+    let n = net_of c.args.net.now in
+    let s = c.steps.self.search in
+    let e = shown_entry c.in-Do.entry in
+    let in_order = rw c.in-Do.is at c.in_ok-entry.ensures.in_order in
+    let p = err_from_is_err_and c.from_residual-in_err-record-in-Do.result c.from_residual-in_err-record-in-Do.ensures.1 in
+    rw (p.1)
+    (λ text first is.
+    let so = c.steps.invariant.so_far text first is in
+    let order = subst (λ (x : Searched). IsEntryInOrder n x e) so.held.made in_order in
+    record {
+      last = so.last ++ e ∷ [];
+      begins = begins-more so.last first e so.begins;
+      any_moment = so_far-moments n g.D.Disk.moment g.D.Disk.left_since g.D.Disk.reads g.D.Disk.may_leave g.met.D.Disk.counts_now g.met.D.Disk.only_now
+          text first so.last e c.args.disk.now c.steps.disk c.record.new.disk so.begins so.held.in_order (in_order-more n start so.last e so.held.in_order order) so.any_moment
+          (c.record.ensures.any_moment text so.held.file so.last so.held.on_disk so.held.kept);
+      held = tt;
+    })
+
+pub returns-in_err-record-in-Do-clause-same_disk : goal.returns-in_err-record-in-Do-clause-same_disk
+returns-in_err-record-in-Do-clause-same_disk g c =
+    same_disk-then g.D.Disk.faults g.D.Disk.tells g.D.Disk.admits c.args.disk.now c.steps.disk c.record.new.disk c.steps.invariant.same_disk c.record.ensures.same_disk
+
+pub returns-in-Closed-clause-run : goal.returns-in-Closed-clause-run
+returns-in-Closed-clause-run g c =
+    let s = c.steps.self.search in
+    record {
+      entries = c.steps.invariant.way.entries;
+      steps = c.steps.invariant.way.steps;
+      made = c.steps.invariant.way.made;
+      end = next-closed (net_of c.args.net.now) c.args.orders (searched s) s.options c.steps.invariant.session.options s.repaired _ c.requires.rule (rw c.in-Closed.is at c.in_ok-entry.ensures.next);
+    }
+
+pub returns-in-Closed-clause-recorded : goal.returns-in-Closed-clause-recorded
+returns-in-Closed-clause-recorded g c = λ text first is.
+    let so = c.steps.invariant.so_far text first is in
+    record { last = so.last; begins = so.begins; any_moment = so.any_moment; held = so.held }
+
+pub returns-in-Stopped-clause-run : goal.returns-in-Stopped-clause-run
+returns-in-Stopped-clause-run g c =
+    let s = c.steps.self.search in
+    record {
+      entries = c.steps.invariant.way.entries;
+      steps = c.steps.invariant.way.steps;
+      made = c.steps.invariant.way.made;
+      end = next-stopped (net_of c.args.net.now) c.args.orders (searched s) s.options c.steps.invariant.session.options s.repaired _ c.requires.rule (rw c.in-Stopped.is at c.in_ok-entry.ensures.next);
+    }
+
+pub returns-in-Stopped-clause-recorded : goal.returns-in-Stopped-clause-recorded
+returns-in-Stopped-clause-recorded g c = λ text first is.
+    let so = c.steps.invariant.so_far text first is in
+    record { last = so.last; begins = so.begins; any_moment = so.any_moment; held = so.held }
+
+pub returns-in-Stuck-clause-run : goal.returns-in-Stuck-clause-run
+returns-in-Stuck-clause-run g c =
+    let s = c.steps.self.search in
+    record {
+      entries = c.steps.invariant.way.entries;
+      steps = c.steps.invariant.way.steps;
+      made = c.steps.invariant.way.made;
+      end = next-stuck (net_of c.args.net.now) c.args.orders (searched s) s.options c.steps.invariant.session.options s.repaired _ c.requires.rule (rw c.in-Stuck.is at c.in_ok-entry.ensures.next);
+    }
+
+pub returns-in-Stuck-clause-recorded : goal.returns-in-Stuck-clause-recorded
+returns-in-Stuck-clause-recorded g c = λ text first is.
+    let so = c.steps.invariant.so_far text first is in
+    record { last = so.last; begins = so.begins; any_moment = so.any_moment; held = so.held }
+
+pub returns-in-Infeasible-clause-run : goal.returns-in-Infeasible-clause-run
+returns-in-Infeasible-clause-run g c =
+    let s = c.steps.self.search in
+    record {
+      entries = c.steps.invariant.way.entries;
+      steps = c.steps.invariant.way.steps;
+      made = c.steps.invariant.way.made;
+      end = next-infeasible (net_of c.args.net.now) c.args.orders (searched s) s.options c.steps.invariant.session.options s.repaired _
+          c.requires.rule (rw c.in-Infeasible.is at c.in_ok-entry.ensures.next);
+    }
+
+pub returns-in-Infeasible-clause-recorded : goal.returns-in-Infeasible-clause-recorded
+returns-in-Infeasible-clause-recorded g c = λ text first is.
+    let so = c.steps.invariant.so_far text first is in
+    record { last = so.last; begins = so.begins; any_moment = so.any_moment; held = so.held }
+
+pub returns-in-Undecided-clause-run : goal.returns-in-Undecided-clause-run
+returns-in-Undecided-clause-run g c =
+    let s = c.steps.self.search in
+    record {
+      entries = c.steps.invariant.way.entries;
+      steps = c.steps.invariant.way.steps;
+      made = c.steps.invariant.way.made;
+      end = next-undecided (net_of c.args.net.now) c.args.orders (searched s) s.options c.steps.invariant.session.options s.repaired _ c.requires.rule
+          (rw c.in-Undecided.is at c.in_ok-entry.ensures.next);
+    }
+
+pub returns-in-Undecided-clause-recorded : goal.returns-in-Undecided-clause-recorded
+returns-in-Undecided-clause-recorded g c = λ text first is.
+    let so = c.steps.invariant.so_far text first is in
+    record { last = so.last; begins = so.begins; any_moment = so.any_moment; held = so.held }

@@ -1,0 +1,99 @@
+-- What is recorded: the list that the disk holds, the tree that is made of it, and the files that a crash leaves.
+use Rattle.std.specs.Prelude.{◌≡◌, ◌⊎◌, ℕ, List, ◌∷◌, ◌++◌, length, Option}
+use Rattle.std.specs.List.{AllByRecursion}
+use Rattle.pool_model.specs.Network.{Net}
+use Rattle.row_model.specs.Entries.{Entry, Searched, made_by, AreInOrder, IsEntryInOrder}
+use Rattle.box_tree.specs.declared.entry.EntryFault.{EntryFault}
+use Rattle.box_tree.specs.declared.entry.EntryFault.TheVariants as entry_faults
+use Rattle.node_journal.specs.Files.{Stands, IsOwn}
+use Rattle.node_journal.specs.Faults.{Has, IsAllowed, IsFree}
+use Rattle.node_journal.specs.Longest.{longest}
+use Rattle.node_journal.specs.Records.{IsKeptAt}
+use Rattle.node_journal.specs.Settled.{IsOnDisk}
+use Rattle.node_journal.specs.declared.fault.JournalFault.TheVariants.{Memory}
+use Rattle.recorded_run.specs.declared.fault.RunFault.{RunFault}
+use Rattle.recorded_run.specs.declared.fault.RunFault.TheVariants.{Journal, OutOfOrder}
+
+-- ---- lists of entries
+
+-- one list begins with another
+abbrev pub BeginsWith : List Entry → List Entry → Type 0
+BeginsWith list front = (rest : List Entry) × (list ≡ front ++ rest)
+
+-- ---- files
+
+-- The network's own file, which stands for the list: one that a journal of its text may leave, with entries in order.
+pub record IsNetworksOwn (n : Net) (text : List ℕ) (list : List Entry) (file : List ℕ) : Type 0 where
+  pub own : IsOwn text file
+  pub stands : Stands file text list
+  pub in_order : AreInOrder n list
+
+-- The file is the network's own, and stands for a list between two: it begins with the first, and the last begins with it.
+pub record IsBetween (n : Net) (text : List ℕ) (first last : List Entry) (file : List ℕ) : Type 0 where
+  pub list : List Entry
+  pub own : IsNetworksOwn n text list file
+  pub begins : BeginsWith list first
+  pub goes_on : BeginsWith last list
+
+-- ---- what is recorded
+
+-- A file that is the only image holds the entries of the list, in order, with the gate behind them, and the tree is made of them.
+pub record IsRecorded (n : Net) (text : List ℕ) (list : List Entry) (gate : ℕ) (s : Searched) (reads : Option (List ℕ)) (images : List ℕ → Type 0) : Type 0 where
+  pub file : List ℕ
+  pub on_disk : IsOnDisk file reads images
+  pub kept : IsKeptAt gate text list file
+  pub in_order : AreInOrder n list
+  pub made : s ≡ made_by list
+
+-- ---- entries that are replayed
+
+-- the entry of this number is the first that is not in order after those before it
+pub record IsFirstOutOfOrder (n : Net) (list : List Entry) (k : ℕ) : Type 0 where
+  pub front : List Entry
+  pub entry : Entry
+  pub rest : List Entry
+  pub parts : list ≡ front ++ entry ∷ rest
+  pub count : k ≡ length front
+  pub in_order : AreInOrder n front
+  pub out : ¬ IsEntryInOrder n (made_by front) entry
+
+-- what is answered where the entry of this number is not taken
+abbrev pub refused_as : ℕ → EntryFault → RunFault
+refused_as number entry_faults.Memory = Journal Memory
+refused_as number fault = OutOfOrder number
+
+-- why entries are not replayed: memory ran out, or one is out of order
+abbrev pub IsReplayFault : Net → List Entry → RunFault → Type 0
+IsReplayFault n list (Journal fault) = fault ≡ Memory
+IsReplayFault n list (OutOfOrder k) = IsFirstOutOfOrder n list k
+
+-- disk or memory failed
+abbrev pub IsFreeFault : RunFault → Type 0
+IsFreeFault (Journal fault) = IsFree fault
+IsFreeFault (OutOfOrder k) = ⊥
+
+-- ---- causes
+
+-- the file stands for entries that a journal takes back, and the one of this number is the first that is not in order
+pub record HasOutOfOrder (n : Net) (text file : List ℕ) (k : ℕ) : Type 0 where
+  pub list : List Entry
+  pub stands : Stands file text list
+  pub allowed : AllByRecursion (IsAllowed (longest n)) list
+  pub first : IsFirstOutOfOrder n list k
+
+-- the file is a cause of this refusal: its journal has the fault, or an entry that it stands for is not in order
+abbrev pub IsCause : Net → List ℕ → List ℕ → RunFault → Type 0
+IsCause n text file (Journal fault) = Has text (longest n) file fault
+IsCause n text file (OutOfOrder k) = HasOutOfOrder n text file k
+
+-- a journal that is not opened, but for a failure of disk or memory, leaves the file as it is
+abbrev pub IsLeftAlone : RunFault → Type 0 → Type 0
+IsLeftAlone (Journal fault) Untouched = IsFree fault ⊎ Untouched
+IsLeftAlone (OutOfOrder k) Untouched = Unit {0}
+
+-- at the end: a file is the only image, it is the network's own for the list, and the tree is made of that
+pub record Ends (n : Net) (text : List ℕ) (list : List Entry) (s : Searched) (reads : Option (List ℕ)) (images : List ℕ → Type 0) : Type 0 where
+  pub file : List ℕ
+  pub on_disk : IsOnDisk file reads images
+  pub own : IsNetworksOwn n text list file
+  pub made : s ≡ made_by list

@@ -1,0 +1,41 @@
+-- What a session is between two steps, and what a run of it leaves.
+use Rattle.std.specs.Prelude.{◌≡◌, ℕ, List, false, Option, Some, Result, OnOk}
+use Rattle.disk_model.specs.Disks.{LeavesOnly}
+use Rattle.pool_model.specs.Network.{Net}
+use Rattle.row_model.specs.Entries.{Entry, Searched, made_by, AreInOrder}
+use Rattle.node_journal.specs.Files.{Stands}
+use Rattle.node_journal.specs.Longest.{longest}
+use Rattle.search_core.specs.Searches.{IsSearchOf, searched}
+use Rattle.search_run.specs.Found.{IsFound}
+use Rattle.search_run.specs.Orders.{options_of}
+use Rattle.search_run.specs.Runs.{IsRun}
+use Rattle.search_run.specs.declared.ended.Ended.{Ended}
+use Rattle.search_run.specs.declared.orders.Orders.{Orders}
+use Rattle.recorded_run.specs.Recorded.{BeginsWith, IsBetween, IsRecorded}
+use Rattle.recorded_run.specs.declared.fault.RunFault.{RunFault}
+use Rattle.recorded_run.specs.declared.session.Session.{Session}
+
+-- the search is the network's and asks for what was ordered, and its journal takes each entry that is in order
+pub record IsSession (n : Net) (o : Orders) (s : Session) : Type 0 where
+  pub search : IsSearchOf n s.search
+  pub options : s.search.options ≡ options_of o
+  pub largest : s.journal.largest ≡ longest n
+  pub usable : s.journal.failed ≡ false
+
+-- A run from a list that the disk holds: a crash at any moment leaves the network's own file, for a list between that one and the
+-- last; and where the run came to its end the disk holds the last, and the tree is made of it.
+pub record IsRecordedRun {D : Type 0} (n : Net) (moment : D → ℕ) (left_since : D → ℕ → List ℕ → Type 0) (reads : D → Option (List ℕ)) (may_leave : D → List ℕ → Type 0)
+    (text : List ℕ) (first : List Entry) (old new : D) (s : Session) (result : Result Ended RunFault) : Type 0 where
+  pub last : List Entry
+  pub begins : BeginsWith last first
+  pub any_moment : LeavesOnly moment left_since old new (IsBetween n text first last)
+  pub held : OnOk result (IsRecorded n text last s.journal.gate (searched s.search) (reads new) (may_leave new))
+
+-- What was found by going on from entries: they are in order, and the file stands for them, where it is known what a read of it gives;
+-- the run begins with the tree of them, and what follows of its tree holds.
+pub record IsResumed (n : Net) (o : Orders) (text : List ℕ) (reads : Option (List ℕ)) (found : Searched) (ended : Ended) : Type 0 where
+  pub first : List Entry
+  pub in_order : AreInOrder n first
+  pub stands : (file : List ℕ) → reads ≡ Some file → Stands file text first
+  pub run : IsRun n o (made_by first) found ended
+  pub search : IsFound n o (made_by first) found ended

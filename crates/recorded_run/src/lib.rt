@@ -1,0 +1,19 @@
+//! A run of a search that is recorded: each entry stands in a journal before the tree takes it.
+//!
+//! [`run_recorded`] opens the journal of a network on the file that is attached, makes the tree of its entries, and goes on from
+//! there to the end of the search. A crash at any moment leaves the file as it was, or the network's own file, which stands for
+//! a list that begins with the entries that were found; and what is answered is the tree of all that the file stands for then.
+//!
+//! `specs/Sessions.antt` says what stands on the disk between two steps, and which files a crash leaves. What the steps are, is said in
+//! `search_run`, and what a journal is, in `node_journal`. The layer above attaches the file, and prints what was found.
+#![tactic(auto)]
+
+mod fault;
+mod replay;
+mod rules;
+mod session;
+#[cfg(test)]
+mod tests;
+
+pub use fault::RunFault;
+pub use rules::run_recorded;

@@ -1,0 +1,103 @@
+//! A session: a journal, and the search whose tree is made of what the journal holds.
+
+ghost use Rattle.std.specs.Prelude.{◌≡◌, ◌++◌, ◌∷◌, [], ℕ, List, IsTrue, IfOk, IfErr, OnOk, IsErrOf};
+ghost use Rattle.edge_io.specs.Counts.{Rose};
+ghost use Rattle.disk_model.specs.Disks.{LeavesOnly};
+ghost use Rattle.pool_model.specs.Network.{net_of};
+ghost use Rattle.row_model.specs.Entries as entries;
+ghost use Rattle.box_tree.specs.Views.{shown_entry};
+ghost use Rattle.node_journal.specs.Records.{IsKeptAt};
+ghost use Rattle.node_journal.specs.Journals.{IsLeft, IsBeforeOrAfter};
+ghost use Rattle.node_journal.specs.Settled.{IsOnDisk, IsSameDisk};
+ghost use Rattle.node_journal.specs.declared.fault.JournalFault.TheVariants as journal_faults;
+ghost use Rattle.search_core.specs.Searches.{searched};
+ghost use Rattle.search_core.specs.Cases.{IsRepairedAfter};
+ghost use Rattle.search_run.specs.Orders.{Keeps};
+ghost use Rattle.search_run.specs.Runs.{IsRun};
+ghost use Rattle.recorded_run.specs.Recorded.{IsRecorded, IsFreeFault};
+ghost use Rattle.recorded_run.specs.Sessions.{IsSession, IsRecordedRun};
+
+use crate::fault::RunFault;
+use blend_network::Network;
+use box_tree::Entry;
+use branching::CutRule;
+use disk_model::Disk;
+use node_journal::{Journal, JournalFault, largest_payload};
+use search_core::{Next, Search};
+use search_run::{Ended, Orders};
+use std::alloc::Global;
+
+/// A journal, and the search whose tree is made of what the journal holds.
+#[derive(Drop)]
+pub(crate) struct Session {
+    pub(crate) journal: Journal,
+    pub(crate) search: Search,
+}
+
+impl Session {
+    /// Records an entry that is in order, and takes it.
+    pub(crate) fn record<D: Disk>(
+        &mut self,
+        net: &Network,
+        orders: Orders,
+        disk: &mut D,
+        entry: Entry,
+    ) -> Result<(), RunFault>
+        requires session { IsSession (net_of net.now) orders self.old }
+        requires in_order { entries.IsEntryInOrder (net_of net.now) (searched self.old.search) (shown_entry entry) }
+        requires left { IsTrue (D.tells disk.old) → IsLeft self.old.journal (D.reads disk.old) (D.may_leave disk.old) }
+        ensures session { OnOk result (IsSession (net_of net.now) orders self.new) }
+        ensures taken { OnOk result (searched self.new.search ≡ entries.after (searched self.old.search) (shown_entry entry)) }
+        ensures repaired { OnOk result (IsRepairedAfter (net_of net.now) (searched self.old.search) (shown_entry entry) self.old.search.repaired self.new.search.repaired) }
+        // The entry stands on the disk then.
+        ensures recorded { OnOk result ((text file : List ℕ) (list : List entries.Entry) →
+            IsOnDisk file (D.reads disk.old) (D.may_leave disk.old) → IsKeptAt self.old.journal.gate text list file →
+            (after : List ℕ) × IsOnDisk after (D.reads disk.new) (D.may_leave disk.new) × IsKeptAt self.new.journal.gate text (list ++ shown_entry entry ∷ []) after) }
+        ensures any_moment { (text file : List ℕ) (list : List entries.Entry) →
+            IsOnDisk file (D.reads disk.old) (D.may_leave disk.old) → IsKeptAt self.old.journal.gate text list file →
+            LeavesOnly D.moment D.left_since disk.old disk.new (IsBeforeOrAfter text list (shown_entry entry)) }
+        ensures free { IfErr result IsFreeFault }
+        ensures failed { IsErrOf result (RunFault.Journal journal_faults.Disk) → Rose (D.faults disk.old) (D.faults disk.new) }
+        ensures same_disk { IsSameDisk D.faults D.tells D.admits disk.old disk.new }
+    {
+        let _largest = largest_payload(net);
+        self.journal.append(disk, &entry)?;
+        match self.search.take(net, entry) {
+            Ok(()) => Ok(()),
+            Err(_) => Err(RunFault::Journal(JournalFault::Memory)),
+        }
+    }
+
+    /// Records and takes step after step, to the end.
+    pub(crate) fn drive<D: Disk>(
+        &mut self,
+        alloc: Global,
+        net: &Network,
+        orders: Orders,
+        disk: &mut D,
+        rule: &CutRule,
+    ) -> Result<Ended, RunFault>
+        requires session { IsSession (net_of net.now) orders self.old }
+        requires rule { Keeps orders.rule (⟦<branching::RuleClosure as Fn(&branching::LeafView) -> usize>⟧.post rule.now.closure) }
+        requires left { IsTrue (D.tells disk.old) → IsLeft self.old.journal (D.reads disk.old) (D.may_leave disk.old) }
+        ensures session { IfOk result (λ _. IsSession (net_of net.now) orders self.new) }
+        ensures run { IfOk result (IsRun (net_of net.now) orders (searched self.old.search) (searched self.new.search)) }
+        ensures recorded { (text : List ℕ) (first : List entries.Entry) →
+            IsRecorded (net_of net.now) text first self.old.journal.gate (searched self.old.search) (D.reads disk.old) (D.may_leave disk.old) →
+            IsRecordedRun (net_of net.now) D.moment D.left_since D.reads D.may_leave text first disk.old disk.new self.new result }
+        ensures free { IfErr result IsFreeFault }
+        ensures failed { IsErrOf result (RunFault.Journal journal_faults.Disk) → Rose (D.faults disk.old) (D.faults disk.new) }
+        ensures same_disk { IsSameDisk D.faults D.tells D.admits disk.old disk.new }
+    {
+        'steps: loop {
+            match self.search.next(alloc, net, rule)? {
+                Next::Do(entry) => self.record(net, orders, disk, entry)?,
+                Next::Closed => return Ok(Ended::Closed),
+                Next::Stopped => return Ok(Ended::Stopped),
+                Next::Stuck => return Ok(Ended::Stuck),
+                Next::Infeasible => return Ok(Ended::Infeasible),
+                Next::Undecided => return Ok(Ended::Undecided),
+            }
+        }
+    }
+}
