@@ -24,11 +24,13 @@ not_other s (formulate net form) e other = absurd (cc)
 not_other s (make number) e other = absurd (cc)
 not_other s (trial number) e other = absurd (cc)
 
-pub ends_as : (files : Option Files) (before after : ℕ) (asked other : Asked) (status end : Status) → asked ≡ other → status ≡ end → EndsAs files before after other end → EndsAs files before after asked status
+pub ends_as : (files : Option Files) (before after : ℕ) (asked other : Asked) (status end : Status) → asked ≡ other → status ≡ end →
+    EndsAs files before after other end → EndsAs files before after asked status
 ends_as files before after asked other status end same is h =
     subst (λ (x : Asked). EndsAs files before after x status) (sym same) (subst (λ (x : Status). EndsAs files before after other x) (sym is) h)
 
 module _ (files : Option Files) (Leaves : (List ℕ → Type 0) → Type 0) (before : List ℕ → Type 0) (reads : Option (List ℕ)) (images : List ℕ → Type 0) (Prints : Cert → Type 0) where
-  pub solve_journaled : (s t : Solving) (status end : Status) → s ≡ t → status ≡ end → Journaled files t Leaves before reads images end Prints → Journaled files s Leaves before reads images status Prints
+  pub solve_journaled : (s t : Solving) (status end : Status) → s ≡ t → status ≡ end → Journaled files t Leaves before reads images end Prints →
+      Journaled files s Leaves before reads images status Prints
   solve_journaled s t status end same is h =
       subst (λ (x : Solving). Journaled files x Leaves before reads images status Prints) (sym same) (subst (λ (x : Status). Journaled files t Leaves before reads images x Prints) (sym is) h)

@@ -182,15 +182,18 @@ module _ {D : Type 0} (moment : D → ℕ) (left_since : D → ℕ → List ℕ 
   Attached status Prints = IsAttached n text o (LeavesOnly moment left_since old new) (may_leave old) (reads new) (may_leave new) status Prints
 
   left-alone : (fault : RunFault) → IsForeign (fault_status fault) → IsLeftAlone fault (LeavesOnly moment left_since mid new (may_leave mid)) → LeavesOnly moment left_since old new (may_leave old)
-  left-alone (faults.Journal fault) foreign (inl free) = absurd (failed-not-refused (fault_status (faults.Journal fault)) (failed-status (faults.Journal fault) free) (foreign-refused (fault_status (faults.Journal fault)) foreign))
+  left-alone (faults.Journal fault) foreign (inl free) = absurd (failed-not-refused (fault_status (faults.Journal fault))
+      (failed-status (faults.Journal fault) free) (foreign-refused (fault_status (faults.Journal fault)) foreign))
   left-alone (faults.Journal fault) foreign (inr left) =
       goes_further moment left_since old mid new (may_leave old) attach
       (leaves-weaker moment left_since mid new (may_leave mid) (may_leave old) (now-has moment left_since may_leave counts_now old mid (may_leave old) attach) left)
   left-alone (faults.OutOfOrder number) foreign h = absurd foreign
 
   -- the run gave no answer
-  pub attached-unsolved : (fault : RunFault) (Prints : Cert → Type 0) → IsFreeFault fault ⊎ IsCause n text file fault → ((cause : RunFault) → IsCause n text file cause → IsFreeFault fault ⊎ (fault ≡ cause))
-      → IsLeftAlone fault (LeavesOnly moment left_since mid new (may_leave mid)) → ((first : List Entry) → IsNetworksOwn n text first file → Goes first (λ last. Unit {0})) → Attached (fault_status fault) Prints
+  pub attached-unsolved : (fault : RunFault) (Prints : Cert → Type 0) → IsFreeFault fault ⊎ IsCause n text file fault →
+      ((cause : RunFault) → IsCause n text file cause → IsFreeFault fault ⊎ (fault ≡ cause))
+      → IsLeftAlone fault (LeavesOnly moment left_since mid new (may_leave mid)) →
+      ((first : List Entry) → IsNetworksOwn n text first file → Goes first (λ last. Unit {0})) → Attached (fault_status fault) Prints
   attached-unsolved fault Prints refused decided alone own =
       let status = fault_status fault in
       let caused : IsRefused status → IsCauseOf n text file status =
@@ -239,9 +242,11 @@ module _ {D : Type 0} (moment : D → ℕ) (left_since : D → ℕ → List ℕ 
 
 -- ---- from what was found to what was printed
 
-module _ (n : Net) (text : List ℕ) (o : Orders) (Leaves : (List ℕ → Type 0) → Type 0) (before : List ℕ → Type 0) (reads : Option (List ℕ)) (images : List ℕ → Type 0) (Found Prints : Cert → Type 0) where
+module _ (n : Net) (text : List ℕ) (o : Orders) (Leaves : (List ℕ → Type 0) → Type 0) (before : List ℕ →
+    Type 0) (reads : Option (List ℕ)) (images : List ℕ → Type 0) (Found Prints : Cert → Type 0) where
   -- the same of what is printed in place of what was found
-  attached-as : (status : Status) → IsAttached n text o Leaves before reads images status Found → (IsEnded status → (c : Cert) → Found c → Prints c) → IsAttached n text o Leaves before reads images status Prints
+  attached-as : (status : Status) → IsAttached n text o Leaves before reads images status Found → (IsEnded status → (c : Cert) → Found c → Prints c) →
+      IsAttached n text o Leaves before reads images status Prints
   attached-as status at prints = record {
     file = at.file;
     image = at.image;
@@ -269,9 +274,9 @@ module _ (n : Net) (text : List ℕ) (o : Orders) (Leaves : (List ℕ → Type 0
     image = at.image;
     caused = λ r. absurd r;
     decided = λ cause has. elim (at.decided cause has) [
-        | inl is ↦ let fault = cause-fault n text at.file cause has in absurd (fault-not-ended fault.0 (subst IsPrinted (is ∙ sym fault.1) (ended-printed (status_of ended) (ended-whole ended))))
-        | inr failed ↦ absurd (ended-not-failed ended failed)
-      ];
+      | inl is ↦ let fault = cause-fault n text at.file cause has in absurd (fault-not-ended fault.0 (subst IsPrinted (is ∙ sym fault.1) (ended-printed (status_of ended) (ended-whole ended))))
+      | inr failed ↦ absurd (ended-not-failed ended failed)
+    ];
     taken = λ list stands are r. r;
     untouched = λ foreign. absurd foreign;
     own = λ first is.

@@ -73,10 +73,12 @@ module _ (files : Option Files) (s : Solving) (network : Network) (reads : Reads
   by_claim before after asked nodes splits (with_bound z) best bound e covers follows = record { solvable = here; none = no_start best bound z e covers }
   by_claim before after asked nodes splits no_plan best bound e covers follows = record { solvable = here; none = follows }
 
-  pub solution_ends : (before after : ℕ) (begun : Searched) (c : Cert) (end status : Status) → IsSolutionFrom (net_of network) (orders_of s) begun end c → EndsWith end status → SolveEnds files s before after status
+  pub solution_ends : (before after : ℕ) (begun : Searched) (c : Cert) (end status : Status) →
+      IsSolutionFrom (net_of network) (orders_of s) begun end c → EndsWith end status → SolveEnds files s before after status
   solution_ends before after begun c end status found ended = elim ended [
     | inl is ↦ subst (SolveEnds files s before after) (sym (is ∙ found.ends))
-        (by_claim before after s.gap s.nodes (length c.splits) c.claim found.found.best (tree_bound (net_of network) found.found.tree) (ap (λ (x : Cert). x.claim) found.is) found.search.starts found.follows)
+        (by_claim before after s.gap s.nodes (length c.splits) c.claim found.found.best (tree_bound (net_of network) found.found.tree)
+        (ap (λ (x : Cert). x.claim) found.is) found.search.starts found.follows)
     | inr is ↦ subst (SolveEnds files s before after) (sym is) here
   ]
 
@@ -164,7 +166,8 @@ module _ (files : Option Files) (s : Solving) (before after : ℕ) where
   cut_ends statuses.OutOfMemory h = tt
   cut_ends status h = absurd h
 
-  pub unsolved_ends : (network : Network) (status : Status) → ReadsUnder files s.net network → IsWithinBudget (net_of network) s.nodes → IsHeldUp s.journal status → SolveEnds files s before after status
+  pub unsolved_ends : (network : Network) (status : Status) → ReadsUnder files s.net network → IsWithinBudget (net_of network) s.nodes →
+      IsHeldUp s.journal status → SolveEnds files s before after status
   unsolved_ends network status reads within (inl cut) = cut_ends status cut
   unsolved_ends network status reads within (inr held) =
       journal_ends status held.0 record { solvable = record { network = network; reads = reads; within = within }; journal = held.1.0; named = held.1.1 }
@@ -248,7 +251,8 @@ module _ (told : Files) (name : List ℕ) where
   decided_formulate before after statuses.OutOfMemory h = record { no_network = λ none. inr tt; some_network = λ f. inr tt }
   decided_formulate before after status h = absurd h
 
-formulate_decided : (files : Option Files) (told : Files) (name : List ℕ) (before after : ℕ) (status : Status) → files ≡ Some told → FormulateEnds files name before after status → FormulateDecided told name status
+formulate_decided : (files : Option Files) (told : Files) (name : List ℕ) (before after : ℕ) (status : Status) → files ≡ Some told →
+    FormulateEnds files name before after status → FormulateDecided told name status
 formulate_decided files told name before after status is h =
     decided_formulate told name before after status (subst (λ f. FormulateEnds f name before after status) is h)
 
@@ -312,7 +316,8 @@ module _ (told : Files) (net cert : List ℕ) where
   decided_check before after statuses.OutOfMemory h = record { no_network = λ none. inr tt; too_long = λ b a l. inr tt; valid = λ v. inr tt; invalid = λ v. inr tt }
   decided_check before after status h = absurd h
 
-check_decided : (files : Option Files) (told : Files) (net cert : List ℕ) (before after : ℕ) (status : Status) → files ≡ Some told → CheckEnds files net cert before after status → CheckDecided told net cert status
+check_decided : (files : Option Files) (told : Files) (net cert : List ℕ) (before after : ℕ) (status : Status) → files ≡ Some told →
+    CheckEnds files net cert before after status → CheckDecided told net cert status
 check_decided files told net cert before after status is h = decided_check told net cert before after status (subst (λ f. CheckEnds f net cert before after status) is h)
 
 -- ---- the same of what was asked

@@ -109,10 +109,12 @@ module _ (n : Net) (s : Searched) (split : Split) (left right : Option Proof) (i
   new-leaf i lt = elim (where-node (length s.tree.splits) i (omega (arith, length-more s.tree.splits split))) [
     | inl e ↦ at_least-leaf (is_cut new.splits i) (node_bound n new i) (tree_bound n s.tree)
         (subst (λ (j : ℕ). IsAtLeast (node_bound n new j) (tree_bound n s.tree)) (sym e)
-        (child (node_bound n new (left_node (length s.tree.splits))) (option_map (shown_by n (left_of (box_of n s.tree.splits split.leaf) split.coord split.cut)) left) (bound-left n s split left right is in_order.cuts.leaf.there)))
+        (child (node_bound n new (left_node (length s.tree.splits))) (option_map
+        (shown_by n (left_of (box_of n s.tree.splits split.leaf) split.coord split.cut)) left) (bound-left n s split left right is in_order.cuts.leaf.there)))
     | inr (inl e) ↦ at_least-leaf (is_cut new.splits i) (node_bound n new i) (tree_bound n s.tree)
         (subst (λ (j : ℕ). IsAtLeast (node_bound n new j) (tree_bound n s.tree)) (sym e)
-        (child (node_bound n new (right_node (length s.tree.splits))) (option_map (shown_by n (right_of (box_of n s.tree.splits split.leaf) split.coord split.cut)) right) (bound-right n s split left right is in_order.cuts.leaf.there)))
+        (child (node_bound n new (right_node (length s.tree.splits))) (option_map
+        (shown_by n (right_of (box_of n s.tree.splits split.leaf) split.coord split.cut)) right) (bound-right n s split left right is in_order.cuts.leaf.there)))
     | inr (inr below) ↦ old-leaf i (omega arith)
   ]
 

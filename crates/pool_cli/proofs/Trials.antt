@@ -1,5 +1,5 @@
 -- How a trial goes.
-use Rattle.std.proofs.Common.{◌≡◌, ℕ, ◌+◌, ◌*◌, inl, Option, Some, None, ℤ, refl, sym, ap, subst, ◌∙◌}
+use Rattle.std.proofs.Common.{◌≡◌, ◌⊎◌, ℕ, ◌+◌, ◌*◌, inl, inr, Option, Some, None, ℤ, refl, sym, ap, subst, ◌∙◌}
 use Rattle.integers.proofs.Tabulate.{get_or-tabulate}
 use Rattle.pool_model.specs.Network.{Net, no_product, net_of}
 use Rattle.pool_model.specs.Plan.{Written, plan_of}
@@ -8,12 +8,17 @@ use Rattle.pool_model.specs.Claim.{Claimed, with_gap, with_bound, no_plan, Follo
 use Rattle.pool_model.proofs.Starts.{zero-obeys}
 use Rattle.row_model.specs.Trees.{tree_bound}
 use Rattle.cert_format.specs.Cert.{Cert}
+use Rattle.cert_checker.specs.Answers.{verdict_of}
+use Rattle.cert_checker.specs.declared.verdict.Verdict.{Verdict}
+use Rattle.cert_checker.specs.declared.verdict.Verdict.TheVariants as verdicts
 use Rattle.tree_certificate.specs.Certificates.{claim_of}
 use Rattle.network_maker.specs.Draws.{state_after}
 use Rattle.network_maker.specs.Generated.{generated, drawn_product}
 use Rattle.search_run.specs.Found.{CoversStarts}
 use Rattle.search_run.specs.declared.orders.Orders.{Orders}
+use Rattle.pool_cli.specs.Messages.{code_of}
 use Rattle.pool_cli.specs.Solution.{IsSolution}
+use Rattle.pool_cli.specs.TrialEnds.{IsToldOf}
 use Rattle.pool_cli.specs.declared.status.Status.{Status}
 
 -- no product of a made network must take anything
@@ -37,3 +42,17 @@ pub solution-planned : (n : Net) (o : Orders) (status : Status) (c : Cert) → H
 solution-planned n o status c m s =
     let is = ap (λ (x : Cert). x.claim) s.is in
     subst HasPlanned (sym is) (planned_by n s.found.best (tree_bound n s.found.tree) m s.search.starts (subst (Follows n) is s.follows))
+
+-- the verdict of a claim with a plan has its numbers
+pub planned-gap : (claim : Claimed) (v : Verdict) → HasPlanned claim → v ≡ verdict_of claim → ((bound : ℤ) × (v ≡ verdicts.BoundOnly bound)) ⊎ (v ≡ verdicts.NoPlan) → ⊥
+planned-gap (with_gap plan cost base bound gap) v planned is (inl (z, e)) = cc
+planned-gap (with_gap plan cost base bound gap) v planned is (inr e) = cc
+planned-gap (with_bound bound) v planned is other = planned
+planned-gap no_plan v planned is other = planned
+
+pub told-of : (status : Status) (claim : Claimed) (v : Verdict) (cost bound gap : ℤ) (base code : ℕ) → HasPlanned claim → v ≡ verdict_of claim →
+    v ≡ verdicts.Gap cost base bound gap → code ≡ code_of status
+    → IsToldOf status claim (record { status = code; cost = cost; base = base; bound = bound; gap = gap })
+told-of status (with_gap plan a b z d) v cost bound gap base code planned is e told = cc
+told-of status (with_bound z) v cost bound gap base code planned is e told = absurd planned
+told-of status no_plan v cost bound gap base code planned is e told = absurd planned

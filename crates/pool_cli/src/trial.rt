@@ -116,8 +116,11 @@ fn verdict_on(
 {
     let mut text = MemSink::new(alloc, Vec::new(alloc));
     match write_cert(certificate, &mut text) {
-        // A valid certificate is refused for want of memory alone.
-        Ok(()) => check(alloc, network, text.taken()).map_err(|_| Memory),
+        Ok(()) => match check(alloc, network, text.taken()) {
+            Ok(verdict) => Ok(verdict),
+            // A valid certificate is refused for want of memory alone.
+            Err(_) => Err(Memory),
+        },
         Err(_) => Err(Memory),
     }
 }

@@ -108,7 +108,10 @@ fn a_file_is_refused_by_what_it_is(rt: HostRuntime) -> Result<(), Fail> {
         &[HEAD, RECORD, RECORD, b"\x01\x00\x00\x00\x01\x09\x00"],
     )?;
     assert_eq!(rt; bad, 31);
-    assert_eq!(rt; code_over(alloc, ONE_PRODUCT, &[HEAD, RECORD, RECORD, b"\x00"])?, 31);
+    assert_eq!(rt;
+        code_over(alloc, ONE_PRODUCT, &[HEAD, RECORD, RECORD, b"\x00"])?,
+        31
+    );
     // The journal of the first network of Haverly, under the second and as one of version 7; and a network as the journal.
     let mut disk = disk_of(alloc, &[], 1000)?;
     let mut sink = MemSink::new(alloc, Vec::new(alloc));

@@ -68,7 +68,10 @@ fn a_trial_tells_the_same_twice(rt: HostRuntime) -> Result<(), Fail> {
     let mut shelf = MemShelf::new(Vec::new(alloc), Vec::new(alloc));
     let mut first = MemSink::new(alloc, Vec::new(alloc));
     let mut disk = MemDisk::new(alloc, Vec::new(alloc));
-    assert_eq!(rt; run(alloc, &words, &mut shelf, &mut first, &mut disk).code(), 0);
+    assert_eq!(rt;
+        run(alloc, &words, &mut shelf, &mut first, &mut disk).code(),
+        0
+    );
     assert!(rt;
         first
             .taken()

@@ -8,7 +8,8 @@ use Rattle.pool_cli.proofs.check.check_bytes.Goals as goal
 pub returns-in-Err-write_verdict-clause-took : goal.returns-in-Err-write_verdict-clause-took
 returns-in-Err-write_verdict-clause-took g c =
     let text = accepted_line c.in-Ok.verdict in
-    let accepts : Accepts (net_of c.args.network.now) c.args.bytes.now text = record { verdict = c.in-Ok.verdict; accepted = c.in-Ok.ensures.accepted; follows = c.in-Ok.ensures.follows; spelled = refl } in
+    let accepts : Accepts (net_of c.args.network.now) c.args.bytes.now text =
+    record { verdict = c.in-Ok.verdict; accepted = c.in-Ok.ensures.accepted; follows = c.in-Ok.ensures.follows; spelled = refl } in
     (text, (Accepted, accepts), c.in-Err-write_verdict.ensures.wrote)
 
 pub returns-in-Err-write_refused : goal.returns-in-Err-write_refused

@@ -42,98 +42,117 @@ solve-requires-clause-gap g c = gap-asked (map string_bytes c.args.words.now) (s
 pub returns-in-Ok-Solve-clause-took : goal.returns-in-Ok-Solve-clause-took
 returns-in-Ok-Solve-clause-took g c = λ asked asks.
     let only = rw c.in-Ok-Solve.field-0-is at c.in-Ok-Solve.ensures.only in
-    solve_took (g.S.Shelf.files c.args.shelf.now) [] asked c.from.result (solve_status c.solve.result) c.from.ensures (shown_solving c.in-Ok-Solve.words) (g.K.Sink.taken c.args.out.now) (g.K.Sink.taken c.solve.new.out)
+    solve_took (g.S.Shelf.files c.args.shelf.now) [] asked c.from.result (solve_status c.solve.result) c.from.ensures
+    (shown_solving c.in-Ok-Solve.words) (g.K.Sink.taken c.args.out.now) (g.K.Sink.taken c.solve.new.out)
     (only asked asks) c.solve.ensures.took
 
 pub returns-in-Ok-Solve-clause-decided : goal.returns-in-Ok-Solve-clause-decided
 returns-in-Ok-Solve-clause-decided g c = λ told asked is asks.
     let only = rw c.in-Ok-Solve.field-0-is at c.in-Ok-Solve.ensures.only in
-    solve_decides (g.S.Shelf.files c.args.shelf.now) [] asked c.from.result (solve_status c.solve.result) c.from.ensures (shown_solving c.in-Ok-Solve.words) told (g.S.Shelf.taken c.args.shelf.now) (g.S.Shelf.taken c.solve.new.shelf)
+    solve_decides (g.S.Shelf.files c.args.shelf.now) [] asked c.from.result (solve_status c.solve.result) c.from.ensures
+    (shown_solving c.in-Ok-Solve.words) told (g.S.Shelf.taken c.args.shelf.now) (g.S.Shelf.taken c.solve.new.shelf)
     (only asked asks) is c.solve.ensures.ends
 
 pub returns-in-Ok-Check-clause-took : goal.returns-in-Ok-Check-clause-took
 returns-in-Ok-Check-clause-took g c = λ asked asks.
     let only = rw c.in-Ok-Check.field-0-is at c.in-Ok-Check.ensures.only in
     let named = only asked asks ∙ ap₂ check (sym c.as_str.ensures.value) (sym c.as_str-in-Ok-Check.ensures.value) in
-    check_took (g.S.Shelf.files c.args.shelf.now) c.as_str.result.now asked c.from-in-Ok-Check.result (check_status c.check.result) c.from-in-Ok-Check.ensures c.as_str-in-Ok-Check.result.now (g.K.Sink.taken c.args.out.now) (g.K.Sink.taken c.check.new.out) named c.check.ensures.took
+    check_took (g.S.Shelf.files c.args.shelf.now) c.as_str.result.now asked c.from-in-Ok-Check.result
+    (check_status c.check.result) c.from-in-Ok-Check.ensures c.as_str-in-Ok-Check.result.now (g.K.Sink.taken c.args.out.now) (g.K.Sink.taken c.check.new.out) named c.check.ensures.took
 
 pub returns-in-Ok-Check-clause-decided : goal.returns-in-Ok-Check-clause-decided
 returns-in-Ok-Check-clause-decided g c = λ told asked is asks.
     let only = rw c.in-Ok-Check.field-0-is at c.in-Ok-Check.ensures.only in
     let named = only asked asks ∙ ap₂ check (sym c.as_str.ensures.value) (sym c.as_str-in-Ok-Check.ensures.value) in
-    check_decides (g.S.Shelf.files c.args.shelf.now) c.as_str.result.now asked c.from-in-Ok-Check.result (check_status c.check.result) c.from-in-Ok-Check.ensures c.as_str-in-Ok-Check.result.now told (g.S.Shelf.taken c.args.shelf.now) (g.S.Shelf.taken c.check.new.shelf) named is c.check.ensures.ends
+    check_decides (g.S.Shelf.files c.args.shelf.now) c.as_str.result.now asked c.from-in-Ok-Check.result
+    (check_status c.check.result) c.from-in-Ok-Check.ensures c.as_str-in-Ok-Check.result.now told (g.S.Shelf.taken c.args.shelf.now)
+    (g.S.Shelf.taken c.check.new.shelf) named is c.check.ensures.ends
 
 pub returns-in-Ok-Report-clause-took : goal.returns-in-Ok-Report-clause-took
 returns-in-Ok-Report-clause-took g c = λ asked asks.
     let only = rw c.in-Ok-Report.field-0-is at c.in-Ok-Report.ensures.only in
     let named = only asked asks ∙ ap₂ report (sym c.as_str-in-Ok-Report.ensures.value) (sym c.as_str-in-Ok-Report-2.ensures.value) in
-    report_took (g.S.Shelf.files c.args.shelf.now) c.as_str-in-Ok-Report.result.now asked c.from-in-Ok-Report.result (report_status c.report.result) c.from-in-Ok-Report.ensures c.as_str-in-Ok-Report-2.result.now (g.K.Sink.taken c.args.out.now) (g.K.Sink.taken c.report.new.out) named c.report.ensures.took
+    report_took (g.S.Shelf.files c.args.shelf.now) c.as_str-in-Ok-Report.result.now asked c.from-in-Ok-Report.result
+    (report_status c.report.result) c.from-in-Ok-Report.ensures c.as_str-in-Ok-Report-2.result.now (g.K.Sink.taken c.args.out.now) (g.K.Sink.taken c.report.new.out) named c.report.ensures.took
 
 pub returns-in-Ok-Report-clause-decided : goal.returns-in-Ok-Report-clause-decided
 returns-in-Ok-Report-clause-decided g c = λ told asked is asks.
     let only = rw c.in-Ok-Report.field-0-is at c.in-Ok-Report.ensures.only in
     let named = only asked asks ∙ ap₂ report (sym c.as_str-in-Ok-Report.ensures.value) (sym c.as_str-in-Ok-Report-2.ensures.value) in
-    report_decides (g.S.Shelf.files c.args.shelf.now) c.as_str-in-Ok-Report.result.now asked c.from-in-Ok-Report.result (report_status c.report.result) c.from-in-Ok-Report.ensures c.as_str-in-Ok-Report-2.result.now told (g.S.Shelf.taken c.args.shelf.now) (g.S.Shelf.taken c.report.new.shelf) named is c.report.ensures.ends
+    report_decides (g.S.Shelf.files c.args.shelf.now) c.as_str-in-Ok-Report.result.now asked c.from-in-Ok-Report.result
+    (report_status c.report.result) c.from-in-Ok-Report.ensures c.as_str-in-Ok-Report-2.result.now told (g.S.Shelf.taken c.args.shelf.now)
+    (g.S.Shelf.taken c.report.new.shelf) named is c.report.ensures.ends
 
 pub returns-in-Ok-Formulate-clause-took : goal.returns-in-Ok-Formulate-clause-took
 returns-in-Ok-Formulate-clause-took g c = λ asked asks.
     let only = rw c.in-Ok-Formulate.field-0-is at c.in-Ok-Formulate.ensures.only in
     let named = only asked asks ∙ ap (λ n. formulate n c.in-Ok-Formulate.form) (sym c.as_str-in-Ok-Formulate.ensures.value) in
-    formulate_took (g.S.Shelf.files c.args.shelf.now) c.as_str-in-Ok-Formulate.result.now asked c.from-in-Ok-Formulate.result (formulate_status c.formulate.result) c.from-in-Ok-Formulate.ensures c.in-Ok-Formulate.form (g.K.Sink.taken c.args.out.now) (g.K.Sink.taken c.formulate.new.out) named c.formulate.ensures.took
+    formulate_took (g.S.Shelf.files c.args.shelf.now) c.as_str-in-Ok-Formulate.result.now asked c.from-in-Ok-Formulate.result
+    (formulate_status c.formulate.result) c.from-in-Ok-Formulate.ensures c.in-Ok-Formulate.form (g.K.Sink.taken c.args.out.now) (g.K.Sink.taken c.formulate.new.out) named c.formulate.ensures.took
 
 pub returns-in-Ok-Formulate-clause-decided : goal.returns-in-Ok-Formulate-clause-decided
 returns-in-Ok-Formulate-clause-decided g c = λ told asked is asks.
     let only = rw c.in-Ok-Formulate.field-0-is at c.in-Ok-Formulate.ensures.only in
     let named = only asked asks ∙ ap (λ n. formulate n c.in-Ok-Formulate.form) (sym c.as_str-in-Ok-Formulate.ensures.value) in
-    formulate_decides (g.S.Shelf.files c.args.shelf.now) c.as_str-in-Ok-Formulate.result.now asked c.from-in-Ok-Formulate.result (formulate_status c.formulate.result) c.from-in-Ok-Formulate.ensures c.in-Ok-Formulate.form told (g.S.Shelf.taken c.args.shelf.now) (g.S.Shelf.taken c.formulate.new.shelf) named is c.formulate.ensures.ends
+    formulate_decides (g.S.Shelf.files c.args.shelf.now) c.as_str-in-Ok-Formulate.result.now asked c.from-in-Ok-Formulate.result
+    (formulate_status c.formulate.result) c.from-in-Ok-Formulate.ensures c.in-Ok-Formulate.form told (g.S.Shelf.taken c.args.shelf.now)
+    (g.S.Shelf.taken c.formulate.new.shelf) named is c.formulate.ensures.ends
 
 pub returns-in-Ok-Make-clause-took : goal.returns-in-Ok-Make-clause-took
 returns-in-Ok-Make-clause-took g c = λ asked asks.
     let only = rw c.in-Ok-Make.field-0-is at c.in-Ok-Make.ensures.only in
-    make_took (g.S.Shelf.files c.args.shelf.now) [] asked c.from-in-Ok-Make.result (make_status c.make.result) c.from-in-Ok-Make.ensures c.in-Ok-Make.number (g.K.Sink.taken c.args.out.now) (g.K.Sink.taken c.make.new.out) (only asked asks) c.make.ensures.took
+    make_took (g.S.Shelf.files c.args.shelf.now) [] asked c.from-in-Ok-Make.result
+    (make_status c.make.result) c.from-in-Ok-Make.ensures c.in-Ok-Make.number (g.K.Sink.taken c.args.out.now) (g.K.Sink.taken c.make.new.out) (only asked asks) c.make.ensures.took
 
 pub returns-in-Ok-Make-clause-decided : goal.returns-in-Ok-Make-clause-decided
 returns-in-Ok-Make-clause-decided g c = λ told asked is asks.
     let only = rw c.in-Ok-Make.field-0-is at c.in-Ok-Make.ensures.only in
-    make_decides (g.S.Shelf.files c.args.shelf.now) [] asked c.from-in-Ok-Make.result (make_status c.make.result) c.from-in-Ok-Make.ensures c.in-Ok-Make.number told (only asked asks) c.make.ensures.ends
+    make_decides (g.S.Shelf.files c.args.shelf.now) [] asked c.from-in-Ok-Make.result
+    (make_status c.make.result) c.from-in-Ok-Make.ensures c.in-Ok-Make.number told (only asked asks) c.make.ensures.ends
 
 pub returns-in-Ok-Trial-clause-took : goal.returns-in-Ok-Trial-clause-took
 returns-in-Ok-Trial-clause-took g c = λ asked asks.
     let only = rw c.in-Ok-Trial.field-0-is at c.in-Ok-Trial.ensures.only in
-    trial_took (g.S.Shelf.files c.args.shelf.now) [] asked c.from-in-Ok-Trial.result (trial_status c.trial.result) c.from-in-Ok-Trial.ensures c.in-Ok-Trial.number (g.K.Sink.taken c.args.out.now) (g.K.Sink.taken c.trial.new.out) (only asked asks) c.trial.ensures.took
+    trial_took (g.S.Shelf.files c.args.shelf.now) [] asked c.from-in-Ok-Trial.result
+    (trial_status c.trial.result) c.from-in-Ok-Trial.ensures c.in-Ok-Trial.number (g.K.Sink.taken c.args.out.now) (g.K.Sink.taken c.trial.new.out) (only asked asks) c.trial.ensures.took
 
 pub returns-in-Ok-Trial-clause-decided : goal.returns-in-Ok-Trial-clause-decided
 returns-in-Ok-Trial-clause-decided g c = λ told asked is asks.
     let only = rw c.in-Ok-Trial.field-0-is at c.in-Ok-Trial.ensures.only in
-    trial_decides (g.S.Shelf.files c.args.shelf.now) [] asked c.from-in-Ok-Trial.result (trial_status c.trial.result) c.from-in-Ok-Trial.ensures c.in-Ok-Trial.number told (only asked asks) c.trial.ensures.ends
+    trial_decides (g.S.Shelf.files c.args.shelf.now) [] asked c.from-in-Ok-Trial.result
+    (trial_status c.trial.result) c.from-in-Ok-Trial.ensures c.in-Ok-Trial.number told (only asked asks) c.trial.ensures.ends
 
 -- ---- when each status comes
 
 pub returns-in-Ok-Solve-clause-ends : goal.returns-in-Ok-Solve-clause-ends
 returns-in-Ok-Solve-clause-ends g c = λ asked asks.
     let only = rw c.in-Ok-Solve.field-0-is at c.in-Ok-Solve.ensures.only in
-    ends_as (g.S.Shelf.files c.args.shelf.now) (g.S.Shelf.taken c.args.shelf.now) (g.S.Shelf.taken c.solve.new.shelf) asked (solve (shown_solving c.in-Ok-Solve.words)) c.from.result (solve_status c.solve.result)
+    ends_as (g.S.Shelf.files c.args.shelf.now) (g.S.Shelf.taken c.args.shelf.now) (g.S.Shelf.taken c.solve.new.shelf) asked
+    (solve (shown_solving c.in-Ok-Solve.words)) c.from.result (solve_status c.solve.result)
     (only asked asks) c.from.ensures c.solve.ensures.ends
 
 pub returns-in-Ok-Check-clause-ends : goal.returns-in-Ok-Check-clause-ends
 returns-in-Ok-Check-clause-ends g c = λ asked asks.
     let only = rw c.in-Ok-Check.field-0-is at c.in-Ok-Check.ensures.only in
     let named = only asked asks ∙ ap₂ check (sym c.as_str.ensures.value) (sym c.as_str-in-Ok-Check.ensures.value) in
-    ends_as (g.S.Shelf.files c.args.shelf.now) (g.S.Shelf.taken c.args.shelf.now) (g.S.Shelf.taken c.check.new.shelf) asked (check c.as_str.result.now c.as_str-in-Ok-Check.result.now) c.from-in-Ok-Check.result (check_status c.check.result)
+    ends_as (g.S.Shelf.files c.args.shelf.now) (g.S.Shelf.taken c.args.shelf.now) (g.S.Shelf.taken c.check.new.shelf) asked
+    (check c.as_str.result.now c.as_str-in-Ok-Check.result.now) c.from-in-Ok-Check.result (check_status c.check.result)
     named c.from-in-Ok-Check.ensures c.check.ensures.ends
 
 pub returns-in-Ok-Report-clause-ends : goal.returns-in-Ok-Report-clause-ends
 returns-in-Ok-Report-clause-ends g c = λ asked asks.
     let only = rw c.in-Ok-Report.field-0-is at c.in-Ok-Report.ensures.only in
     let named = only asked asks ∙ ap₂ report (sym c.as_str-in-Ok-Report.ensures.value) (sym c.as_str-in-Ok-Report-2.ensures.value) in
-    ends_as (g.S.Shelf.files c.args.shelf.now) (g.S.Shelf.taken c.args.shelf.now) (g.S.Shelf.taken c.report.new.shelf) asked (report c.as_str-in-Ok-Report.result.now c.as_str-in-Ok-Report-2.result.now) c.from-in-Ok-Report.result (report_status c.report.result)
+    ends_as (g.S.Shelf.files c.args.shelf.now) (g.S.Shelf.taken c.args.shelf.now) (g.S.Shelf.taken c.report.new.shelf) asked
+    (report c.as_str-in-Ok-Report.result.now c.as_str-in-Ok-Report-2.result.now) c.from-in-Ok-Report.result (report_status c.report.result)
     named c.from-in-Ok-Report.ensures c.report.ensures.ends
 
 pub returns-in-Ok-Formulate-clause-ends : goal.returns-in-Ok-Formulate-clause-ends
 returns-in-Ok-Formulate-clause-ends g c = λ asked asks.
     let only = rw c.in-Ok-Formulate.field-0-is at c.in-Ok-Formulate.ensures.only in
     let named = only asked asks ∙ ap (λ n. formulate n c.in-Ok-Formulate.form) (sym c.as_str-in-Ok-Formulate.ensures.value) in
-    ends_as (g.S.Shelf.files c.args.shelf.now) (g.S.Shelf.taken c.args.shelf.now) (g.S.Shelf.taken c.formulate.new.shelf) asked (formulate c.as_str-in-Ok-Formulate.result.now c.in-Ok-Formulate.form) c.from-in-Ok-Formulate.result (formulate_status c.formulate.result)
+    ends_as (g.S.Shelf.files c.args.shelf.now) (g.S.Shelf.taken c.args.shelf.now) (g.S.Shelf.taken c.formulate.new.shelf) asked
+    (formulate c.as_str-in-Ok-Formulate.result.now c.in-Ok-Formulate.form) c.from-in-Ok-Formulate.result (formulate_status c.formulate.result)
     named c.from-in-Ok-Formulate.ensures c.formulate.ensures.ends
 
 -- ---- the journal

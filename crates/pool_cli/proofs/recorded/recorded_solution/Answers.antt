@@ -43,9 +43,10 @@ returns-clause-journal g c = λ tells.
     let attach = quiet-call g.D.Disk.moment g.D.Disk.left_since g.D.Disk.may_leave g.met.D.Disk.counts_now g.met.D.Disk.only_now old mid c.attach.ensures.time c.attach.ensures.crash in
     let found = searched_of c.in_ok-outcome.outcome.tree.kept in
     subst (λ (text : List ℕ). IsOpened n text c.args.orders (LeavesOnly g.D.Disk.moment g.D.Disk.left_since old new) (g.D.Disk.may_leave old) (g.D.Disk.reads new) (g.D.Disk.may_leave new)
-        (Ok (record { certificate = c.in_ok-certificate.certificate; ended = c.in_ok-outcome.outcome.ended }))) (c.deref.ensures.value ∙ c.in_ok-text.ensures.text)
+    (Ok (record { certificate = c.in_ok-certificate.certificate; ended = c.in_ok-outcome.outcome.ended }))) (c.deref.ensures.value ∙ c.in_ok-text.ensures.text)
     (inr (attached-solved g.D.Disk.moment g.D.Disk.left_since g.D.Disk.reads g.D.Disk.may_leave g.met.D.Disk.counts_now n c.deref.result.now c.args.orders at.0 old mid new at.2 attach
-    c.sizes-limited.ensures.limited found c.in_ok-outcome.outcome.ended (λ k. shown_cert c.in_ok-certificate.certificate ≡ k) at.1 (λ cause has. c.in_ok-outcome.ensures.decided at.0 cause at.1 has) c.in_ok-outcome.ensures.run
+    c.sizes-limited.ensures.limited found c.in_ok-outcome.outcome.ended (λ k. shown_cert c.in_ok-certificate.certificate ≡ k) at.1
+    (λ cause has. c.in_ok-outcome.ensures.decided at.0 cause at.1 has) c.in_ok-outcome.ensures.run
     (subst (IsValid n) c.in_ok-certificate.ensures.found c.in_ok-certificate.ensures.valid) c.in_ok-certificate.ensures.found (λ first own. c.in_ok-outcome.ensures.any_moment at.0 first at.1 own)))
 
 -- ---- where no answer is given
@@ -59,7 +60,11 @@ pub returns-in_err-attach-clause-journal : goal.returns-in_err-attach-clause-jou
 returns-in_err-attach-clause-journal g c =
     let p = err_from_is_err_and c.from_residual-in_err-attach.result c.from_residual-in_err-attach.ensures.1 in
     rw (p.1, p.2)
-    (λ tells. inl (tt, quiet-call g.D.Disk.moment g.D.Disk.left_since g.D.Disk.may_leave g.met.D.Disk.counts_now g.met.D.Disk.only_now c.args.disk.now c.attach.new.self c.attach.ensures.time c.attach.ensures.crash))
+    (λ tells. inl (
+      tt,
+      quiet-call g.D.Disk.moment g.D.Disk.left_since g.D.Disk.may_leave g.met.D.Disk.counts_now g.met.D.Disk.only_now c.args.disk.now
+          c.attach.new.self c.attach.ensures.time c.attach.ensures.crash,
+    ))
 
 pub returns-in_err-outcome-clause-journal : goal.returns-in_err-outcome-clause-journal
 returns-in_err-outcome-clause-journal g c =
@@ -73,7 +78,8 @@ returns-in_err-outcome-clause-journal g c =
     let fault = c.in_err-outcome.field-0.0 in
     let at = one_of-file (g.D.Disk.reads mid) (g.D.Disk.may_leave old) (c.in_ok-attach.ensures.open tells) in
     let attach = quiet-call g.D.Disk.moment g.D.Disk.left_since g.D.Disk.may_leave g.met.D.Disk.counts_now g.met.D.Disk.only_now old mid c.attach.ensures.time c.attach.ensures.crash in
-    subst (λ (text : List ℕ). IsOpened n text c.args.orders (LeavesOnly g.D.Disk.moment g.D.Disk.left_since old new) (g.D.Disk.may_leave old) (g.D.Disk.reads new) (g.D.Disk.may_leave new) (Err fault)) (c.deref.ensures.value ∙ c.in_ok-text.ensures.text)
+    subst (λ (text : List ℕ). IsOpened n text c.args.orders (LeavesOnly g.D.Disk.moment g.D.Disk.left_since old new) (g.D.Disk.may_leave old)
+    (g.D.Disk.reads new) (g.D.Disk.may_leave new) (Err fault)) (c.deref.ensures.value ∙ c.in_ok-text.ensures.text)
     (inr (attached-unsolved g.D.Disk.moment g.D.Disk.left_since g.D.Disk.reads g.D.Disk.may_leave g.met.D.Disk.counts_now n c.deref.result.now c.args.orders at.0 old mid new at.2 attach
     fault (shows (Err fault)) (c.in_err-outcome.ensures.refused at.0 at.1) (λ cause has. c.in_err-outcome.ensures.decided at.0 cause at.1 has) c.in_err-outcome.ensures.untouched
     (λ first own. c.in_err-outcome.ensures.any_moment at.0 first at.1 own))))
@@ -90,7 +96,8 @@ returns-in_err-certificate-clause-journal g c =
     let fault = faults.Journal journal_faults.Memory in
     let at = one_of-file (g.D.Disk.reads mid) (g.D.Disk.may_leave old) (c.in_ok-attach.ensures.open tells) in
     let attach = quiet-call g.D.Disk.moment g.D.Disk.left_since g.D.Disk.may_leave g.met.D.Disk.counts_now g.met.D.Disk.only_now old mid c.attach.ensures.time c.attach.ensures.crash in
-    subst (λ (text : List ℕ). IsOpened n text c.args.orders (LeavesOnly g.D.Disk.moment g.D.Disk.left_since old new) (g.D.Disk.may_leave old) (g.D.Disk.reads new) (g.D.Disk.may_leave new) (Err fault)) (c.deref.ensures.value ∙ c.in_ok-text.ensures.text)
+    subst (λ (text : List ℕ). IsOpened n text c.args.orders (LeavesOnly g.D.Disk.moment g.D.Disk.left_since old new) (g.D.Disk.may_leave old)
+    (g.D.Disk.reads new) (g.D.Disk.may_leave new) (Err fault)) (c.deref.ensures.value ∙ c.in_ok-text.ensures.text)
     (inr (attached-unsolved g.D.Disk.moment g.D.Disk.left_since g.D.Disk.reads g.D.Disk.may_leave g.met.D.Disk.counts_now n c.deref.result.now c.args.orders at.0 old mid new at.2 attach
     fault (shows (Err fault)) (inl (inr refl)) (λ cause has. inl (inr refl)) (inl (inr refl))
     (λ first own. let goes = c.in_ok-outcome.ensures.any_moment at.0 first at.1 own in (goes.0, goes.1, goes.2, tt)))))

@@ -32,8 +32,8 @@ returns-in-Ok-report-clause-took g c =
 pub returns-in-Ok-report-clause-judged : goal.returns-in-Ok-report-clause-judged
 returns-in-Ok-report-clause-judged g c = let v = c.requires.valid in (v.certificate, v.spelled, v.valid)
 
-pub returns-in-Err-report-clause-took : goal.returns-in-Err-report-clause-took
-returns-in-Err-report-clause-took g c =
+pub returns-in-Ok-clause-took : goal.returns-in-Ok-clause-took
+returns-in-Ok-clause-took g c =
     let v = c.requires.valid in
     let network = c.args.network.now in
     let cert = shown_cert c.in-Ok.cert in

@@ -10,4 +10,5 @@ returns-in-Err-clause-took g c = λ files s answers.
 
 pub returns-in-Ok-clause-took : goal.returns-in-Ok-clause-took
 returns-in-Ok-clause-took g c = λ files s answers.
-    took_whole files s c.args.solution.now.ended (text_of (shown_cert c.args.solution.now.certificate)) (g.K.Sink.taken c.args.out.now) (g.K.Sink.taken c.write_cert.new.out) answers c.in-Ok.ensures.wrote
+    took_whole files s c.args.solution.now.ended (text_of (shown_cert c.args.solution.now.certificate)) (g.K.Sink.taken c.args.out.now)
+    (g.K.Sink.taken c.write_cert.new.out) answers c.in-Ok.ensures.wrote

@@ -34,17 +34,21 @@ pub returns-in-Ok-clause-ends : goal.returns-in-Ok-clause-ends
 returns-in-Ok-clause-ends g c = λ files before after reads.
     let found = c.in-Ok.solution in
     let begun = c.in-Ok.ensures.solved in
-    solution_ends files (shown_solving c.args.words.now) c.args.net.now reads c.in-Some.ensures.within before after (made_by begun.first) (shown_cert found.certificate) (status_of found.ended) (solve_status c.print.result)
-    (subst (λ (o : Orders). IsSolutionFrom (net_of c.args.net.now) o (made_by begun.first) (status_of found.ended) (shown_cert found.certificate)) c.in-Some.ensures.orders begun.solution) c.print.ensures.ended
+    solution_ends files (shown_solving c.args.words.now) c.args.net.now reads c.in-Some.ensures.within before after (made_by begun.first)
+    (shown_cert found.certificate) (status_of found.ended) (solve_status c.print.result)
+    (subst (λ (o : Orders). IsSolutionFrom (net_of c.args.net.now) o (made_by begun.first) (status_of found.ended)
+    (shown_cert found.certificate)) c.in-Some.ensures.orders begun.solution) c.print.ensures.ended
 
 pub returns-in-Ok-clause-journal : goal.returns-in-Ok-clause-journal
 returns-in-Ok-clause-journal g c = λ files file reads named tells.
     let old = c.args.disk.now in
     let new = c.solution_for.new.disk in
     let n = net_of c.args.net.now in
-    journaled-printed files (shown_solving c.args.words.now) c.args.net.now reads c.in-Some.ensures.within (LeavesOnly g.D.Disk.moment g.D.Disk.left_since old new) (g.D.Disk.may_leave old) (g.D.Disk.reads new) (g.D.Disk.may_leave new)
+    journaled-printed files (shown_solving c.args.words.now) c.args.net.now reads c.in-Some.ensures.within
+    (LeavesOnly g.D.Disk.moment g.D.Disk.left_since old new) (g.D.Disk.may_leave old) (g.D.Disk.reads new) (g.D.Disk.may_leave new)
     (g.K.Sink.taken c.args.out.now) (g.K.Sink.taken c.print.new.out) c.in-Ok.solution (solve_status c.print.result) c.print.ensures.ended c.print.ensures.whole
-    (subst (λ (o : Orders). IsOpened n (canonical_text c.args.net.now) o (LeavesOnly g.D.Disk.moment g.D.Disk.left_since old new) (g.D.Disk.may_leave old) (g.D.Disk.reads new) (g.D.Disk.may_leave new) (Ok c.in-Ok.solution)) c.in-Some.ensures.orders
+    (subst (λ (o : Orders). IsOpened n (canonical_text c.args.net.now) o (LeavesOnly g.D.Disk.moment g.D.Disk.left_since old new)
+    (g.D.Disk.may_leave old) (g.D.Disk.reads new) (g.D.Disk.may_leave new) (Ok c.in-Ok.solution)) c.in-Some.ensures.orders
     (c.in-Ok.ensures.journal file named tells))
 
 pub returns-in-Err-clause-journal : goal.returns-in-Err-clause-journal
@@ -52,9 +56,11 @@ returns-in-Err-clause-journal g c = λ files file reads named tells.
     let old = c.args.disk.now in
     let new = c.solution_for.new.disk in
     let n = net_of c.args.net.now in
-    journaled-unsolved files (shown_solving c.args.words.now) c.args.net.now reads c.in-Some.ensures.within (LeavesOnly g.D.Disk.moment g.D.Disk.left_since old new) (g.D.Disk.may_leave old) (g.D.Disk.reads new) (g.D.Disk.may_leave new)
+    journaled-unsolved files (shown_solving c.args.words.now) c.args.net.now reads c.in-Some.ensures.within
+    (LeavesOnly g.D.Disk.moment g.D.Disk.left_since old new) (g.D.Disk.may_leave old) (g.D.Disk.reads new) (g.D.Disk.may_leave new)
     (g.K.Sink.taken c.args.out.now) (g.K.Sink.taken c.args.out.now) c.in-Err.fault
-    (subst (λ (o : Orders). IsOpened n (canonical_text c.args.net.now) o (LeavesOnly g.D.Disk.moment g.D.Disk.left_since old new) (g.D.Disk.may_leave old) (g.D.Disk.reads new) (g.D.Disk.may_leave new) (Err c.in-Err.fault)) c.in-Some.ensures.orders
+    (subst (λ (o : Orders). IsOpened n (canonical_text c.args.net.now) o (LeavesOnly g.D.Disk.moment g.D.Disk.left_since old new)
+    (g.D.Disk.may_leave old) (g.D.Disk.reads new) (g.D.Disk.may_leave new) (Err c.in-Err.fault)) c.in-Some.ensures.orders
     (c.in-Err.ensures.journal file named tells))
 
 pub returns-in_default-clause-journal : goal.returns-in_default-clause-journal

@@ -19,4 +19,5 @@ returns-clause-wrote g c =
     let fits : FitsSigned w128 c.from.result = search rules in
     let number : to_z w128 (of_z w128 c.from.result) ≡ pos (faults.number c.args.fault.now) = to_z-of_z w128 c.from.result fits ∙ c.from.ensures ∙ ap pos c.number.ensures in
     let wrote = subst (λ (z : ℤ). Wrote c.write_number.result (g.K.Sink.taken c.write_whole.new.out) (signed_decimal z) (g.K.Sink.taken c.write_number.new.out)) number c.write_number.ensures.wrote in
-    wrote-behind c.write_number.result (g.K.Sink.taken c.args.err.now) (codes "9 ") (g.K.Sink.taken c.write_whole.new.out) (signed_decimal (pos (faults.number c.args.fault.now))) (g.K.Sink.taken c.write_number.new.out) c.in_ok-write_whole.ensures.wrote wrote
+    wrote-behind c.write_number.result (g.K.Sink.taken c.args.err.now) (codes "9 ") (g.K.Sink.taken c.write_whole.new.out)
+    (signed_decimal (pos (faults.number c.args.fault.now))) (g.K.Sink.taken c.write_number.new.out) c.in_ok-write_whole.ensures.wrote wrote

@@ -14,4 +14,5 @@ returns-in_err-write_whole-clause-wrote g c =
 pub returns-clause-wrote : goal.returns-clause-wrote
 returns-clause-wrote g c =
     let fits : FitsSigned w128 c.args.n = search rules in
-    wrote-behind c.write_number.result (g.K.Sink.taken c.args.out.now) c.args.word.now (g.K.Sink.taken c.write_whole.new.out) (signed_decimal c.args.n) (g.K.Sink.taken c.write_number.new.out) c.in_ok-write_whole.ensures.wrote (simp to_z-of_z at c.write_number.ensures.wrote)
+    wrote-behind c.write_number.result (g.K.Sink.taken c.args.out.now) c.args.word.now (g.K.Sink.taken c.write_whole.new.out)
+    (signed_decimal c.args.n) (g.K.Sink.taken c.write_number.new.out) c.in_ok-write_whole.ensures.wrote (simp to_z-of_z at c.write_number.ensures.wrote)

@@ -11,9 +11,13 @@ pub returns-in_err-write_labelled-clause-wrote : goal.returns-in_err-write_label
 returns-in_err-write_labelled-clause-wrote g c =
     let fits : FitsSigned w128 (pos c.args.node) = search rules in
     let p = err_from_is_err_and c.from_residual.result c.from_residual.ensures.1 in
-    rw p.1 (front-first (g.K.Sink.taken c.args.out.now) (labelled (codes "refused proof ") (pos c.args.node)) (numbered (codes " ") (pos (proofs.number c.args.fault.now))) (g.K.Sink.taken c.write_labelled.new.out) (simp to_z-of_z at (rw c.from.ensures at c.in_err-write_labelled.ensures.wrote)))
+    rw p.1 (front-first (g.K.Sink.taken c.args.out.now) (labelled (codes "refused proof ") (pos c.args.node))
+    (numbered (codes " ") (pos (proofs.number c.args.fault.now))) (g.K.Sink.taken c.write_labelled.new.out) (simp to_z-of_z at (rw c.from.ensures at c.in_err-write_labelled.ensures.wrote)))
 
 pub returns-clause-wrote : goal.returns-clause-wrote
 returns-clause-wrote g c =
     let fits : FitsSigned w128 (pos c.args.node) = search rules in
-    wrote-behind c.write_placed.result (g.K.Sink.taken c.args.out.now) (labelled (codes "refused proof ") (pos c.args.node)) (g.K.Sink.taken c.write_labelled.new.out) (numbered (codes " ") (pos (proofs.number c.args.fault.now))) (g.K.Sink.taken c.write_placed.new.out) (simp to_z-of_z at (rw c.from.ensures at c.in_ok-write_labelled.ensures.wrote)) (rw c.number.ensures at (rw c.from-2.ensures at c.write_placed.ensures.wrote))
+    wrote-behind c.write_placed.result (g.K.Sink.taken c.args.out.now) (labelled (codes "refused proof ") (pos c.args.node))
+    (g.K.Sink.taken c.write_labelled.new.out) (numbered (codes " ") (pos (proofs.number c.args.fault.now)))
+    (g.K.Sink.taken c.write_placed.new.out) (simp to_z-of_z at (rw c.from.ensures at c.in_ok-write_labelled.ensures.wrote))
+    (rw c.number.ensures at (rw c.from-2.ensures at c.write_placed.ensures.wrote))
