@@ -1,0 +1,114 @@
+"""The bytes of a journal, by docs/FORMATS.md alone: written for the tests that make journals by hand, and read for those that look
+at what a run left. The canonical text of a network, which a journal holds, is made here too."""
+
+import json
+import struct
+import sys
+from importlib.machinery import SourceFileLoader
+from pathlib import Path
+
+sys.dont_write_bytecode = True
+TOP = Path(__file__).resolve().parent.parent
+checker = SourceFileLoader("second_checker", str(TOP / "tools" / "second_checker.py")).load_module()
+MAGIC = b"POOLJNL"
+GATE = 1  # of an open gate
+HEAD = 5  # a gate and the length of a payload
+
+
+# ---- written
+
+
+def header(text, birth=1, version=1):
+    return bytes([birth]) + MAGIC + bytes([version]) + struct.pack(">I", len(text)) + text.encode()
+
+
+def record(payload, gate=GATE):
+    return bytes([gate]) + struct.pack(">I", len(payload)) + payload
+
+
+def journal(text, *payloads):
+    """A whole journal: its records have open gates, and a closed gate stands behind them."""
+    return header(text) + b"".join(map(record, payloads)) + b"\0"
+
+
+def proof(scale, *parts):
+    return struct.pack(">QI", scale, len(parts)) + b"".join(struct.pack(">Iq", row, mult) for row, mult in parts)
+
+
+def root(proof_bytes):
+    return b"\0" + proof_bytes
+
+
+def split(leaf, coord, cut, left=None, right=None):
+    return b"\1" + struct.pack(">HIq", leaf, coord, cut) + b"".join(b"\1" + half if half else b"\0" for half in (left, right))
+
+
+def plan(base, flow_base, weights, outflows, direct):
+    lists = [(">I", weights), (">Q", outflows), (">Q", direct)]
+    written = [struct.pack(">H", len(numbers)) + b"".join(struct.pack(form, n) for n in numbers) for form, numbers in lists]
+    return b"\2" + struct.pack(">II", base, flow_base) + b"".join(written)
+
+
+# ---- read
+
+
+def is_unborn(data):
+    """Whether no journal has come to be yet in a file."""
+    return len(data) <= 1 or data[0] == 0 or data[0] >= 2 and data[1:8] == MAGIC
+
+
+def text_of(data):
+    """The text that a born file holds."""
+    [length] = struct.unpack(">I", data[9:13])
+    return data[13 : 13 + length].decode()
+
+
+def places(data):
+    """Where each record's gate stands, up to the first closed one and with it."""
+    at = 0 if is_unborn(data) else len(header(text_of(data)))
+    found = [at]
+    while not is_unborn(data) and data[at : at + 1] == bytes([GATE]):
+        at += HEAD + struct.unpack(">I", data[at + 1 : at + HEAD])[0]
+        found.append(at)
+    return found
+
+
+def payloads(data):
+    """The payloads of a file's records, up to the first closed gate."""
+    gates = places(data)
+    return [data[at + HEAD : end] for at, end in zip(gates, gates[1:])]
+
+
+def splits(entries):
+    """The splits among the payloads, each as a line of a certificate has it."""
+    cuts = [struct.unpack(">HIq", entry[1:15]) for entry in entries if entry[0] == 1]
+    return [f"split {leaf} {coord} {cut}" for leaf, coord, cut in cuts]
+
+
+# ---- the canonical text
+
+
+def amount(millionths):
+    """A quantity: a number where it is of whole units, else a text with as few decimals as it needs."""
+    whole, rest = divmod(abs(millionths), 10**6)
+    sign = "-" if millionths < 0 else ""
+    return int(f"{sign}{whole}") if not rest else f"{sign}{whole}.{rest:06}".rstrip("0")
+
+
+def canonical(data):
+    """The canonical text of the network in the bytes of a network file."""
+    net = checker.judge_rows(checker.walk(checker.parse_json(data)))
+    names = net.qualities
+
+    def of_qualities(amounts):
+        return {names[k]: amount(value) for k, value in amounts.items()}
+
+    sources = [{"name": s.name, "cost": amount(s.cost), "max": amount(s.max), "quality": of_qualities(s.quality)} for s in net.sources]
+    pools = [{"name": p.name, "max": amount(p.max)} for p in net.pools]
+    products = [{"name": p.name, "price": amount(p.price), "min": amount(p.min), "max": amount(p.max),
+                 "least": of_qualities(p.least), "most": of_qualities(p.most)} for p in net.products]
+    arcs = [[net.sources[s].name, net.pools[p].name] for s, p in net.feeds]
+    arcs += [[net.pools[p].name, net.products[x].name] for p, x in net.outs]
+    arcs += [[net.sources[s].name, net.products[x].name] for s, x in net.directs]
+    tree = {"arcs": arcs, "pools": pools, "products": products, "qualities": names, "sources": sources, "version": 1}
+    return json.dumps(tree, sort_keys=True, separators=(",", ":"), ensure_ascii=False)
