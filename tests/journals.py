@@ -503,7 +503,7 @@ def watched(trial, case):
     while len(lines.read_text().splitlines()) <= len(case.entries()) and time.monotonic() < ends:
         time.sleep(0.02)
     watch.send_signal(signal.SIGINT)
-    watch.communicate(timeout=10)
+    watch.communicate(timeout=60)
     yield from differs("the watch's end", watch.returncode, 0)
     shown = [line.split(None, 5) for line in lines.read_text().splitlines()[1:]]
     yield from differs("lines of the watch", len(shown), len(case.entries()))

@@ -220,7 +220,7 @@ def live(folder):
     yield from wants(line(0, "-300.000000", "-300.000000", "0.000000", "a better plan")[9:])
     time.sleep(0.1)
     writer.run.send_signal(signal.SIGINT)
-    if writer.run.wait(10) != 0:
+    if writer.run.wait(60) != 0:
         yield f"the watch ends with {writer.run.returncode} where it is interrupted"
     if (folder / "live").read_bytes() != journal(ROW1, SHIP):
         yield "the journal was changed by who watched it"
