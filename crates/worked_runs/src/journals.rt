@@ -119,7 +119,9 @@ fn a_file_is_refused_by_what_it_is(rt: HostRuntime) -> Result<(), Fail> {
     let file = disk.image(disk.moment(), 0)?;
     assert_eq!(rt; code_over(alloc, HAVERLY_1, &[file.as_slice()])?, 0);
     assert_eq!(rt; code_over(alloc, HAVERLY_2, &[file.as_slice()])?, 30);
-    let later = code_over(alloc, HAVERLY_1, &[&file[..8], b"\x07", &file[9..]])?;
+    let head = file.get(..8).ok_or("a head")?;
+    let rest = file.get(9..).ok_or("a version")?;
+    let later = code_over(alloc, HAVERLY_1, &[head, b"\x07", rest])?;
     assert_eq!(rt; later, 32);
     let mut foreign = disk_of(alloc, &[HAVERLY_1.as_bytes()], 1000)?;
     let mut sink = MemSink::new(alloc, Vec::new(alloc));
