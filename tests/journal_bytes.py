@@ -2,6 +2,7 @@
 at what a run left. The canonical text of a network, which a journal holds, is made here too."""
 
 import json
+import signal
 import struct
 import sys
 from importlib.machinery import SourceFileLoader
@@ -13,6 +14,12 @@ checker = SourceFileLoader("second_checker", str(TOP / "tools" / "second_checker
 MAGIC = b"POOLJNL"
 GATE = 1  # of an open gate
 HEAD = 5  # a gate and the length of a payload
+
+
+
+def heeds_interrupts():
+    """For a program that is started to be interrupted: a shell has what it starts in the background ignore that."""
+    signal.signal(signal.SIGINT, signal.SIG_DFL)
 
 
 # ---- written

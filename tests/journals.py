@@ -495,7 +495,7 @@ def watched(trial, case):
     trial.journal.unlink(missing_ok=True)
     lines = trial.folder / "lines"
     with open(lines, "w") as out:
-        watch = subprocess.Popen([str(TOP / "tools" / "watch"), str(trial.journal), "--every", "0.01"], stdout=out, stderr=subprocess.PIPE, text=True)
+        watch = subprocess.Popen([str(TOP / "tools" / "watch"), str(trial.journal), "--every", "0.01"], stdout=out, stderr=subprocess.PIPE, text=True, preexec_fn=made.heeds_interrupts)
     while not lines.read_text():
         time.sleep(0.01)
     yield from differs("a watched run", trial.solve(case), case.done)

@@ -21,7 +21,7 @@ from pathlib import Path
 sys.dont_write_bytecode = True
 TOP = Path(__file__).resolve().parent.parent
 sys.path.insert(0, str(TOP / "tools"))
-from journal_bytes import header, journal, plan, proof, record, root, split
+from journal_bytes import header, heeds_interrupts, journal, plan, proof, record, root, split
 
 tool = SourceFileLoader("watch", str(TOP / "tools" / "watch")).load_module()
 HEAD = "  seconds  splits                 bound             best cost                   gap  recorded"
@@ -172,7 +172,7 @@ class Writer:
     def __init__(self, folder):
         self.file = folder / "live"
         words = [str(TOP / "tools" / "watch"), "live", "--every", "0.02", "--plot", "live.svg"]
-        self.run = subprocess.Popen(words, stdout=subprocess.PIPE, stderr=subprocess.PIPE, text=True, cwd=folder)
+        self.run = subprocess.Popen(words, stdout=subprocess.PIPE, stderr=subprocess.PIPE, text=True, cwd=folder, preexec_fn=heeds_interrupts)
 
     def put(self, at, data):
         with open(self.file, "r+b" if self.file.exists() else "w+b") as file:
@@ -260,7 +260,7 @@ def words_and_files(folder):
     cases = [(["--help"], 0), ([], 2), (["row1", "row1"], 2), (["row1", "--every", "0"], 2), (["nowhere", "--once"], 20), ([".", "--once"], 20),
              (["row1", "--once", "--plot", "nowhere/plot.svg"], 21)]
     for words, status in cases:
-        found = subprocess.run([str(TOP / "tools" / "watch"), *words], capture_output=True, text=True, cwd=folder)
+        found = subprocess.run([str(TOP / "tools" / "watch"), *words], capture_output=True, text=True, cwd=folder, preexec_fn=heeds_interrupts)
         if found.returncode != status or "Traceback" in found.stderr:
             yield f"{words} ends with {found.returncode}: {found.stderr}"
 
