@@ -5,7 +5,7 @@ use edge_io::{MemShelf, MemSink};
 use pool_cli::run;
 use std::alloc::{AllocError, Global};
 use std::test::Fail;
-use worked_networks::{HAVERLY_1, HAVERLY_2, HAVERLY_3};
+use worked_networks::{HAVERLY_1, HAVERLY_2, HAVERLY_3, SOUR_DIRECT};
 
 /// Words, parted at each space.
 pub(crate) fn words_of(alloc: Global, line: &str) -> Result<Vec<String>, AllocError> {
@@ -116,6 +116,49 @@ fn plan_and_bound_meet_at_the_best_cost(rt: HostRuntime) -> Result<(), Fail> {
         let least = best.saturating_sub(1).saturating_mul(thousandth);
         assert!(rt; cost <= most.saturating_mul(base));
         assert!(rt; bound >= least);
+    }
+    Ok(())
+}
+
+/// One pool has to serve X, which wants sulfur of at least 2.5, and Y, which stands 1.5. No plan does, since a pool has one quality;
+/// the root box alone doesn't show it.
+const TORN: &str =
+    r#"{"version":1,"qualities":["sulfur"],"sources":[{"name":"A","cost":6,"quality":{"sulfur":3}},{"name":"B","cost":16,"quality":{"sulfur":1}}],"pools":[{"name":"P"}],"products":[{"name":"X","price":9,"min":10,"max":100,"least":{"sulfur":"2.5"}},{"name":"Y","price":15,"min":10,"max":100,"most":{"sulfur":"1.5"}}],"arcs":[["A","P"],["B","P"],["P","X"],["P","Y"]]}"#;
+
+/// X may take one part of A in 65,537, a prime: no plan that can be written takes just that. There is no pool, and so no coordinate.
+const ONE_IN_A_PRIME: &str =
+    r#"{"version":1,"qualities":["sulfur"],"sources":[{"name":"A","cost":1,"quality":{"sulfur":"0.065537"}},{"name":"B","cost":2,"quality":{"sulfur":0}}],"products":[{"name":"X","price":3,"max":100,"most":{"sulfur":"0.000001"}}],"arcs":[["A","X"],["B","X"]]}"#;
+
+/// The network of a name; no text under any other.
+fn network_under(name: &str) -> &'static str {
+    match name {
+        "haverly" => HAVERLY_1,
+        "prime" => ONE_IN_A_PRIME,
+        "sour" => SOUR_DIRECT,
+        "torn" => TORN,
+        _ => "",
+    }
+}
+
+/// Networks with options of `solve`, and the code that it ends with: stopped, stuck, infeasible (which the root shows, or only its
+/// halves), undecided.
+const ENDS: &str = "\
+haverly --nodes 0 --gap 0 = 10
+prime --gap 0 = 11
+sour --nodes 0 = 12
+torn --nodes 9 = 12
+torn --nodes 0 = 13
+";
+
+#[test]
+fn ends_by_what_was_found(rt: HostRuntime) -> Result<(), Fail> {
+    let alloc = rt.alloc();
+    for line in ENDS.lines() {
+        let (asked, code) = line.split_once(" = ").ok_or("a code")?;
+        let (network, options) = asked.split_once(' ').ok_or("options")?;
+        let mut sink = MemSink::new(alloc, Vec::new(alloc));
+        let ended = solved(alloc, network_under(network), options, &mut sink)?;
+        assert_eq!(rt; format!(in alloc; "{ended}")?.as_str(), code);
     }
     Ok(())
 }
