@@ -16,7 +16,6 @@ GATE = 1  # of an open gate
 HEAD = 5  # a gate and the length of a payload
 
 
-
 def heeds_interrupts():
     """For a program that is started to be interrupted: a shell has what it starts in the background ignore that."""
     signal.signal(signal.SIGINT, signal.SIG_DFL)
@@ -66,8 +65,7 @@ def is_unborn(data):
 
 def text_of(data):
     """The text that a born file holds."""
-    [length] = struct.unpack(">I", data[9:13])
-    return data[13 : 13 + length].decode()
+    return data[13 : 13 + int.from_bytes(data[9:13], "big")].decode()
 
 
 def places(data):
@@ -75,7 +73,7 @@ def places(data):
     at = 0 if is_unborn(data) else len(header(text_of(data)))
     found = [at]
     while not is_unborn(data) and data[at : at + 1] == bytes([GATE]):
-        at += HEAD + struct.unpack(">I", data[at + 1 : at + HEAD])[0]
+        at += HEAD + int.from_bytes(data[at + 1 : at + HEAD], "big")
         found.append(at)
     return found
 

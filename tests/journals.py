@@ -31,6 +31,7 @@ TOP = Path(__file__).resolve().parent.parent
 EXAMPLES = TOP / "examples"
 NOBODY = 65534
 SEED = 1978
+KILLS = 200
 DISK_FAULT = "pool: disk fault\n"
 ROW1 = EXAMPLES / "row1.json"
 SHIP = plan(1, 1, [], [], [100000000])  # the best plan of row1: 100 units
@@ -67,10 +68,10 @@ class Case:
 class Trial:
     """The program, a folder to try it in, and how often what was tried."""
 
-    def __init__(self, pool, folder, long):
-        self.pool, self.folder, self.long = pool, folder, long
+    def __init__(self, pool, folder, tried):
+        self.pool, self.folder, self.tried = pool, folder, tried
         self.journal = folder / "run.journal"
-        self.random, self.tried, self.accepted = random.Random(SEED), Counter(), {}
+        self.random, self.accepted = random.Random(SEED), {}
 
     def words(self, case, journal=None):
         return [str(self.pool), "solve", str(case.net), *case.options, "--journal", str(journal or self.journal)]
@@ -208,7 +209,7 @@ def torn_births(trial, case):
     for length in range(1, len(born)):
         noise = trial.random.randbytes(length)
         kept = trial.random.randrange(length)
-        for data in (b"\0" + born[1:length], b"\0" + born[1 : 1 + kept] + noise[kept:], b"\0" + noise):
+        for data in (b"\0" + born[1:length], b"\0" + born[1 : 1 + kept] + noise[kept:]):
             trial.file(data)
             yield from ends_as(trial, case, f"a birth torn at {length}")
             yield from differs(f"a birth torn at {length}: the file", trial.left(), case.file)
@@ -338,7 +339,7 @@ def killed(trial, case, kills):
     stopped = ends = 0
     while stopped < kills:
         trial.journal.unlink(missing_ok=True)
-        held = []
+        held, begun = [], time.monotonic()
         while True:
             run = subprocess.Popen(trial.words(case), stdout=subprocess.PIPE, stderr=subprocess.PIPE, text=True)
             try:
@@ -352,8 +353,9 @@ def killed(trial, case, kills):
             yield from differs(f"{case.label}: entries from before kill {stopped}", found[: len(held)], held)
             yield from differs(f"{case.label}: entries of an unbroken run, at kill {stopped}", found, case.entries()[: len(found)])
             trial.tried["entries resumed from"] += len(found)
-            held = found
+            held, begun = found, 0
         ends += 1
+        case.seconds = min(case.seconds, time.monotonic() - begun)
         yield from differs(f"{case.label}: the end after kill {stopped}", Done(run.returncode, out, error), case.done)
         yield from differs(f"{case.label}: the file after kill {stopped}", trial.left(), case.file)
         yield from ends_as(trial, case, f"{case.label}: after its end")
@@ -374,7 +376,7 @@ def device_calls(trial, case):
     return [(name, number) for name, number, output in calls if not output]
 
 
-def stopped_calls(trial, case):
+def stopped_calls(trial, case, faults):
     """Each call of the disk is the last that a run makes, or fails: it ends with 22 then; and a run behind it ends as ever."""
     trial.journal.unlink(missing_ok=True)
     if not shutil.which("strace") or trial.solve(case, before=["strace", "-f", "-o", "/dev/null"]).status != case.done.status:
@@ -383,7 +385,7 @@ def stopped_calls(trial, case):
     calls = device_calls(trial, case)
     yield from differs("calls: folder, sync, birth, entries", len(calls), 2 + 8 + 4 * len(case.entries()))
     for name, number in calls:
-        for what, wanted in (("signal=KILL", (-9, 137)), ("error=EIO", (22,)), ("error=ENOSPC", (22,))):
+        for what, wanted in [("signal=KILL", (-9, 137)), *((f"error={fault}", (22,)) for fault in faults)]:
             trial.journal.unlink(missing_ok=True)
             done = trial.solve(case, before=["strace", "-f", "-o", "/dev/null", "-e", f"trace={name}", "-e", f"inject={name}:{what}:when={number}"])
             label = f"{case.label}: {name} {number} with {what}"
@@ -429,16 +431,16 @@ def full_disk(trial, case):
     """The same on a small file system of its own, where one can be mounted."""
     place = trial.folder / "small"
     place.mkdir()
-    mount = ["mount", "-t", "tmpfs", "-o", "size=8k", "tmpfs", str(place)]
-    if os.geteuid() or not shutil.which("mount") or subprocess.run(mount, capture_output=True).returncode:
+    mount = ["mount", "-t", "tmpfs", "-o", "size=4k", "tmpfs", str(place)]
+    if os.geteuid() or resource.getpagesize() > 4096 or not shutil.which("mount") or subprocess.run(mount, capture_output=True).returncode:
         trial.tried["mounted disks (none may be mounted here)"] += 0
         return
     try:
         journal_there = place / "run.journal"
-        yield from differs("the whole journal is longer than the small disk", len(case.file) > 8192, True)
+        yield from differs("the whole journal is longer than the small disk", len(case.file) > 4096, True)
         for label in ("a small disk", "a small disk, again"):
             yield from differs(label, trial.solve(case, journal_there), Done(22, "", DISK_FAULT))
-            yield from differs(f"{label}: entries", made.payloads(journal_there.read_bytes()), acknowledged(case, 8192))
+            yield from differs(f"{label}: entries", made.payloads(journal_there.read_bytes()), acknowledged(case, 4096))
         subprocess.run(["mount", "-o", "remount,size=4m", str(place)], check=True)
         yield from differs("a small disk that grew", trial.solve(case, journal_there), case.done)
         yield from differs("a small disk that grew: the file", journal_there.read_bytes(), case.file)
@@ -495,7 +497,8 @@ def watched(trial, case):
     trial.journal.unlink(missing_ok=True)
     lines = trial.folder / "lines"
     with open(lines, "w") as out:
-        watch = subprocess.Popen([str(TOP / "tools" / "watch"), str(trial.journal), "--every", "0.01"], stdout=out, stderr=subprocess.PIPE, text=True, preexec_fn=made.heeds_interrupts)
+        words = [str(TOP / "tools" / "watch"), str(trial.journal), "--every", "0.01"]
+        watch = subprocess.Popen(words, stdout=out, stderr=subprocess.PIPE, text=True, preexec_fn=made.heeds_interrupts)
     while not lines.read_text():
         time.sleep(0.01)
     yield from differs("a watched run", trial.solve(case), case.done)
@@ -546,8 +549,8 @@ def program(path):
     return TOP / "crates" / "pool" / "out" / "pool"
 
 
-def parts(trial):
-    """The faults of each part, one after another."""
+def parts(trial, hand, kills):
+    """The faults of each part, one after another. Files that are made by hand need no real disk: `hand` tries them in memory."""
     sharper = trial.folder / "sharper.json"
     sharper.write_text((EXAMPLES / "haverly1.json").read_text().replace('"2.5"', '"2.37"'))
     number = trial.folder / "made.json"
@@ -555,30 +558,29 @@ def parts(trial):
     row1 = trial.case("row1", ROW1)
     first = trial.case("Haverly 1", EXAMPLES / "haverly1.json", "--gap", "0", "--form", "q")
     second = trial.case("Haverly 2", EXAMPLES / "haverly2.json", "--gap", "0", "--form", "q")
-    many = trial.case("Haverly 1 with another limit", sharper, "--gap", "0", "--form", "q", "--nodes", "60")
-    large = trial.case("make 2", number, "--gap", "0", "--nodes", "12")
+    many = trial.case("Haverly 1 with another limit", sharper, "--gap", "0", "--form", "q", "--nodes", "40")
+    large = trial.case("make 2", number, "--gap", "0", "--nodes", "8")
     yield from worked_file(trial)
     yield from headers(trial, [row1, first, second, many, large])
     yield from by_hand(trial)
     yield from longer_searches(trial, many)
     for case in (row1, first):
-        yield from unborn_files(trial, case)
-    yield from torn_births(trial, row1)
-    for case in (row1, first):
-        yield from behind_the_gate(trial, case)
-    yield from refused_files(trial, row1, first)
+        yield from unborn_files(hand, case)
+        yield from behind_the_gate(hand, case)
+    yield from torn_births(hand, row1)
+    yield from refused_files(hand, row1, first)
     yield from stages(trial, row1)
     yield from lost_output(trial, first)
-    for case in (row1, second):
-        yield from stopped_calls(trial, case)
+    yield from stopped_calls(trial, row1, ["EIO", "ENOSPC"])
+    yield from stopped_calls(trial, second, ["EIO"])
     yield from full_files(trial, second)
     yield from full_disk(trial, many)
     yield from no_files(trial, row1)
     yield from forbidden_files(trial, first)
     yield from watched(trial, large)
     yield from locked(trial, row1)
-    for case, kills in ((first, 60), (second, 60), (many, 60), (large, 20)):
-        yield from killed(trial, case, kills * (10 if trial.long else 1))
+    for case, share in ((first, 0.35), (second, 0.35), (many, 0.2), (large, 0.1)):
+        yield from killed(trial, case, int(kills * share))
 
 
 def main():
@@ -586,13 +588,14 @@ def main():
     words.add_argument("pool", type=Path)
     words.add_argument("--long", action="store_true")
     asked = words.parse_args()
-    with tempfile.TemporaryDirectory() as folder:
-        trial = Trial(program(asked.pool), Path(folder), asked.long)
-        count = 0
-        for fault in parts(trial):
+    memory = "/dev/shm" if os.access("/dev/shm", os.W_OK) else None
+    tried, count = Counter(), 0
+    with tempfile.TemporaryDirectory() as folder, tempfile.TemporaryDirectory(dir=memory) as light:
+        pool = program(asked.pool)
+        for fault in parts(Trial(pool, Path(folder), tried), Trial(pool, Path(light), tried), KILLS * (10 if asked.long else 1)):
             print(fault[:2000], flush=True)
             count += 1
-    print(", ".join(f"{number} {what}" for what, number in trial.tried.items()) + f"; {count} differ")
+    print(", ".join(f"{number} {what}" for what, number in tried.items()) + f"; {count} differ")
     return 1 if count else 0
 
 
