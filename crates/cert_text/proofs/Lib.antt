@@ -4,3 +4,5 @@ pub mod PieceLaws
 pub mod NumberLaws
 pub mod Steps
 pub mod Each
+pub mod WindowLaws
+pub mod Windows

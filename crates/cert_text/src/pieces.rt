@@ -1,6 +1,6 @@
 //! Words and numbers, each read whole or refused with its line.
 
-ghost use Rattle.std.specs.Prelude.{◌≡◌, ◌-◌, ◌<◌, ◌≤◌, ◌^◌, IfOk};
+ghost use Rattle.std.specs.Prelude.{◌≡◌, ◌-◌, ◌/◌, ◌<◌, ◌≤◌, ◌^◌, IfOk};
 ghost use Rattle.cert_text.specs.Reading.{Gives, word_at, digits_at, number_at, int_at, IsWithin, same_at, is_next_digit, end_of, ends_before, u32_at, u64_at, i64_at, i128_at};
 
 use crate::fault::{Stop, TextFault};
@@ -49,12 +49,14 @@ pub fn word<S: Source>(src: &mut S, word: &[u8]) -> Result<(), Stop>
     Ok(())
 }
 
-/// Whether the digit may stand behind the number.
-fn is_next(most: u128, n: u128, c: u8) -> bool
-    requires { 9 ≤ most }
+/// Whether the digit may stand behind the number, by a tenth of the most, so that no digit costs a division.
+fn is_next(most: u128, tenth: u128, n: u128, c: u8) -> bool
+    requires { tenth ≡ most / 10 }
     ensures { result ≡ is_next_digit most n c }
 {
-    n > 0 && c.is_ascii_digit() && n <= (most - u128::from(c - b'0')) / 10
+    n > 0
+        && c.is_ascii_digit()
+        && (n < tenth || (n == tenth && u128::from(c - b'0') <= most - tenth * 10))
 }
 
 /// The number whose digits so far make n, and the byte behind it.
@@ -65,6 +67,7 @@ fn digits<S: Source>(src: &mut S, most: u128, ends: Ends, n: u128) -> Result<u12
     ensures within { IfOk result (λ x. x ≤ most) }
 {
     let line = src.line();
+    let tenth = most / 10;
     let mut n = n;
     loop {
         let Some(c) = src.next()? else {
@@ -73,7 +76,7 @@ fn digits<S: Source>(src: &mut S, most: u128, ends: Ends, n: u128) -> Result<u12
         if c == ends.byte(n) {
             return Ok(n);
         }
-        if !is_next(most, n, c) {
+        if !is_next(most, tenth, n, c) {
             return Err(Stop::Text(TextFault { line }));
         }
         n = n * 10 + u128::from(c - b'0');

@@ -33,6 +33,22 @@ pub struct SliceSource<'a> {
 }
 
 impl<'a> SliceSource<'a> {
+    /// All of the bytes, of which the first stands in this line.
+    pub fn resume(bytes: &'a [u8], line: u64) -> SliceSource<'a>
+        requires { line + length bytes.now < 2 ^ 64 }
+        ensures rest { result.rest.now ≡ bytes.now }
+        ensures line { result.line ≡ line }
+    {
+        SliceSource { rest: bytes, line }
+    }
+
+    /// The bytes to come.
+    pub fn rest(&self) -> &'a [u8]
+        ensures { result.now ≡ self.now.rest.now }
+    {
+        self.rest
+    }
+
     /// All of the bytes, from line 1 on.
     pub fn new(bytes: &'a [u8]) -> SliceSource<'a>
         ensures rest { result.rest.now ≡ bytes.now }

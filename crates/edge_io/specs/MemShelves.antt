@@ -1,6 +1,7 @@
 -- What a shelf in memory holds, and what it was told to do.
-use Rattle.std.specs.Prelude.{ℕ, List}
-use Rattle.edge_io.specs.MemFiles.{files_of}
+use Rattle.std.specs.Prelude.{ℕ, List, [], Option, None, Some}
+use Rattle.edge_io.specs.MemFiles.{files_of, rest_in}
+use Rattle.edge_io.specs.declared.opened.Opened.{Opened}
 use Rattle.edge_io.specs.declared.mem_shelf.MemShelf.{MemShelf}
 
 -- its files, names with bytes
@@ -22,3 +23,16 @@ taken_of s = s.taken
 -- how many of its calls failed
 abbrev pub faults_of : MemShelf → ℕ
 faults_of s = s.faults
+
+-- what is left of a file, where one is open
+abbrev pub left_of : Option Opened → List ℕ
+left_of None = []
+left_of (Some file) = rest_in file
+
+-- what is left of the opened file
+abbrev pub rest_of : MemShelf → List ℕ
+rest_of s = left_of s.opened
+
+-- the most bytes that one call hands out of it
+abbrev pub piece_of : MemShelf → ℕ
+piece_of s = s.piece

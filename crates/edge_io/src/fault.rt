@@ -1,6 +1,7 @@
 //! What can go wrong outside, and want of memory.
 
 ghost use Rattle.std.specs.Prelude.{◌≡◌};
+ghost use Rattle.edge_io.specs.declared.fault.OpenFault.TheVariants as open_faults;
 ghost use Rattle.edge_io.specs.declared.fault.ShelfFault.TheVariants as faults;
 
 use std::alloc::{AllocError, AllocFailed};
@@ -61,3 +62,24 @@ impl<T: Drop> From<AllocFailed<T>> for ShelfFault {
         ShelfFault::Memory
     }
 }
+
+/// Why a file was not opened.
+#[derive(Clone, Copy, Debug, PartialEq, Eq)]
+pub enum OpenFault {
+    /// The shelf failed: its count of faults rose.
+    Failed,
+    /// There is no memory left.
+    Memory,
+}
+
+impl From<AllocError> for OpenFault {
+    ghost from_gives = { λ _ e. e ≡ open_faults.Memory };
+
+    fn from(_e: AllocError) -> OpenFault {
+        OpenFault::Memory
+    }
+}
+
+/// A shelf gave no more of the file that it had opened: its count of faults rose.
+#[derive(Clone, Copy, Debug, PartialEq, Eq)]
+pub struct ReadFailed;

@@ -1,8 +1,9 @@
 //! Files of the system.
 
-ghost use Rattle.std.specs.Prelude.{◌≡◌, None, true};
+ghost use Rattle.std.specs.Prelude.{◌≡◌, ◌≤◌, None, true, length, IfOk};
+ghost use Rattle.edge_io.specs.Counts.{Grows, Rose};
 
-use crate::fault::ShelfFault;
+use crate::fault::{OpenFault, ReadFailed, ShelfFault};
 use crate::shelf::Shelf;
 use std::alloc::Global;
 use std::io::{ErrorKind, Read};
@@ -13,6 +14,7 @@ use std::{fs, io};
 #[derive(Drop)]
 pub struct FileShelf<R: Files> {
     files: R,
+    opened: Option<R::File>,
     taken: u64,
     faults: u64,
 }
@@ -25,6 +27,7 @@ impl<R: Files> FileShelf<R> {
     {
         FileShelf {
             files,
+            opened: None,
             taken: 0,
             faults: 0,
         }
@@ -36,10 +39,34 @@ impl<R: Files> FileShelf<R> {
         file.take(limit).read_to_end(bytes)?;
         Ok(())
     }
+
+    /// Counts a failure.
+    fn fail(&mut self)
+        ensures counted { Rose self.old.faults self.new.faults }
+        ensures grows { Grows self.old.faults self.new.faults }
+        ensures taken { self.new.taken ≡ self.old.taken }
+    {
+        self.faults = self.faults.saturating_add(1);
+    }
+}
+
+/// One read of a file; one that a signal broke off is tried again.
+pub(crate) fn read_once<F: Read>(file: &mut F, into: &mut [u8]) -> io::Result<usize>
+    ensures { IfOk result (λ n. n ≤ length into.new) }
+{
+    for _ in 0..u64::MAX {
+        match file.read(into) {
+            Err(e) if e.kind() == ErrorKind::Interrupted => {}
+            outcome => return outcome,
+        }
+    }
+    Err(io::Error::from(ErrorKind::Interrupted))
 }
 
 impl<R: Files> Shelf for FileShelf<R> {
     ghost files = { λ _. None };
+
+    ghost rest = { λ _. None };
 
     ghost taken = { λ s. s.taken };
 
@@ -58,8 +85,41 @@ impl<R: Files> Shelf for FileShelf<R> {
             Ok(()) => Ok(bytes),
             Err(e) if e.kind() == ErrorKind::OutOfMemory => Err(ShelfFault::Memory),
             Err(_) => {
-                self.faults = self.faults.saturating_add(1);
+                self.fail();
                 Err(ShelfFault::Failed)
+            }
+        }
+    }
+
+    fn open_read(&mut self, _alloc: Global, name: &str) -> Result<(), OpenFault> {
+        self.opened = None;
+        match fs::open(&self.files, name) {
+            Ok(file) => {
+                self.opened = Some(file);
+                Ok(())
+            }
+            Err(e) if e.kind() == ErrorKind::OutOfMemory => Err(OpenFault::Memory),
+            Err(_) => {
+                self.fail();
+                Err(OpenFault::Failed)
+            }
+        }
+    }
+
+    /// Fails where no file is open.
+    fn read_some(&mut self, into: &mut [u8]) -> Result<usize, ReadFailed> {
+        let outcome = match &mut self.opened {
+            Some(file) => read_once(file, into),
+            None => Err(io::Error::from(ErrorKind::NotFound)),
+        };
+        match outcome {
+            Ok(n) => {
+                self.taken = self.taken.saturating_add(n as u64);
+                Ok(n)
+            }
+            Err(_) => {
+                self.fail();
+                Err(ReadFailed)
             }
         }
     }

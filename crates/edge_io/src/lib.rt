@@ -16,17 +16,20 @@ mod fault;
 mod file_shelf;
 mod mem_shelf;
 mod mem_sink;
+mod opened;
 mod shelf;
 mod sink;
+mod slice_shelf;
 mod std_sink;
 mod writing;
 
-pub use fault::{Memory, ShelfFault, SinkFailed, WriteFault};
+pub use fault::{Memory, OpenFault, ReadFailed, ShelfFault, SinkFailed, WriteFault};
 pub use file_shelf::FileShelf;
 pub use mem_shelf::MemShelf;
 pub use mem_sink::MemSink;
 pub use shelf::Shelf;
 pub use sink::Sink;
+pub use slice_shelf::SliceShelf;
 pub use std_sink::StdSink;
 pub use writing::{write_number, write_whole};
 

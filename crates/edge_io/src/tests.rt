@@ -1,3 +1,4 @@
+use super::file_shelf::read_once;
 use super::*;
 use std::alloc::{AllocError, Global};
 use std::fmt::Display;
@@ -73,6 +74,124 @@ fn reads_files(rt: HostRuntime) -> Result<(), Fail> {
     assert!(rt; shelf.read_all(alloc, path.as_str(), 4) == Err(ShelfFault::Failed));
     assert!(rt; shelf.read_all(alloc, "/dev/zero", 9) == Err(ShelfFault::TooLong));
     Ok(())
+}
+
+/// What is left of the opened file, read piece by piece into so many bytes of room.
+fn rest_of<S: Shelf>(alloc: Global, shelf: &mut S, room: usize) -> Result<Vec<u8>, Fail> {
+    let mut rest = Vec::new(alloc);
+    let mut piece = vec![in alloc; 0; room]?;
+    for _ in 0..100 {
+        let count = shelf.read_some(&mut piece).ok().ok_or("read")?;
+        if count == 0 {
+            break;
+        }
+        rest.extend_from_slice(piece.get(..count).ok_or("too many")?)?;
+    }
+    Ok(rest)
+}
+
+#[test]
+fn hands_out_pieces(rt: HostRuntime) -> Result<(), Fail> {
+    let alloc = rt.alloc();
+    let files = texts(alloc, &[("a", "one two"), ("b", "")])?;
+    let mut shelf = MemShelf::new(files, [4].to_vec(alloc)?);
+    let mut room = [0; 4];
+    assert_eq!(rt; shelf.read_some(&mut room), Ok(0));
+    assert_eq!(rt; shelf.open_read(alloc, "a"), Ok(()));
+    shelf.pieces(3);
+    assert_eq!(rt; shelf.read_some(&mut room), Ok(3));
+    assert_eq!(rt; room, [b'o', b'n', b'e', 0]);
+    assert_eq!(rt; shelf.read_some(&mut []), Ok(0));
+    // The calls of all kinds are numbered together, and a failure leaves the rest as it was.
+    assert_eq!(rt; shelf.read_some(&mut room), Err(ReadFailed));
+    assert_eq!(rt;
+        rest_of(alloc, &mut shelf, 1)?.as_slice(),
+        b" two".as_slice()
+    );
+    Ok(())
+}
+
+#[test]
+fn opens_again(rt: HostRuntime) -> Result<(), Fail> {
+    let alloc = rt.alloc();
+    let files = texts(alloc, &[("a", "one two"), ("b", "three")])?;
+    let mut shelf = MemShelf::new(files, [3].to_vec(alloc)?);
+    assert_eq!(rt; shelf.open_read(alloc, "a"), Ok(()));
+    assert_eq!(rt; shelf.read_some(&mut [0; 4]), Ok(4));
+    assert_eq!(rt; shelf.open_read(alloc, "c"), Err(OpenFault::Failed));
+    assert_eq!(rt; shelf.open_read(alloc, "b"), Err(OpenFault::Failed));
+    assert_eq!(rt;
+        rest_of(alloc, &mut shelf, 9)?.as_slice(),
+        b"two".as_slice()
+    );
+    assert_eq!(rt; shelf.open_read(alloc, "b"), Ok(()));
+    assert_eq!(rt;
+        rest_of(alloc, &mut shelf, 2)?.as_slice(),
+        b"three".as_slice()
+    );
+
+    let mut bytes = SliceShelf::new(b"one two");
+    assert_eq!(rt; bytes.read_some(&mut [0; 4]), Ok(4));
+    assert_eq!(rt;
+        rest_of(alloc, &mut bytes, 2)?.as_slice(),
+        b"two".as_slice()
+    );
+    assert_eq!(rt; bytes.open_read(alloc, ""), Ok(()));
+    assert_eq!(rt;
+        rest_of(alloc, &mut bytes, 9)?.as_slice(),
+        b"one two".as_slice()
+    );
+    assert!(rt; bytes.read_all(alloc, "", 6) == Err(ShelfFault::TooLong));
+    let whole = bytes.read_all(alloc, "", 7).ok().ok_or("whole")?;
+    assert_eq!(rt; whole.as_slice(), b"one two".as_slice());
+    Ok(())
+}
+
+#[test]
+fn reads_files_by_pieces(rt: HostRuntime) -> Result<(), Fail> {
+    let alloc = rt.alloc();
+    let number = process::id(rt.process());
+    let path = format!(in alloc; "/tmp/edge_io-pieces-{number}")?;
+    fs::write(&rt, path.as_str(), "one two")?;
+    let mut shelf = FileShelf::new(&rt);
+    assert_eq!(rt; shelf.read_some(&mut [0; 4]), Err(ReadFailed));
+    assert_eq!(rt; shelf.open_read(alloc, path.as_str()), Ok(()));
+    assert_eq!(rt; shelf.read_some(&mut [0; 4]), Ok(4));
+    assert_eq!(rt;
+        rest_of(alloc, &mut shelf, 2)?.as_slice(),
+        b"two".as_slice()
+    );
+    fs::remove_file(&rt, path.as_str())?;
+    assert_eq!(rt;
+        shelf.open_read(alloc, path.as_str()),
+        Err(OpenFault::Failed)
+    );
+    assert_eq!(rt; shelf.read_some(&mut [0; 4]), Err(ReadFailed));
+
+    // A folder opens, and can't be read.
+    assert_eq!(rt; shelf.open_read(alloc, "/tmp"), Ok(()));
+    assert_eq!(rt; shelf.read_some(&mut [0; 4]), Err(ReadFailed));
+    Ok(())
+}
+
+/// A file of which the first so many reads are broken off.
+#[derive(Drop)]
+struct BrokenOff(u8);
+
+impl io::Read for BrokenOff {
+    fn read(&mut self, buf: &mut [u8]) -> io::Result<usize> {
+        if self.0 > 0 {
+            self.0 -= 1;
+            return Err(io::Error::from(io::ErrorKind::Interrupted));
+        }
+        Ok(buf.len().min(2))
+    }
+}
+
+#[test]
+fn reads_again_what_was_broken_off(rt: HostRuntime) {
+    let mut file = BrokenOff(3);
+    assert_eq!(rt; read_once(&mut file, &mut [0; 4]).ok(), Some(2));
 }
 
 /// A stream of which every write takes that many bytes, or fails.

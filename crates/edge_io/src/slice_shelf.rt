@@ -1,0 +1,68 @@
+//! A shelf of one file, which lies in memory and is open.
+
+ghost use Rattle.std.specs.Prelude.{◌≡◌, ◌+◌, ◌-◌, ◌^◌, ◌≤◌, [], ◌∷◌, ◌++◌, Some, length, take, min, bytes_eq, IfOk, OnOk, IsOk};
+ghost use Rattle.edge_io.specs.Counts.{Grows};
+ghost use Rattle.edge_io.specs.Files.{file_of, HasMore};
+ghost use Rattle.edge_io.specs.Opened.{IsAllOf};
+ghost use Rattle.edge_io.specs.SliceShelves.{bytes_of, rest_of, taken_of};
+
+use crate::fault::{OpenFault, ReadFailed, ShelfFault};
+use crate::opened::copy_front;
+use crate::shelf::Shelf;
+use std::alloc::Global;
+
+/// A shelf of one file, whose bytes lie in memory and whose name is empty. It admits that name alone, and never fails.
+#[derive(Drop)]
+pub struct SliceShelf<'a> {
+    bytes: &'a [u8],
+    rest: &'a [u8],
+    taken: u64,
+}
+
+impl<'a> SliceShelf<'a> {
+    /// Over these bytes, as a file that is open.
+    pub fn new(bytes: &'a [u8]) -> SliceShelf<'a>
+        ensures bytes { bytes_of result ≡ bytes.now }
+        ensures rest { rest_of result ≡ bytes.now }
+        ensures unread { taken_of result ≡ 0 }
+    {
+        SliceShelf {
+            bytes,
+            rest: bytes,
+            taken: 0,
+        }
+    }
+}
+
+impl<'a> Shelf for SliceShelf<'a> {
+    ghost files = { λ s. Some (([], bytes_of s) ∷ []) };
+
+    ghost rest = { λ s. Some (rest_of s) };
+
+    ghost taken = { taken_of };
+
+    ghost faults = { λ _. 0 };
+
+    ghost admits = { λ _ name. bytes_eq [] name };
+
+    fn read_all(&mut self, alloc: Global, _name: &str, most: usize) -> Result<Vec<u8>, ShelfFault> {
+        if self.bytes.len() > most {
+            return Err(ShelfFault::TooLong);
+        }
+        let bytes = Vec::from_slice(alloc, self.bytes)?;
+        self.taken = self.taken.saturating_add(bytes.len() as u64);
+        Ok(bytes)
+    }
+
+    fn open_read(&mut self, _alloc: Global, _name: &str) -> Result<(), OpenFault> {
+        self.rest = self.bytes;
+        Ok(())
+    }
+
+    fn read_some(&mut self, into: &mut [u8]) -> Result<usize, ReadFailed> {
+        let count = copy_front(self.rest, into, usize::MAX);
+        self.rest = &self.rest[count..];
+        self.taken = self.taken.saturating_add(count as u64);
+        Ok(count)
+    }
+}
