@@ -7,7 +7,7 @@ ghost use Rattle.row_model.specs.Boxes.{coords};
 ghost use Rattle.row_model.specs.Trees as trees;
 ghost use Rattle.split_tree.specs.Splits.{IsOf, MayCome};
 ghost use Rattle.split_tree.specs.Spans.{IsSpanOf, half_at};
-ghost use Rattle.box_space.specs.Views.{shown_split, AreEndsOf};
+ghost use Rattle.box_space.specs.Views.{shown_split, AreEndsOf, AreRoot};
 
 use crate::span::{Side, Span};
 use crate::splits::SplitTree;
@@ -22,21 +22,31 @@ impl SplitTree {
         requires there { node < trees.nodes self.now.list }
         ensures { IfOk result (AreEndsOf (net_of net.now) (trees.box_of (net_of net.now) self.now.list node)) }
     {
+        let mut ends = root_box(self.alloc, net)?;
+        self.narrow(net, node, &mut ends);
+        Ok(ends)
+    }
+
+    /// The same where the ends are held already: those of the root box become those of the node's. It takes no memory.
+    pub fn narrow(&self, net: &Network, node: u32, ends: &mut BoxEnds)
+        requires tree { IsOf (net_of net.now) self.now }
+        requires there { node < trees.nodes self.now.list }
+        requires root { AreRoot (net_of net.now) ends.old }
+        ensures { AreEndsOf (net_of net.now) (trees.box_of (net_of net.now) self.now.list node) ends.new }
+    {
         let _counts = net.counts();
         let splits = self.splits();
-        let BoxEnds { mut low, mut high } = root_box(self.alloc, net)?;
         let mut at = node;
         while at > 0 {
             let split = splits[(at as usize - 1) / 2];
             let coord = split.coord as usize;
             if at % 2 == 1 {
-                high[coord] = high.as_slice()[coord].min(split.cut);
+                ends.high[coord] = ends.high.as_slice()[coord].min(split.cut);
             } else {
-                low[coord] = low.as_slice()[coord].max(split.cut);
+                ends.low[coord] = ends.low.as_slice()[coord].max(split.cut);
             }
             at = split.leaf;
         }
-        Ok(BoxEnds { low, high })
     }
 
     /// The box of a half of a split that cuts a leaf, before it is added.
