@@ -4,7 +4,8 @@
 //! alone, or that no plan obeys; and the splits and proofs of the tree of boxes that shows it. Its text is plain lines, one
 //! text for each certificate and one certificate for each text. `write_cert` writes it to a sink, and its contract says
 //! which bytes it writes, by `text_of` in `specs/Text.antt`, line by line. `read_cert` reads it back, and names the first
-//! faulty line of what is no certificate's text.
+//! faulty line of what is no certificate's text. The readers of single lines stand in `reading`, for a reader of the text in
+//! pieces.
 //!
 //! Whether what a certificate claims is true is left to the checker; `specs/Valid.antt` says when it is.
 #![tactic(auto)]
@@ -13,7 +14,7 @@ mod certificate;
 mod fault;
 mod laws;
 mod ranges;
-mod reading;
+pub mod reading;
 mod writing;
 
 pub use cert_text::TextFault;

@@ -1,4 +1,6 @@
 //! A certificate, read from left to right, line by line.
+//!
+//! A reader of a line stops with `Stop::Text` where its line is faulty, and with `Stop::Source` only where the source is broken.
 
 ghost use Rattle.std.specs.Prelude.{◌≡◌, ◌-◌, ◌^◌, length, get_or, codes, map, IfOk, IfErr, List, ℕ};
 ghost use Rattle.box_space.specs.Views.{shown_part, shown_split};
@@ -21,7 +23,7 @@ use std::alloc::Global;
 
 /// What a certificate claims.
 #[derive(Clone, Copy)]
-enum Kind {
+pub enum Kind {
     Gap,
     Bound,
     NoPlan,
@@ -59,7 +61,7 @@ fn kind_word<S: Source>(src: &mut S) -> Result<Kind, Stop>
 
 /// The line of the kind.
 #[tactic(auto, unfolding(crate::specs::Reading::kind_at))]
-fn kind_line<S: Source>(src: &mut S) -> Result<Kind, Stop>
+pub fn kind_line<S: Source>(src: &mut S) -> Result<Kind, Stop>
     ensures { Gives (λ x. x) result (S.at src.new) (S.broken src.new) (kind_at (S.at src.old)) }
 {
     word(src, b"kind ")?;
@@ -68,7 +70,7 @@ fn kind_line<S: Source>(src: &mut S) -> Result<Kind, Stop>
 
 /// The line of the shape.
 #[tactic(auto, unfolding(crate::specs::Reading::shape_at))]
-fn shape<S: Source>(src: &mut S) -> Result<[u32; 7], Stop>
+pub fn shape<S: Source>(src: &mut S) -> Result<[u32; 7], Stop>
     ensures { Gives (λ x. x) result (S.at src.new) (S.broken src.new) (shape_at (S.at src.old)) }
 {
     word(src, b"shape ")?;
@@ -108,7 +110,7 @@ fn u64s<S: Source>(alloc: Global, src: &mut S, n: u32) -> Result<Vec<u64>, Halt>
 
 /// A word that n numbers follow, with the byte behind it.
 #[tactic(auto, unfolding(crate::specs::Reading::list_word_at))]
-fn list_word<S: Source>(src: &mut S, name: &[u8], n: u32) -> Result<(), Stop>
+pub fn list_word<S: Source>(src: &mut S, name: &[u8], n: u32) -> Result<(), Stop>
     ensures { Gives (λ x. x) result (S.at src.new) (S.broken src.new) (list_word_at name.now n (S.at src.old)) }
 {
     word(src, name)?;
@@ -175,7 +177,7 @@ fn opening_lines<S: Source>(
 
 /// The line of a split.
 #[tactic(auto, unfolding(crate::specs::Reading::split_line_at))]
-fn split_line<S: Source>(src: &mut S) -> Result<Split, Stop>
+pub fn split_line<S: Source>(src: &mut S) -> Result<Split, Stop>
     ensures { Gives shown_split result (S.at src.new) (S.broken src.new) (split_line_at (S.at src.old)) }
 {
     word(src, b"split ")?;
@@ -209,7 +211,7 @@ fn splits<S: Source>(alloc: Global, src: &mut S) -> Result<Vec<Split>, Halt>
 
 /// A part that so many others follow in its line.
 #[tactic(auto, unfolding(crate::specs::Reading::part_at))]
-fn part<S: Source>(src: &mut S, others: u32) -> Result<Part, Stop>
+pub fn part<S: Source>(src: &mut S, others: u32) -> Result<Part, Stop>
     ensures { Gives shown_part result (S.at src.new) (S.broken src.new) (part_at others (S.at src.old)) }
 {
     let row = u32_then(src, Ends::Space)?;
@@ -267,7 +269,7 @@ fn proofs<S: Source>(alloc: Global, src: &mut S) -> Result<Vec<NodeProof>, Halt>
 
 /// The line of a bound.
 #[tactic(auto, unfolding(crate::specs::Reading::bound_at))]
-fn bound<S: Source>(src: &mut S) -> Result<i128, Stop>
+pub fn bound<S: Source>(src: &mut S) -> Result<i128, Stop>
     ensures { Gives (λ x. x) result (S.at src.new) (S.broken src.new) (bound_at (S.at src.old)) }
 {
     word(src, b"bound ")?;
