@@ -90,59 +90,63 @@ fn rest_of<S: Shelf>(alloc: Global, shelf: &mut S, room: usize) -> Result<Vec<u8
     Ok(rest)
 }
 
+/// A shelf of two files, of which the calls with these numbers fail.
+fn shelf_of(alloc: Global, failing: &[u64]) -> Result<MemShelf, AllocError> {
+    let files = texts(alloc, &[("a", "one two"), ("b", "three")])?;
+    Ok(MemShelf::new(files, failing.to_vec(alloc)?))
+}
+
 #[test]
 fn hands_out_pieces(rt: HostRuntime) -> Result<(), Fail> {
     let alloc = rt.alloc();
-    let files = texts(alloc, &[("a", "one two"), ("b", "")])?;
-    let mut shelf = MemShelf::new(files, [4].to_vec(alloc)?);
+    let mut shelf = shelf_of(alloc, &[])?;
     let mut room = [0; 4];
     assert_eq!(rt; shelf.read_some(&mut room), Ok(0));
     assert_eq!(rt; shelf.open_read(alloc, "a"), Ok(()));
     shelf.pieces(3);
     assert_eq!(rt; shelf.read_some(&mut room), Ok(3));
     assert_eq!(rt; room, [b'o', b'n', b'e', 0]);
-    assert_eq!(rt; shelf.read_some(&mut []), Ok(0));
-    // The calls of all kinds are numbered together, and a failure leaves the rest as it was.
+    Ok(())
+}
+
+/// The calls of all kinds are numbered together, and a failure leaves the rest as it was.
+#[test]
+fn fails_between_pieces(rt: HostRuntime) -> Result<(), Fail> {
+    let alloc = rt.alloc();
+    let mut shelf = shelf_of(alloc, &[2])?;
+    let mut room = [0; 4];
+    assert_eq!(rt; shelf.open_read(alloc, "a"), Ok(()));
+    assert_eq!(rt; shelf.read_some(&mut room), Ok(4));
     assert_eq!(rt; shelf.read_some(&mut room), Err(ReadFailed));
-    assert_eq!(rt;
-        rest_of(alloc, &mut shelf, 1)?.as_slice(),
-        b" two".as_slice()
-    );
+    let rest = rest_of(alloc, &mut shelf, 1)?;
+    assert_eq!(rt; rest.as_slice(), b"two".as_slice());
     Ok(())
 }
 
 #[test]
 fn opens_again(rt: HostRuntime) -> Result<(), Fail> {
     let alloc = rt.alloc();
-    let files = texts(alloc, &[("a", "one two"), ("b", "three")])?;
-    let mut shelf = MemShelf::new(files, [3].to_vec(alloc)?);
+    let mut shelf = shelf_of(alloc, &[])?;
     assert_eq!(rt; shelf.open_read(alloc, "a"), Ok(()));
-    assert_eq!(rt; shelf.read_some(&mut [0; 4]), Ok(4));
+    let mut room = [0; 4];
+    assert_eq!(rt; shelf.read_some(&mut room), Ok(4));
     assert_eq!(rt; shelf.open_read(alloc, "c"), Err(OpenFault::Failed));
-    assert_eq!(rt; shelf.open_read(alloc, "b"), Err(OpenFault::Failed));
-    assert_eq!(rt;
-        rest_of(alloc, &mut shelf, 9)?.as_slice(),
-        b"two".as_slice()
-    );
     assert_eq!(rt; shelf.open_read(alloc, "b"), Ok(()));
-    assert_eq!(rt;
-        rest_of(alloc, &mut shelf, 2)?.as_slice(),
-        b"three".as_slice()
-    );
+    let rest = rest_of(alloc, &mut shelf, 2)?;
+    assert_eq!(rt; rest.as_slice(), b"three".as_slice());
+    Ok(())
+}
 
-    let mut bytes = SliceShelf::new(b"one two");
-    assert_eq!(rt; bytes.read_some(&mut [0; 4]), Ok(4));
-    assert_eq!(rt;
-        rest_of(alloc, &mut bytes, 2)?.as_slice(),
-        b"two".as_slice()
-    );
-    assert_eq!(rt; bytes.open_read(alloc, ""), Ok(()));
-    assert_eq!(rt;
-        rest_of(alloc, &mut bytes, 9)?.as_slice(),
-        b"one two".as_slice()
-    );
-    assert!(rt; bytes.read_all(alloc, "", 6) == Err(ShelfFault::TooLong));
-    let whole = bytes.read_all(alloc, "", 7).ok().ok_or("whole")?;
+#[test]
+fn reads_a_slice(rt: HostRuntime) -> Result<(), Fail> {
+    let alloc = rt.alloc();
+    let mut shelf = SliceShelf::new(b"one two");
+    let rest = rest_of(alloc, &mut shelf, 2)?;
+    assert_eq!(rt; rest.as_slice(), b"one two".as_slice());
+    assert_eq!(rt; shelf.open_read(alloc, ""), Ok(()));
+    let rest = rest_of(alloc, &mut shelf, 9)?;
+    assert_eq!(rt; rest.as_slice(), b"one two".as_slice());
+    let whole = shelf.read_all(alloc, "", 7).ok().ok_or("whole")?;
     assert_eq!(rt; whole.as_slice(), b"one two".as_slice());
     Ok(())
 }
@@ -154,24 +158,23 @@ fn reads_files_by_pieces(rt: HostRuntime) -> Result<(), Fail> {
     let path = format!(in alloc; "/tmp/edge_io-pieces-{number}")?;
     fs::write(&rt, path.as_str(), "one two")?;
     let mut shelf = FileShelf::new(&rt);
-    assert_eq!(rt; shelf.read_some(&mut [0; 4]), Err(ReadFailed));
     assert_eq!(rt; shelf.open_read(alloc, path.as_str()), Ok(()));
-    assert_eq!(rt; shelf.read_some(&mut [0; 4]), Ok(4));
-    assert_eq!(rt;
-        rest_of(alloc, &mut shelf, 2)?.as_slice(),
-        b"two".as_slice()
-    );
     fs::remove_file(&rt, path.as_str())?;
-    assert_eq!(rt;
-        shelf.open_read(alloc, path.as_str()),
-        Err(OpenFault::Failed)
-    );
-    assert_eq!(rt; shelf.read_some(&mut [0; 4]), Err(ReadFailed));
-
-    // A folder opens, and can't be read.
-    assert_eq!(rt; shelf.open_read(alloc, "/tmp"), Ok(()));
-    assert_eq!(rt; shelf.read_some(&mut [0; 4]), Err(ReadFailed));
+    let rest = rest_of(alloc, &mut shelf, 2)?;
+    assert_eq!(rt; rest.as_slice(), b"one two".as_slice());
     Ok(())
+}
+
+/// Before a file is opened, and where none can be; a folder opens, and can't be read.
+#[test]
+fn fails_where_no_file_is(rt: HostRuntime) {
+    let mut shelf = FileShelf::new(&rt);
+    let mut room = [0; 4];
+    assert_eq!(rt; shelf.read_some(&mut room), Err(ReadFailed));
+    let open = shelf.open_read(rt.alloc(), "/tmp/edge_io/none");
+    assert_eq!(rt; open, Err(OpenFault::Failed));
+    assert_eq!(rt; shelf.open_read(rt.alloc(), "/tmp"), Ok(()));
+    assert_eq!(rt; shelf.read_some(&mut room), Err(ReadFailed));
 }
 
 /// A file of which the first so many reads are broken off.
