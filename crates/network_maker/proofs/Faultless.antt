@@ -16,10 +16,10 @@ use Rattle.network_parts.specs.declared.fault.NetFault.TheVariants.{TooMany, Bad
 use Rattle.network_parts.specs.Faults.{IsTooMany, IsName, IsBadAt, IsBadName, IsRepeatAt, IsDuplicateName, IsUnknownName, IsArcBackwards, IsPoolToPool, IsDuplicateArc, IsOutOfRange, IsLeastAboveMost, IsFaultless, IsSourceInRange, IsPoolInRange, IsProductInRange, IsOrderly, no_source_row, no_pool_row, no_product_row}
 use Rattle.network_parts.specs.FirstFault.{Holds, IsFirstFault}
 use Rattle.blend_network.specs.Canonical.{canonical_source, canonical_pool, canonical_product, canonical_rows}
-use Rattle.network_maker.specs.Draws.{state_after}
+use Rattle.drawn_numbers.specs.Draws.{state_after}
 use Rattle.network_maker.specs.Generated.{generated, named_source, named_pool, named_product, named_quality, drawn_source, drawn_pool, drawn_product}
 use Rattle.network_maker.specs.Rows.{source_rows, pool_rows, product_rows, arc_rows}
-use Rattle.network_maker.proofs.Steps.{state_after-add}
+use Rattle.drawn_numbers.proofs.Steps.{state_after-add}
 use Rattle.network_maker.proofs.Tests.{has, name_code, ends_code, absent, not_all, named, left, right}
 use Rattle.network_maker.proofs.Numbers.{source_in_range, pool_in_range, product_in_range, product_orderly}
 

@@ -6,7 +6,7 @@ use Rattle.std.proofs.lemmas.Int.{ints}
 use Rattle.pool_model.specs.Network.{IsWithin}
 use Rattle.network_parts.specs.Faults.{IsUpTo, IsSourceInRange, IsPoolInRange, IsProductInRange, AreOrderly, IsOrderly}
 use Rattle.blend_network.specs.Canonical.{canonical_source, canonical_pool, canonical_product}
-use Rattle.network_maker.specs.Draws.{draw}
+use Rattle.drawn_numbers.specs.Draws.{draw}
 use Rattle.network_maker.specs.Generated.{in_units, in_tenths, drawn_source, drawn_pool, drawn_product}
 
 up_to : (size n : ℕ) → n ≤ size → IsUpTo size (pos n)

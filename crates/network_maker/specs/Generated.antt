@@ -3,7 +3,7 @@ use Rattle.std.specs.Prelude.{ℕ, ◌+◌, ◌*◌, ◌%◌, ◌==◌, ◌||◌
 use Rattle.std.specs.List.{flat_map}
 use Rattle.integers.specs.Numbers.{tabulate}
 use Rattle.pool_model.specs.Network.{Source, Pool, Product, Arc, Network}
-use Rattle.network_maker.specs.Draws.{state_after, draw}
+use Rattle.drawn_numbers.specs.Draws.{state_after, draw}
 
 -- whole units, and tenths of a unit, in millionths
 abbrev pub in_units : ℕ → ℕ

@@ -4,7 +4,7 @@ use Rattle.std.specs.List.{flat_map}
 use Rattle.integers.specs.Numbers.{tabulate}
 use Rattle.pool_model.specs.Rows.{SourceRow, PoolRow, ProductRow}
 use Rattle.blend_network.specs.Canonical.{canonical_source, canonical_pool, canonical_product}
-use Rattle.network_maker.specs.Draws.{state_after}
+use Rattle.drawn_numbers.specs.Draws.{state_after}
 use Rattle.network_maker.specs.Generated.{below, named_source, named_pool, named_product, drawn_source, drawn_pool, drawn_product, fed_pools}
 
 -- the rows of so many sources, pools or products, drawn from a state

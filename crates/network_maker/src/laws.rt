@@ -4,7 +4,7 @@ ghost use Rattle.std.specs.Prelude.{◌≡◌, ℕ, [], ◌∷◌, length, map, 
 ghost use Rattle.pool_model.specs.Network.{net_of, counts_of, no_source, no_product};
 ghost use Rattle.pool_model.specs.Paths.{paths_of};
 ghost use Rattle.blend_network.specs.Made.{IsMade};
-ghost use Rattle.network_maker.specs.Draws.{state_after, draw};
+ghost use Rattle.drawn_numbers.specs.Draws.{state_after, draw};
 ghost use Rattle.network_maker.specs.Generated.{generated};
 
 /// Whatever the number, there are rows without a fault that stand for the network, and so many of each kind.

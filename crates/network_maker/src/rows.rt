@@ -3,13 +3,13 @@
 ghost use Rattle.std.specs.Prelude.{◌≡◌, ◌<◌, ◌++◌, map, string_bytes, IfOk, OnOk, pos};
 ghost use Rattle.network_parts.specs.Parts.{source_row, pool_row, product_row, arc_ends, rows_of};
 ghost use Rattle.blend_network.specs.Canonical.{canonical_source, canonical_pool, canonical_product, canonical_rows};
-ghost use Rattle.network_maker.specs.Draws.{state_after};
+ghost use Rattle.drawn_numbers.specs.Draws.{state_after};
 ghost use Rattle.network_maker.specs.Generated.{generated, feeds_pool, drawn_source, drawn_pool, drawn_product, named_quality, named_source, named_pool, named_product, in_units, in_tenths};
 ghost use Rattle.network_maker.specs.Rows.{source_rows, pool_rows, product_rows, feed_ends, out_ends, direct_ends, arc_rows};
 ghost use Rattle.integers.specs.Numbers.{tabulate};
 
-use crate::draws::Draws;
 use blend_network::{Parts, PoolRow, ProductRow, SourceRow};
+use drawn_numbers::Draws;
 use std::alloc::{AllocError, Global};
 
 const QUALITIES: u32 = 2;
@@ -62,7 +62,7 @@ fn sources(alloc: Global, draws: &mut Draws) -> Result<Vec<SourceRow>, AllocErro
 }
 
 /// A source: its cost, its qualities and its maximum are drawn, in this order.
-#[tactic(auto, unfolding(crate::specs::Draws::state_after))]
+#[tactic(auto, unfolding(drawn_numbers::specs::Draws::state_after))]
 fn source(alloc: Global, draws: &mut Draws, i: u32) -> Result<SourceRow, AllocError>
     requires { i < 10 }
     ensures row { IfOk result (λ r. source_row r ≡ canonical_source (drawn_source draws.old.state i)) }
@@ -92,7 +92,7 @@ fn pools(alloc: Global, draws: &mut Draws) -> Result<Vec<PoolRow>, AllocError>
 }
 
 /// A pool: its maximum is drawn.
-#[tactic(auto, unfolding(crate::specs::Draws::state_after))]
+#[tactic(auto, unfolding(drawn_numbers::specs::Draws::state_after))]
 fn pool(alloc: Global, draws: &mut Draws, l: u32) -> Result<PoolRow, AllocError>
     requires { l < 10 }
     ensures row { IfOk result (λ r. pool_row r ≡ canonical_pool (drawn_pool draws.old.state l)) }
@@ -116,7 +116,7 @@ fn products(alloc: Global, draws: &mut Draws) -> Result<Vec<ProductRow>, AllocEr
 }
 
 /// A product: its price, its maximum and the most of each quality are drawn, in this order.
-#[tactic(auto, unfolding(crate::specs::Draws::state_after))]
+#[tactic(auto, unfolding(drawn_numbers::specs::Draws::state_after))]
 fn product(alloc: Global, draws: &mut Draws, j: u32) -> Result<ProductRow, AllocError>
     requires { j < 10 }
     ensures row { IfOk result (λ r. product_row r ≡ canonical_product (drawn_product draws.old.state j)) }

@@ -1,9 +1,10 @@
 use Rattle.std.proofs.Common.{◌*◌, map, ap, ◌∙◌}
 use Rattle.network_parts.specs.Parts.{product_row}
 use Rattle.blend_network.specs.Canonical.{canonical_product}
-use Rattle.network_maker.specs.Draws.{state_after}
+use Rattle.drawn_numbers.specs.Draws.{state_after}
 use Rattle.network_maker.specs.Generated.{drawn_product}
-use Rattle.network_maker.proofs.Steps.{no_draw, four_more, row_more}
+use Rattle.drawn_numbers.proofs.Steps.{no_draw, four_more}
+use Rattle.network_maker.proofs.Steps.{row_more}
 use Rattle.network_maker.proofs.rows.products.Goals as goal
 
 pub loop-j-init : goal.loop-j-init

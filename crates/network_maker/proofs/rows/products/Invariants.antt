@@ -1,6 +1,6 @@
 use Rattle.std.proofs.Common.{◌≡◌, ◌*◌, map}
 use Rattle.network_parts.specs.Parts.{product_row}
-use Rattle.network_maker.specs.Draws.{state_after}
+use Rattle.drawn_numbers.specs.Draws.{state_after}
 use Rattle.network_maker.specs.Rows.{product_rows}
 use Rattle.network_maker.proofs.rows.products.Given as goal
 
