@@ -2,3 +2,4 @@ pub mod Disks
 pub mod Steps
 pub mod Images
 pub mod MemDisks
+pub mod WildDisks

@@ -6,7 +6,8 @@
 //! a failure nothing is known of reads until the file is attached again, and each failure is counted.
 //!
 //! `MemDisk` is such a disk in memory, which keeps each step that its file has gone and shows images of every moment;
-//! `FailDisk` is one that fails where it was told to. `FileDisk` is a file of the system, and tells nothing.
+//! `FailDisk` is one that fails where it was told to. `FileDisk` is a file of the system, and tells nothing. `WildDisk` tells nothing
+//! either, and reads as anything: over it a caller shows that it stands on the clauses alone.
 //!
 //! The layer above stands on the clauses and laws of the trait alone. The lemmas of `proofs/Moments.antt` go from "this
 //! holds of each image since a moment" over one call more to the same after it, for a write behind the end, a write of
@@ -22,12 +23,14 @@ mod fail_disk;
 mod file_disk;
 mod mem_disk;
 mod step;
+mod wild_disk;
 
 pub use append::append_byte;
 pub use disk::{Disk, DiskFailed, MAX_LENGTH};
 pub use fail_disk::FailDisk;
 pub use file_disk::FileDisk;
 pub use mem_disk::MemDisk;
+pub use wild_disk::WildDisk;
 
 #[cfg(test)]
 mod tests;

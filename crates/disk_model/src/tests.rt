@@ -135,3 +135,23 @@ fn keeps_files(rt: HostRuntime) -> Result<(), Fail> {
     fs::remove_file(&rt, path.as_str())?;
     Ok(())
 }
+
+/// The bytes are those that a script draws from 7. A file that reaches 2^62 is the longest.
+#[test]
+fn reads_as_anything(rt: HostRuntime) -> Result<(), Fail> {
+    let mut disk = WildDisk::new(7);
+    assert_eq!(rt; script(&mut disk), Ok(()));
+    assert_eq!(rt; disk.len(), Ok(300));
+    let mut bytes = [0; 3];
+    assert_eq!(rt; disk.read_at(297, &mut bytes), Ok(()));
+    assert_eq!(rt; bytes, [94, 63, 49]);
+    assert_eq!(rt; disk.read_at(298, &mut bytes), Err(DiskFailed));
+    assert_eq!(rt; disk.read_at(0, &mut bytes), Ok(()));
+    assert_eq!(rt; bytes, [145, 233, 3]);
+    assert_eq!(rt; disk.write_at(MAX_LENGTH - 1, b"x"), Ok(()));
+    assert_eq!(rt; disk.write_at(MAX_LENGTH, b"x"), Err(DiskFailed));
+    assert_eq!(rt; disk.cut(MAX_LENGTH), Ok(()));
+    assert_eq!(rt; disk.cut(MAX_LENGTH + 1), Err(DiskFailed));
+    assert_eq!(rt; disk.len(), Ok(300));
+    Ok(())
+}

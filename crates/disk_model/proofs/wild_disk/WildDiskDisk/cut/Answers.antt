@@ -1,0 +1,5 @@
+use Rattle.disk_model.specs.Images.{shortened-same}
+use Rattle.disk_model.proofs.wild_disk.WildDiskDisk.cut.Goals as goal
+
+pub returns-clause-crash : goal.returns-clause-crash
+returns-clause-crash c = λ image left. (image, tt, shortened-same c.args.to image)

@@ -1,0 +1,6 @@
+use Rattle.std.proofs.Common.{length}
+use Rattle.disk_model.specs.Images.{torn-same}
+use Rattle.disk_model.proofs.wild_disk.WildDiskDisk.write_at.Goals as goal
+
+pub returns-clause-crash : goal.returns-clause-crash
+returns-clause-crash c = λ image left. (image, tt, torn-same c.args.at (length c.args.bytes.now) image)

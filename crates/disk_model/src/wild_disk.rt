@@ -1,0 +1,152 @@
+//! A disk of which nothing is known.
+
+ghost use Rattle.std.specs.Prelude.{◌≡◌, ◌+◌, ◌^◌, ◌<◌, ◌≤◌, None, Ok, true, false, length, IfOk, OnOk, OnErr, IsOk, IsErr};
+ghost use Rattle.edge_io.specs.Counts.{Grows, Rose};
+ghost use Rattle.disk_model.specs.Disks.{Torn, Shortened, Follows};
+ghost use Rattle.drawn_numbers.specs.Draws.{draws, state_after};
+
+use crate::disk::{Disk, DiskFailed, MAX_LENGTH};
+use drawn_numbers::Draws;
+
+/// How long the file is, in bytes, whatever is written or cut.
+const LENGTH: u64 = 300;
+
+/// A disk that tells nothing and keeps nothing, for callers that have to stand on the clauses of the trait alone. Its file is always
+/// 300 bytes long, and each byte that is read is the next of those that a number gives.
+///
+/// A call fails only where every disk of its kind does: a read past the end of the file, and a write or a cut past the longest length.
+#[derive(Debug, Drop)]
+pub struct WildDisk {
+    draws: Draws,
+    faults: u64,
+}
+
+impl WildDisk {
+    ghost use Rattle.disk_model.specs.WildDisks.{state_of, faults_of};
+
+    /// The disk of a number.
+    pub fn new(number: u64) -> WildDisk
+        ensures number { state_of result ≡ number }
+        ensures sound { faults_of result ≡ 0 }
+    {
+        WildDisk {
+            draws: Draws { state: number },
+            faults: 0,
+        }
+    }
+
+    /// Counts a failure.
+    fn fail(&mut self) -> DiskFailed
+        ensures counted { Rose (faults_of self.old) (faults_of self.new) }
+        ensures grows { Grows (faults_of self.old) (faults_of self.new) }
+        ensures same { state_of self.new ≡ state_of self.old }
+    {
+        self.faults = self.faults.saturating_add(1);
+        DiskFailed
+    }
+
+    /// Fails where the file would be longer than the longest.
+    fn reach(&mut self, end: u64) -> Result<(), DiskFailed>
+        ensures within { end ≤ 2 ^ 62 → IsOk result }
+        ensures short { OnOk result (end ≤ 2 ^ 62) }
+        ensures failed { OnErr result (Rose (faults_of self.old) (faults_of self.new)) }
+        ensures faults_grow { Grows (faults_of self.old) (faults_of self.new) }
+        ensures same { state_of self.new ≡ state_of self.old }
+    {
+        if end > MAX_LENGTH {
+            return Err(self.fail());
+        }
+        Ok(())
+    }
+}
+
+impl Disk for WildDisk {
+    ghost use Rattle.disk_model.specs.WildDisks.{state_of, faults_of, Anything};
+
+    ghost tells = { λ _. false };
+
+    ghost admits = { λ _ _. true };
+
+    ghost faults = { faults_of };
+
+    ghost reads = { λ _. None };
+
+    ghost moment = { λ _. 0 };
+
+    ghost may_leave = { λ _. Anything };
+
+    ghost left_since = { λ _ _. Anything };
+
+    ghost reads_image = { λ _ _ _. tt };
+
+    ghost counts_now = { λ _ _ _ _ _. tt };
+
+    ghost only_now = { λ _ _ _. tt };
+
+    fn attach(&mut self, _name: &str) -> Result<(), DiskFailed>
+        ensures works { IsOk result }
+        ensures same { self.new ≡ self.old }
+    {
+        Ok(())
+    }
+
+    fn len(&mut self) -> Result<u64, DiskFailed>
+        ensures length { result ≡ Ok 300 }
+        ensures same { self.new ≡ self.old }
+    {
+        Ok(LENGTH)
+    }
+
+    fn read_at(&mut self, at: u64, into: &mut [u8]) -> Result<(), DiskFailed>
+        // What every disk does.
+        ensures failed { OnErr result (Rose (faults_of self.old) (faults_of self.new)) }
+        ensures faults_grow { Grows (faults_of self.old) (faults_of self.new) }
+
+        // What this one gives, and when it fails.
+        ensures bytes { OnOk result (into.new ≡ draws (state_of self.old) 256 (length into.old)) }
+        ensures next { OnOk result (state_of self.new ≡ state_after (state_of self.old) (length into.old)) }
+        ensures within { at + length into.old ≤ 300 → IsOk result }
+        ensures past { 300 < at + length into.old → IsErr result }
+    {
+        if at.saturating_add(into.len() as u64) > LENGTH {
+            return Err(self.fail());
+        }
+        self.draws.fill(into);
+        Ok(())
+    }
+
+    fn write_at(&mut self, at: u64, bytes: &[u8]) -> Result<(), DiskFailed>
+        // What every disk does.
+        ensures short { OnOk result (at + length bytes.now ≤ 2 ^ 62) }
+        ensures crash { Follows (Torn at (length bytes.now)) Anything Anything }
+        ensures failed { OnErr result (Rose (faults_of self.old) (faults_of self.new)) }
+        ensures faults_grow { Grows (faults_of self.old) (faults_of self.new) }
+
+        // When this one fails, and what stays.
+        ensures within { at + length bytes.now ≤ 2 ^ 62 → IsOk result }
+        ensures same { state_of self.new ≡ state_of self.old }
+    {
+        self.reach(at.saturating_add(bytes.len() as u64))
+    }
+
+    fn cut(&mut self, to: u64) -> Result<(), DiskFailed>
+        // What every disk does.
+        ensures crash { Follows (Shortened to) Anything Anything }
+        ensures failed { OnErr result (Rose (faults_of self.old) (faults_of self.new)) }
+        ensures faults_grow { Grows (faults_of self.old) (faults_of self.new) }
+
+        // When this one fails, and what stays.
+        ensures within { to ≤ 2 ^ 62 → IsOk result }
+        ensures past { 2 ^ 62 < to → IsErr result }
+        ensures same { state_of self.new ≡ state_of self.old }
+    {
+        self.reach(to)
+    }
+
+    fn sync(&mut self) -> Result<(), DiskFailed>
+        ensures works { IsOk result }
+        ensures same { self.new ≡ self.old }
+    {
+        Ok(())
+    }
+}
