@@ -1,6 +1,7 @@
 //! The one text of a certificate, written.
 
-ghost use Rattle.std.specs.Prelude.{[], ◌∷◌, ◌++◌, map, codes, OnErr};
+ghost use Rattle.std.specs.Prelude.{◌≡◌, [], ◌∷◌, ◌++◌, map, codes, None, OnErr};
+ghost use Rattle.std.specs.Option.{ForSome};
 ghost use Rattle.std.specs.List.{flat_map};
 ghost use Rattle.box_space.specs.Views.{shown_part, shown_split};
 ghost use Rattle.edge_io.specs.Counts.{Grows, Rose};
@@ -34,9 +35,8 @@ fn write_fields<K: Sink, N: Integer>(out: &mut K, numbers: &[N]) -> Result<(), W
     ensures failed { OnErr result (Rose (K.faults out.old) (K.faults out.new)) }
     ensures faults_grow { Grows (K.faults out.old) (K.faults out.new) }
 {
-    let mut text = TextBuffer::new();
-    if put_fields(&mut text, numbers).is_ok() {
-        return write_whole(out, text.text());
+    if let Some(written) = short_fields(out, numbers) {
+        return written;
     }
     if numbers.len() < 2 {
         return put_fields(out, numbers);
@@ -44,6 +44,21 @@ fn write_fields<K: Sink, N: Integer>(out: &mut K, numbers: &[N]) -> Result<(), W
     let (first, second) = numbers.split_at(numbers.len() / 2);
     write_fields(out, first)?;
     write_fields(out, second)
+}
+
+/// Numbers, with one space before each, as one piece, or nothing where that is too long. No room is held but while it runs.
+#[inline(never)]
+fn short_fields<K: Sink, N: Integer>(out: &mut K, numbers: &[N]) -> Option<Result<(), WriteFault>>
+    ensures wrote { ForSome result (λ r. Wrote r (K.taken out.old) (flat_map field (map N.text numbers.now)) (K.taken out.new)) }
+    ensures nothing { result ≡ None → out.new ≡ out.old }
+    ensures failed { ForSome result (λ r. OnErr r (Rose (K.faults out.old) (K.faults out.new))) }
+    ensures faults_grow { Grows (K.faults out.old) (K.faults out.new) }
+{
+    let mut text = TextBuffer::new();
+    match put_fields(&mut text, numbers) {
+        Ok(()) => Some(write_whole(out, text.text())),
+        Err(_) => None,
+    }
 }
 
 /// Numbers, with one space before each, one after another.
@@ -68,10 +83,28 @@ fn write_line<K: Sink, N: Integer>(
     ensures failed { OnErr result (Rose (K.faults out.old) (K.faults out.new)) }
     ensures faults_grow { Grows (K.faults out.old) (K.faults out.new) }
 {
+    match short_line(out, word, numbers) {
+        Some(written) => written,
+        None => put_line(out, word, numbers),
+    }
+}
+
+/// A line of a word and numbers, as one piece, or nothing where that is too long.
+#[inline(never)]
+fn short_line<K: Sink, N: Integer>(
+    out: &mut K,
+    word: &[u8],
+    numbers: &[N],
+) -> Option<Result<(), WriteFault>>
+    ensures wrote { ForSome result (λ r. Wrote r (K.taken out.old) (line word.now (map N.text numbers.now)) (K.taken out.new)) }
+    ensures nothing { result ≡ None → out.new ≡ out.old }
+    ensures failed { ForSome result (λ r. OnErr r (Rose (K.faults out.old) (K.faults out.new))) }
+    ensures faults_grow { Grows (K.faults out.old) (K.faults out.new) }
+{
     let mut text = TextBuffer::new();
     match put_line(&mut text, word, numbers) {
-        Ok(()) => write_whole(out, text.text()),
-        Err(_) => put_line(out, word, numbers),
+        Ok(()) => Some(write_whole(out, text.text())),
+        Err(_) => None,
     }
 }
 
@@ -150,9 +183,8 @@ fn write_split_list<K: Sink>(out: &mut K, splits: &[Split]) -> Result<(), WriteF
     ensures failed { OnErr result (Rose (K.faults out.old) (K.faults out.new)) }
     ensures faults_grow { Grows (K.faults out.old) (K.faults out.new) }
 {
-    let mut text = TextBuffer::new();
-    if put_split_list(&mut text, splits).is_ok() {
-        return write_whole(out, text.text());
+    if let Some(written) = short_split_list(out, splits) {
+        return written;
     }
     if splits.len() < 2 {
         return put_split_list(out, splits);
@@ -160,6 +192,21 @@ fn write_split_list<K: Sink>(out: &mut K, splits: &[Split]) -> Result<(), WriteF
     let (first, second) = splits.split_at(splits.len() / 2);
     write_split_list(out, first)?;
     write_split_list(out, second)
+}
+
+/// The lines of splits, as one piece, or nothing where that is too long.
+#[inline(never)]
+fn short_split_list<K: Sink>(out: &mut K, splits: &[Split]) -> Option<Result<(), WriteFault>>
+    ensures wrote { ForSome result (λ r. Wrote r (K.taken out.old) (flat_map split_line (map shown_split splits.now)) (K.taken out.new)) }
+    ensures nothing { result ≡ None → out.new ≡ out.old }
+    ensures failed { ForSome result (λ r. OnErr r (Rose (K.faults out.old) (K.faults out.new))) }
+    ensures faults_grow { Grows (K.faults out.old) (K.faults out.new) }
+{
+    let mut text = TextBuffer::new();
+    match put_split_list(&mut text, splits) {
+        Ok(()) => Some(write_whole(out, text.text())),
+        Err(_) => None,
+    }
 }
 
 /// The lines of splits, one after another.
@@ -199,9 +246,8 @@ fn write_parts<K: Sink>(out: &mut K, parts: &[Part]) -> Result<(), WriteFault>
     ensures failed { OnErr result (Rose (K.faults out.old) (K.faults out.new)) }
     ensures faults_grow { Grows (K.faults out.old) (K.faults out.new) }
 {
-    let mut text = TextBuffer::new();
-    if put_parts(&mut text, parts).is_ok() {
-        return write_whole(out, text.text());
+    if let Some(written) = short_parts(out, parts) {
+        return written;
     }
     if parts.len() < 2 {
         return put_parts(out, parts);
@@ -209,6 +255,21 @@ fn write_parts<K: Sink>(out: &mut K, parts: &[Part]) -> Result<(), WriteFault>
     let (first, second) = parts.split_at(parts.len() / 2);
     write_parts(out, first)?;
     write_parts(out, second)
+}
+
+/// The fields of parts, as one piece, or nothing where that is too long.
+#[inline(never)]
+fn short_parts<K: Sink>(out: &mut K, parts: &[Part]) -> Option<Result<(), WriteFault>>
+    ensures wrote { ForSome result (λ r. Wrote r (K.taken out.old) (flat_map field (flat_map part_fields (map shown_part parts.now))) (K.taken out.new)) }
+    ensures nothing { result ≡ None → out.new ≡ out.old }
+    ensures failed { ForSome result (λ r. OnErr r (Rose (K.faults out.old) (K.faults out.new))) }
+    ensures faults_grow { Grows (K.faults out.old) (K.faults out.new) }
+{
+    let mut text = TextBuffer::new();
+    match put_parts(&mut text, parts) {
+        Ok(()) => Some(write_whole(out, text.text())),
+        Err(_) => None,
+    }
 }
 
 /// The fields of parts, one after another.
@@ -245,9 +306,8 @@ fn write_proof_list<K: Sink>(out: &mut K, proofs: &[NodeProof]) -> Result<(), Wr
     ensures failed { OnErr result (Rose (K.faults out.old) (K.faults out.new)) }
     ensures faults_grow { Grows (K.faults out.old) (K.faults out.new) }
 {
-    let mut text = TextBuffer::new();
-    if put_proof_list(&mut text, proofs).is_ok() {
-        return write_whole(out, text.text());
+    if let Some(written) = short_proof_list(out, proofs) {
+        return written;
     }
     if proofs.len() < 2 {
         return put_proof_list(out, proofs);
@@ -255,6 +315,21 @@ fn write_proof_list<K: Sink>(out: &mut K, proofs: &[NodeProof]) -> Result<(), Wr
     let (first, second) = proofs.split_at(proofs.len() / 2);
     write_proof_list(out, first)?;
     write_proof_list(out, second)
+}
+
+/// The lines of proofs, as one piece, or nothing where that is too long.
+#[inline(never)]
+fn short_proof_list<K: Sink>(out: &mut K, proofs: &[NodeProof]) -> Option<Result<(), WriteFault>>
+    ensures wrote { ForSome result (λ r. Wrote r (K.taken out.old) (flat_map proof_line (map shown_node_proof proofs.now)) (K.taken out.new)) }
+    ensures nothing { result ≡ None → out.new ≡ out.old }
+    ensures failed { ForSome result (λ r. OnErr r (Rose (K.faults out.old) (K.faults out.new))) }
+    ensures faults_grow { Grows (K.faults out.old) (K.faults out.new) }
+{
+    let mut text = TextBuffer::new();
+    match put_proof_list(&mut text, proofs) {
+        Ok(()) => Some(write_whole(out, text.text())),
+        Err(_) => None,
+    }
 }
 
 /// The lines of proofs, one after another.
@@ -336,10 +411,24 @@ pub fn write_cert<K: Sink>(cert: &Certificate, out: &mut K) -> Result<(), WriteF
     ensures failed { OnErr result (Rose (K.faults out.old) (K.faults out.new)) }
     ensures faults_grow { Grows (K.faults out.old) (K.faults out.new) }
 {
+    match short_cert(out, cert) {
+        Some(written) => written,
+        None => put_cert(cert, out),
+    }
+}
+
+/// The text of a certificate, as one piece, or nothing where that is too long.
+#[inline(never)]
+fn short_cert<K: Sink>(out: &mut K, cert: &Certificate) -> Option<Result<(), WriteFault>>
+    ensures wrote { ForSome result (λ r. Wrote r (K.taken out.old) (text_of (shown_cert cert.now)) (K.taken out.new)) }
+    ensures nothing { result ≡ None → out.new ≡ out.old }
+    ensures failed { ForSome result (λ r. OnErr r (Rose (K.faults out.old) (K.faults out.new))) }
+    ensures faults_grow { Grows (K.faults out.old) (K.faults out.new) }
+{
     let mut text = TextBuffer::new();
     match put_cert(cert, &mut text) {
-        Ok(()) => write_whole(out, text.text()),
-        Err(_) => put_cert(cert, out),
+        Ok(()) => Some(write_whole(out, text.text())),
+        Err(_) => None,
     }
 }
 

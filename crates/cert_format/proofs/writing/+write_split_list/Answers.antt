@@ -8,4 +8,4 @@ pub returns-clause-wrote : goal.returns-clause-wrote
 returns-clause-wrote g t c =
     wrote-halves c.write_split_list-2.result split_line shown_split c.args.splits.now c.split_at.result.0.now c.split_at.result.1.now (length c.args.splits.now / 2)
     (g.K.Sink.taken c.args.out.now) (g.K.Sink.taken c.write_split_list.new.out) (g.K.Sink.taken c.write_split_list-2.new.out)
-    c.split_at.ensures.front c.split_at.ensures.back c.in_ok-write_split_list.ensures.wrote c.write_split_list-2.ensures.wrote
+    c.split_at.ensures.front c.split_at.ensures.back (rw (c.short_split_list.ensures.nothing c.in_default.is) at c.in_ok-write_split_list.ensures.wrote) c.write_split_list-2.ensures.wrote
