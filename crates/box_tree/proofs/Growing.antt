@@ -1,8 +1,8 @@
 -- What a split makes of what a tree keeps is a network's again.
-use Rattle.std.proofs.Common.{◌≡◌, ℕ, zero, suc, ◌-◌, ◌<◌, ◌≤◌, ◌⊎◌, inl, inr, ◌==◌, ◌||◌, if◌then◌else◌, List, [], ◌∷◌, ◌++◌, length}
+use Rattle.std.proofs.Common.{◌≡◌, ℕ, zero, suc, ◌<◌, ◌≤◌, inl, inr, ◌==◌, ◌||◌, if◌then◌else◌, List, [], ◌∷◌, ◌++◌, length}
 use Rattle.std.proofs.Common.{get_or, Bool, true, false, Option, Some, None, option_map, ℤ, arith, refl, sym, ap, subst, ◌∙◌, length-append}
 use Rattle.std.proofs.Math.Path.{fun_ext}
-use Rattle.std.proofs.lemmas.List.{get_or_append_left, get_or-append_right, get_or_past}
+use Rattle.std.proofs.lemmas.List.{get_or_append_left}
 use Rattle.std.proofs.Math.Seq.{get_or-append_seam}
 use Rattle.integers.proofs.AtKey.{chosen, passed}
 use Rattle.pool_model.specs.Network.{Net}
@@ -17,31 +17,8 @@ use Rattle.split_tree.specs.declared.span.Span.{Span}
 use Rattle.split_tree.specs.Splits.{with_split, IsOf as AreCut}
 use Rattle.box_tree.specs.Kept.{Kept, searched_of, IsKeptOf}
 use Rattle.box_tree.specs.Taken.{grown, IsTaken}
-
--- ---- two elements at the end of a list
-
-module _ {X : Type 0} (xs : List X) (a b d : X) (t : ℕ) (long : length xs ≡ left_node t) where
-  at_left : (node : ℕ) → node ≡ left_node t → get_or (xs ++ a ∷ b ∷ []) node d ≡ a
-  at_left node e =
-      let first : node - left_node t ≡ 0 = omega arith in
-      get_or-append_right xs (a ∷ b ∷ []) (left_node t) node d long (omega arith) ∙ ap (λ (i : ℕ). get_or (a ∷ b ∷ []) i d) first
-
-  at_right : (node : ℕ) → node ≡ right_node t → get_or (xs ++ a ∷ b ∷ []) node d ≡ b
-  at_right node e =
-      let second : node - left_node t ≡ suc 0 = omega arith in
-      get_or-append_right xs (a ∷ b ∷ []) (left_node t) node d long (omega arith) ∙ ap (λ (i : ℕ). get_or (a ∷ b ∷ []) i d) second
-
-  at_before : (node : ℕ) → node < left_node t → get_or (xs ++ a ∷ b ∷ []) node d ≡ get_or xs node d
-  at_before node h = get_or_append_left xs (a ∷ b ∷ []) d node (omega (arith, long))
-
-  at_past : (node : ℕ) → right_node t < node → get_or (xs ++ a ∷ b ∷ []) node d ≡ get_or xs node d
-  at_past node h =
-      let two : length (a ∷ b ∷ []) ≡ 2 = refl in
-      get_or_past (xs ++ a ∷ b ∷ []) node d (omega (arith, length-append xs (a ∷ b ∷ []), long, two)) ∙ sym (get_or_past xs node d (omega (arith, long)))
-
--- where a node stands among the old nodes and the two new ones
-where_node : (t node : ℕ) → (node ≡ left_node t) ⊎ ((node ≡ right_node t) ⊎ ((node < left_node t) ⊎ (right_node t < node)))
-where_node t node = grind arith
+use Rattle.box_tree.proofs.Counting.{more-counted}
+use Rattle.box_tree.proofs.Ends.{at_left, at_right, at_before, at_past, where_node}
 
 -- ---- proofs
 
@@ -158,6 +135,7 @@ split-taken n k split span left right lb rb is order cut left_is right_is =
         proved = omega (arith, length-append k.proofs (left ∷ right ∷ []), is.proved, more, proofs);
         bounded = omega (arith, length-append k.bounds (lb ∷ rb ∷ []), is.bounded, more, two);
         splits = cut;
+        counted = more-counted n k.splits.list split k.cuts order.cuts.coord is.counted;
         bounds = λ node h. subst (λ (z : Searched). get_or (k.bounds ++ lb ∷ rb ∷ []) node None ≡ node_bound n z.tree node) (sym made) (elim (where_node t node) [
           | inl e ↦ at_left k.bounds lb rb None t is.bounded node e
               ∙ left_is ∙ above (option_map (shown_by n (left_of (box_of n k.splits.list split.leaf) split.coord split.cut)) left)

@@ -70,6 +70,7 @@ plan-taken n k w a is cost less =
       kept = record {
         searched = searched-kept n (searched_of k) (improve w) is.searched order;
         splits = is.splits;
+        counted = is.counted;
         proved = is.proved;
         bounded = is.bounded;
         bounds = is.bounds;

@@ -1,4 +1,7 @@
 -- Lemmas behind the contracts.
+pub mod Ends
+pub mod Counting
+pub mod Indexing
 pub mod Started
 pub mod Scans
 pub mod Rooting

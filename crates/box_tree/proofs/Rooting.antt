@@ -68,6 +68,7 @@ root-taken n k proof bound is shows unproved uncut bound_is =
         proved = length-set k.proofs 0 (Some proof) ∙ is.proved;
         bounded = long_set ∙ is.bounded;
         splits = is.splits;
+        counted = is.counted;
         bounds = λ node h. subst (λ (z : Searched). get_or (set k.bounds 0 bound) node None ≡ node_bound n z.tree node) (sym made)
             (let first : node ≡ 0 = omega (arith, h, only) in
             ap (λ (i : ℕ). get_or (set k.bounds 0 bound) i None) first ∙ get_or-set_same k.bounds 0 bound None (omega (arith, is.bounded)) ∙ now

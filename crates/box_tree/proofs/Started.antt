@@ -1,8 +1,9 @@
 -- The tree of the root alone is the network's.
-use Rattle.std.proofs.Common.{◌≡◌, ℕ, zero, suc, ◌<◌, List, [], ◌∷◌, get_or, Option, Some, None, ℤ, arith, refl, sym, subst, ◌∙◌, map, option_map}
+use Rattle.std.proofs.Common.{◌≡◌, ℕ, zero, suc, ◌<◌, List, [], ◌∷◌, get_or, replicate, Option, Some, None, ℤ, arith, refl, sym, subst, ◌∙◌, map, option_map}
 use Rattle.std.proofs.lemmas.Option.{none-some}
 use Rattle.pool_model.specs.Network.{Net}
 use Rattle.pool_model.specs.Starting.{reach_bound}
+use Rattle.row_model.specs.Boxes.{coords}
 use Rattle.row_model.specs.Multipliers.{Proof}
 use Rattle.box_space.specs.Views.{shown_proof}
 use Rattle.box_space.specs.declared.multipliers.Proof.{Proof as HeldProof}
@@ -10,10 +11,11 @@ use Rattle.row_model.specs.Trees.{Split, node_bound}
 use Rattle.split_tree.specs.declared.span.Span.{Span}
 use Rattle.split_tree.specs.Splits.{Splits, IsOf as AreCut}
 use Rattle.box_tree.specs.Kept.{Kept, searched_of, IsKeptOf}
+use Rattle.box_tree.proofs.Counting.{none-counted}
 
 -- what is kept at the start
 abbrev pub kept_first : Net → List Span → Kept
-kept_first n spans = record { splits = record { list = []; spans = spans }; proofs = None ∷ []; bounds = Some (reach_bound n) ∷ []; best = None; cost = None }
+kept_first n spans = record { splits = record { list = []; spans = spans }; cuts = replicate (coords n) 0; proofs = None ∷ []; bounds = Some (reach_bound n) ∷ []; best = None; cost = None }
 
 no_proof : (node : ℕ) → get_or (let xs : List (Option Proof) = None ∷ [] in xs) node None ≡ None
 no_proof zero = refl
@@ -36,6 +38,7 @@ first-kept n spans cut = record {
     obeys = λ w e. absurd (none-some w e);
   };
   splits = cut;
+  counted = none-counted n;
   proved = refl;
   bounded = refl;
   bounds = λ node h. first-bound n spans node (omega arith);
@@ -43,10 +46,11 @@ first-kept n spans cut = record {
 }
 
 -- the same, as code holds it
-pub first-held : (n : Net) (t : Splits) (proofs : List (Option HeldProof)) (bounds : List (Option ℤ)) → t.list ≡ [] → AreCut n t → proofs ≡ None ∷ [] → bounds ≡ Some (reach_bound n) ∷ []
-    → IsKeptOf n record { splits = t; proofs = map (option_map shown_proof) proofs; bounds = bounds; best = None; cost = None }
-first-held n t proofs bounds e cut f g =
-    subst (λ (xs : List (Option HeldProof)). IsKeptOf n record { splits = t; proofs = map (option_map shown_proof) xs; bounds = bounds; best = None; cost = None }) (sym f)
-    (subst (λ (xs : List (Option ℤ)). IsKeptOf n record { splits = t; proofs = None ∷ []; bounds = xs; best = None; cost = None }) (sym g)
+pub first-held : (n : Net) (t : Splits) (cuts : List ℕ) (proofs : List (Option HeldProof)) (bounds : List (Option ℤ)) → t.list ≡ [] → AreCut n t → cuts ≡ replicate (coords n) 0 → proofs ≡ None ∷ [] → bounds ≡ Some (reach_bound n) ∷ []
+    → IsKeptOf n record { splits = t; cuts = cuts; proofs = map (option_map shown_proof) proofs; bounds = bounds; best = None; cost = None }
+first-held n t cuts proofs bounds e cut c f g =
+    subst (λ (xs : List ℕ). IsKeptOf n record { splits = t; cuts = xs; proofs = map (option_map shown_proof) proofs; bounds = bounds; best = None; cost = None }) (sym c)
+    (subst (λ (xs : List (Option HeldProof)). IsKeptOf n record { splits = t; cuts = replicate (coords n) 0; proofs = map (option_map shown_proof) xs; bounds = bounds; best = None; cost = None }) (sym f)
+    (subst (λ (xs : List (Option ℤ)). IsKeptOf n record { splits = t; cuts = replicate (coords n) 0; proofs = None ∷ []; bounds = xs; best = None; cost = None }) (sym g)
     (subst (λ (xs : List Split). AreCut n record { list = xs; spans = t.spans }
-    → IsKeptOf n record { splits = record { list = xs; spans = t.spans }; proofs = None ∷ []; bounds = Some (reach_bound n) ∷ []; best = None; cost = None }) (sym e) (first-kept n t.spans) cut))
+    → IsKeptOf n record { splits = record { list = xs; spans = t.spans }; cuts = replicate (coords n) 0; proofs = None ∷ []; bounds = Some (reach_bound n) ∷ []; best = None; cost = None }) (sym e) (first-kept n t.spans) cut)))

@@ -1,19 +1,23 @@
 -- What a tree holds, and when it is a network's.
-use Rattle.std.specs.Prelude.{◌≡◌, ℕ, ◌+◌, ◌*◌, ◌<◌, ◌≤◌, List, length, get_or, if◌then◌else◌, Option, None, Some, ℤ}
+use Rattle.std.specs.Prelude.{◌≡◌, ℕ, ◌+◌, ◌*◌, ◌<◌, ◌≤◌, List, length, get_or, Option, None, Some, ℤ}
 use Rattle.pool_model.specs.Network.{Net}
 use Rattle.pool_model.specs.Plan.{Written}
 use Rattle.plan_core.specs.Checks.{IsCostOf}
 use Rattle.plan_core.specs.declared.plan.Cost.{Cost}
 use Rattle.row_model.specs.Multipliers.{Proof}
-use Rattle.row_model.specs.Trees.{nodes, most_splits, is_cut, node_bound}
+use Rattle.row_model.specs.Trees.{nodes, most_splits, node_bound}
 use Rattle.row_model.specs.Entries.{Searched, IsSearched}
 use Rattle.row_book.specs.Fitting.{Fits}
 use Rattle.row_book.specs.declared.scratch.Scratch.{Scratch}
 use Rattle.split_tree.specs.Splits.{Splits, IsOf as AreCut}
+use Rattle.box_tree.specs.Counts.{AreCounts}
+use Rattle.box_tree.specs.Open.{bound_at}
 
--- The splits; for each node its proof, and its bound, None where it holds no plan; the best plan, and what it costs.
+-- The splits, and for each coordinate how many are on it; for each node its proof, and its bound, None where it holds no plan; the best
+-- plan, and what it costs.
 pub record Kept : Type 0 where
   pub splits : Splits
+  pub cuts : List ℕ
   pub proofs : List (Option Proof)
   pub bounds : List (Option ℤ)
   pub best : Option Written
@@ -30,7 +34,7 @@ pub record Held : Type 0 where
 
 -- a node's bound as it is kept, and nothing for a node that is cut
 abbrev pub kept_leaf_bound : Kept → ℕ → Option ℤ
-kept_leaf_bound k node = if is_cut k.splits.list node then None else get_or k.bounds node None
+kept_leaf_bound k node = bound_at k.splits.list k.bounds node
 
 -- there is a cost exactly where there is a plan, and it is the plan's
 abbrev pub IsKeptCost : Net → Option Written → Option Cost → Type 0
@@ -39,10 +43,12 @@ IsKeptCost n None (Some cost) = ⊥
 IsKeptCost n (Some plan) None = ⊥
 IsKeptCost n (Some plan) (Some cost) = IsCostOf n plan cost
 
--- What is kept is a network's: splits, proofs and plan are in order there, and bounds and cost are the ones that they stand for.
+-- What is kept is a network's: splits, proofs and plan are in order there, and counts, bounds and cost are
+-- the ones that they stand for.
 pub record IsKeptOf (n : Net) (k : Kept) : Type 0 where
   pub searched : IsSearched n (searched_of k)
   pub splits : AreCut n k.splits
+  pub counted : AreCounts n k.splits.list k.cuts
   pub proved : length k.proofs ≡ nodes k.splits.list
   pub bounded : length k.bounds ≡ nodes k.splits.list
   pub bounds : (node : ℕ) → node < nodes k.splits.list → get_or k.bounds node None ≡ node_bound n (searched_of k).tree node

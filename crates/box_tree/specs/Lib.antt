@@ -1,3 +1,5 @@
+pub mod Counts
+pub mod Open
 pub mod Kept
 pub mod Views
 pub mod EntryFaults

@@ -1,5 +1,5 @@
 -- An entry that was taken, and what a split makes of what a tree keeps.
-use Rattle.std.specs.Prelude.{◌≡◌, [], ◌∷◌, ◌++◌, slice_set, Option, Some, ℤ}
+use Rattle.std.specs.Prelude.{◌≡◌, ℕ, ◌+◌, List, [], ◌∷◌, ◌++◌, get_or, slice_set, Option, Some, ℤ}
 use Rattle.pool_model.specs.Network.{Net}
 use Rattle.pool_model.specs.Plan.{Written}
 use Rattle.plan_core.specs.declared.plan.Cost.{Cost}
@@ -24,10 +24,15 @@ improved k plan cost = record k { best = Some plan; cost = Some cost }
 abbrev pub rooted : Kept → Proof → Option ℤ → Kept
 rooted k proof bound = record k { proofs = slice_set k.proofs 0 (Some proof); bounds = slice_set k.bounds 0 bound }
 
+-- one split more on a coordinate
+abbrev pub counted : List ℕ → ℕ → List ℕ
+counted counts coord = slice_set counts coord (get_or counts coord 0 + 1)
+
 -- a split with the ends of its leaf, and two nodes with their proofs and bounds
 abbrev pub grown : Kept → Split → Span → (left right : Option Proof) → (left_bound right_bound : Option ℤ) → Kept
 grown k split span left right left_bound right_bound = record {
   splits = with_split k.splits split span;
+  cuts = counted k.cuts split.coord;
   proofs = k.proofs ++ left ∷ right ∷ [];
   bounds = k.bounds ++ left_bound ∷ right_bound ∷ [];
   best = k.best;

@@ -14,19 +14,21 @@ ghost use Rattle.box_tree.specs.Views.{shown_entry};
 ghost use Rattle.box_tree.specs.Taken.{IsTaken, improved, rooted};
 
 use crate::entry::{Entry, EntryFault};
+use crate::leaves::open_leaf;
 use crate::tree::{Best, Tree};
 use blend_network::Network;
 use bounds::{raised, value_in};
 use box_space::Proof;
 use plan_core::{Cost, WrittenPlan, check_plan, compare_cost};
+use std::alloc::AllocError;
 use std::cmp::Ordering;
 
 impl Tree {
     /// Takes the entry, exactly where it is in order and there is memory for it. Else it answers the entry's first fault, drops the
     /// entry, and the tree is as it was.
     ///
-    /// A split takes a step for each split above its leaf, up to the innermost one on its coordinate, and memory for itself and two
-    /// nodes. For each half that has a proof it also builds the half's box, from the leaf up to the root, and values the proof there.
+    /// A split takes a step for each split above its leaf, up to the innermost one on its coordinate, some to put its halves among the
+    /// leaves, and memory for itself and two nodes. For each half that has a proof it also builds the half's box, from the leaf up to the root, and values the proof there.
     pub fn apply(&mut self, net: &Network, entry: Entry) -> Result<(), EntryFault>
         requires { IsOf (net_of net.now) self.old }
         ensures ok { IfOk result (λ _. searched_of self.new.kept ≡ after (searched_of self.old.kept) (shown_entry entry)) }
@@ -93,7 +95,7 @@ impl Tree {
             return Err(EntryFault::RootLate);
         }
         let bound = raised(self.node_bound(0), Some(shown));
-        self.set_root(proof, bound);
+        self.set_root(proof, bound)?;
         Ok(())
     }
 
@@ -104,12 +106,17 @@ impl Tree {
         self.proof_of(0).is_none() && !self.splits.is_cut(0)
     }
 
-    /// Gives the root a proof and a bound.
-    fn set_root(&mut self, proof: Proof, bound: Option<i128>)
-        ensures kept { self.new.kept ≡ rooted self.old.kept (shown_proof proof) bound }
+    /// Gives the root, which is not cut, a proof and a bound, or leaves the tree as it was where there is no memory.
+    fn set_root(&mut self, proof: Proof, bound: Option<i128>) -> Result<(), AllocError>
+        requires { is_cut self.old.kept.splits.list 0 ≡ false }
+        ensures kept { IfOk result (λ _. self.new.kept ≡ rooted self.old.kept (shown_proof proof) bound) }
+        ensures unchanged { IfErr result (λ _. self.new.kept ≡ self.old.kept) }
         ensures scratch { self.new.scratch ≡ self.old.scratch }
     {
+        let known = open_leaf(0, self.bounds.as_slice()[0]);
+        self.order.replace(known, open_leaf(0, bound))?;
         self.proofs[0] = Some(proof);
         self.bounds[0] = bound;
+        Ok(())
     }
 }

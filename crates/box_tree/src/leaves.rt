@@ -1,53 +1,65 @@
-//! The bound of a tree, and the leaf that has it.
+//! The bound of a tree, and the leaves that may hold a plan.
 
-ghost use Rattle.std.specs.Prelude.{◌≡◌, ◌<◌, length, false, get_or, None, MatchOption, IsTrue, ◌↔◌};
+ghost use Rattle.std.specs.Prelude.{◌≡◌, [], ◌∷◌, length, None, IfOk, MatchOption};
 ghost use Rattle.pool_model.specs.Claim.{HasNoPlan, IsBound};
 ghost use Rattle.pool_model.specs.Network.{IsLimited, Net};
 ghost use Rattle.pool_model.specs.Starting.{least_below};
-ghost use Rattle.row_model.specs.Trees.{tree_bound, IsLeaf, IsLeastLeaf};
+ghost use Rattle.row_model.specs.Trees.{tree_bound, IsLeastLeaf};
 ghost use Rattle.box_tree.specs.Kept.{searched_of, IsOf, kept_leaf_bound};
+ghost use Rattle.box_tree.specs.Open as open_leaves;
 
 use crate::tree::Tree;
-use bounds::lesser;
+use edge_io::Memory;
+use leaf_order::{LeafOrder, OpenLeaf};
+use std::alloc::{AllocError, Global};
+
+/// A node with its bound, where it may hold a plan.
+pub(crate) fn open_leaf(node: u32, bound: Option<i128>) -> Option<OpenLeaf>
+    ensures { result ≡ open_leaves.open_leaf node bound }
+{
+    match bound {
+        None => None,
+        Some(bound) => Some(OpenLeaf { bound, node }),
+    }
+}
+
+/// The set of the root alone, with its bound.
+pub(crate) fn root_alone(alloc: Global, bound: Option<i128>) -> Result<LeafOrder, AllocError>
+    ensures { IfOk result (open_leaves.AreIndexed [] (bound ∷ [])) }
+{
+    let mut order = LeafOrder::new(alloc);
+    order.put(open_leaf(0, bound), None)?;
+    Ok(order)
+}
 
 impl Tree {
     /// The least bound of a leaf, in picos: every plan that obeys costs at least that. None exactly where every leaf holds no plan,
-    /// and then no plan obeys. It goes over all nodes.
+    /// and then no plan obeys.
     pub fn bound(&self) -> Option<i128>
         ensures bound { (n : Net) → IsOf n self.now → result ≡ tree_bound n (searched_of self.now.kept).tree }
         ensures costs { (n : Net) → IsLimited n → IsOf n self.now → MatchOption result (HasNoPlan n) (IsBound n) }
         ensures kept { result ≡ least_below (kept_leaf_bound self.now.kept) (length self.now.kept.bounds) }
     {
-        let mut least = None;
-        for node in 0..self.bounds.len() {
-            least = lesser(least, self.leaf_bound(node));
+        match self.order.first() {
+            None => None,
+            Some(leaf) => Some(leaf.bound),
         }
-        least
     }
 
-    /// The leaf of the least bound, of the lowest number at a tie. None exactly where every leaf holds no plan. It goes twice over
-    /// all nodes.
+    /// The leaf of the least bound, of the lowest number at a tie. None exactly where every leaf holds no plan.
     pub fn least_leaf(&self) -> Option<u32>
         ensures { (n : Net) → IsOf n self.now → MatchOption result (tree_bound n (searched_of self.now.kept).tree ≡ None) (IsLeastLeaf n (searched_of self.now.kept).tree) }
     {
-        let least = self.bound()?;
-        for node in 0..self.bounds.len() {
-            if self.leaf_bound(node) == Some(least) {
-                return Some(node as u32);
-            }
+        match self.order.first() {
+            None => None,
+            Some(leaf) => Some(leaf.node),
         }
-        None
     }
 
-    /// A leaf's bound, and None for a node that is cut.
-    fn leaf_bound(&self, node: usize) -> Option<i128>
-        requires { node < length self.now.kept.bounds }
-        ensures { result ≡ kept_leaf_bound self.now.kept node }
+    /// The first so many leaves that may hold a plan, by bound and then by number.
+    pub fn open_leaves(&self, most: u32) -> Result<Vec<u32>, Memory>
+        ensures { (n : Net) → IsOf n self.now → IfOk result (λ v. open_leaves.AreFirstOpen n (searched_of self.now.kept).tree most v.items) }
     {
-        if self.splits.is_cut(node as u32) {
-            None
-        } else {
-            self.bounds.as_slice()[node]
-        }
+        Ok(self.order.nodes(most as usize)?)
     }
 }

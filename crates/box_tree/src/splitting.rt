@@ -1,7 +1,10 @@
 //! Splits of leaves.
 
-ghost use Rattle.std.specs.Prelude.{◌≡◌, ◌≢◌, ◌<◌, IfOk, IfErr, length, option_map};
+ghost use Rattle.std.specs.Prelude.{◌≡◌, ◌≢◌, ◌<◌, ◌≤◌, ◌↔◌, ℕ, false, get_or, IfOk, IfErr, length, option_map};
+ghost use Rattle.std.specs.List.{Contains};
 ghost use Rattle.std.specs.Option.{ForSome};
+ghost use Rattle.leaf_order.specs.Order.{ArePut};
+ghost use Rattle.leaf_order.specs.declared.leaf.OpenLeaf.{OpenLeaf};
 ghost use Rattle.pool_model.specs.Network.{Net, net_of};
 ghost use Rattle.row_model.specs.Multipliers as multipliers;
 ghost use Rattle.row_model.specs.Trees as trees;
@@ -13,16 +16,18 @@ ghost use Rattle.box_tree.specs.EntryFaults.{IsFirstFault, IsBadProof};
 ghost use Rattle.box_tree.specs.Kept.{searched_of, IsOf};
 ghost use Rattle.split_tree.specs.Faults as splits;
 ghost use Rattle.split_tree.specs.Spans.{half_at, CutsBetween};
-ghost use Rattle.split_tree.specs.Splits.{IsOf as AreCut, MayCome};
+ghost use Rattle.split_tree.specs.Splits.{IsOf as AreCut, MayCome, with_split};
 ghost use Rattle.box_tree.specs.Taken.{IsTaken, grown};
 
 use crate::entry::EntryFault;
+use crate::leaves::open_leaf;
 use crate::tree::Tree;
 use blend_network::Network;
 use bounds::{raised, value_in};
 use box_space::{Proof, Split};
+use leaf_order::{LeafOrder, OpenLeaf};
 use row_book::Shown;
-use split_tree::{Side, Span, SplitFault};
+use split_tree::{Side, Span, SplitFault, SplitTree};
 use std::alloc::AllocError;
 
 /// A new node: its proof and its bound.
@@ -113,6 +118,9 @@ impl Tree {
     ) -> Result<(), AllocError>
         requires leaf { split.leaf < trees.nodes self.old.kept.splits.list }
         requires few { length self.old.kept.splits.list < trees.most_splits }
+        requires uncut { (node : ℕ) → trees.nodes self.old.kept.splits.list ≤ node → trees.is_cut self.old.kept.splits.list node ≡ false }
+        requires coord { split.coord < length self.old.kept.cuts }
+        requires counted { get_or self.old.kept.cuts split.coord 0 < trees.most_splits }
         ensures grown { IfOk result (λ _. self.new.kept ≡ grown self.old.kept (shown_split split) span
             (option_map shown_proof left.proof) (option_map shown_proof right.proof) left.bound right.bound) }
         ensures cut { (n : Net) → AreCut n self.old.kept.splits → MayCome n self.old.kept.splits.list (shown_split split)
@@ -122,11 +130,53 @@ impl Tree {
     {
         self.proofs.reserve(2)?;
         self.bounds.reserve(2)?;
-        self.splits.push(split, span)?;
+        let number = 2 * self.splits.len() as u32 + 1;
+        let parent = open_leaf(split.leaf, self.bounds.as_slice()[split.leaf as usize]);
+        let left_leaf = open_leaf(number, left.bound);
+        let right_leaf = open_leaf(number + 1, right.bound);
+        push_split(
+            &mut self.splits,
+            &mut self.order,
+            split,
+            span,
+            left_leaf,
+            right_leaf,
+        )?;
+        self.order.take_out(parent);
+        self.cuts[split.coord as usize] += 1;
         self.proofs.push_reserved(left.proof);
         self.proofs.push_reserved(right.proof);
         self.bounds.push_reserved(left.bound);
         self.bounds.push_reserved(right.bound);
         Ok(())
     }
+}
+
+/// Puts the halves of a leaf among the leaves, and its split behind the splits; or leaves both as they were where there is no memory.
+fn push_split(
+    splits: &mut SplitTree,
+    order: &mut LeafOrder,
+    split: Split,
+    span: Span,
+    left: Option<OpenLeaf>,
+    right: Option<OpenLeaf>,
+) -> Result<(), AllocError>
+    requires leaf { split.leaf < trees.nodes splits.old.list }
+    requires few { length splits.old.list < trees.most_splits }
+    requires left { ForSome left (λ leaf. ¬ Contains order.old leaf) }
+    requires right { ForSome right (λ leaf. ¬ Contains order.old leaf) }
+    ensures pushed { IfOk result (λ _. splits.new ≡ with_split splits.old (shown_split split) span) }
+    ensures cut { (n : Net) → AreCut n splits.old → MayCome n splits.old.list (shown_split split)
+        → CutsBetween n splits.old.list (shown_split split) span → IfOk result (λ _. AreCut n splits.new) }
+    ensures put { IfOk result (λ _. ArePut left right order.old order.new) }
+    ensures same_splits { IfErr result (λ _. splits.new ≡ splits.old) }
+    ensures same_leaves { IfErr result (λ _. (leaf : OpenLeaf) → Contains order.new leaf ↔ Contains order.old leaf) }
+{
+    order.put(left, right)?;
+    if splits.push(split, span).is_err() {
+        order.take_out(left);
+        order.take_out(right);
+        return Err(AllocError);
+    }
+    Ok(())
 }

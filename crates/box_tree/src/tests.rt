@@ -60,6 +60,18 @@ fn the_bound_is_that_of_the_leaves_that_may_hold_a_plan(rt: HostRuntime) -> Resu
     Ok(())
 }
 
+#[test]
+fn open_leaves_come_by_bound_and_splits_are_counted(rt: HostRuntime) -> Result<(), Fail> {
+    let alloc = rt.alloc();
+    let net = network(alloc, TWO_FEEDS)?;
+    let mut tree = Tree::start(alloc, &net)?;
+    cut_twice(alloc, &net, &mut tree)?;
+    assert_eq!(rt; tree.open_leaves(9)?.as_slice(), [2, 4].as_slice());
+    assert_eq!(rt; tree.open_leaves(1)?.as_slice(), [2].as_slice());
+    assert_eq!(rt; tree.cuts(), [1, 1, 0, 0].as_slice());
+    Ok(())
+}
+
 /// A leaf that is cut, a cut on the end, a number past the coordinates, a late proof of the root, and the same plan again.
 fn out_of_order(
     alloc: Global,

@@ -6,11 +6,14 @@ ghost use Rattle.plan_core.specs.Views.{shown_plan};
 ghost use Rattle.row_model.specs.Trees as trees;
 ghost use Rattle.row_model.specs.Entries as entries;
 ghost use Rattle.box_space.specs.Views.{AreEndsOf, shown_proof, shown_split};
+ghost use Rattle.box_tree.specs.Counts.{AreCounts};
 ghost use Rattle.box_tree.specs.Kept.{IsOf, searched_of};
 
+use crate::leaves::root_alone;
 use blend_network::Network;
-use box_space::{BoxEnds, Proof, Split};
+use box_space::{BoxEnds, Proof, Split, coords};
 use edge_io::Memory;
+use leaf_order::LeafOrder;
 use plan_core::{Cost, WrittenPlan};
 use row_book::Scratch;
 use split_tree::SplitTree;
@@ -36,13 +39,18 @@ pub struct TreeParts {
 }
 
 /// A tree of boxes. Node 0 is the root, which holds all plans; split number t, from 0, cuts its node into the nodes 2t + 1, left,
-/// and 2t + 2, right. It keeps the splits, each node's proof and its bound, and the cheapest plan so far.
+/// and 2t + 2, right. It keeps the splits, how many are on each coordinate, each node's proof and its bound, the leaves that may hold
+/// a plan in the order of their bounds, and the cheapest plan so far.
 #[derive(Drop)]
 pub struct Tree {
     pub(crate) splits: SplitTree,
+    /// Of each coordinate, how many splits are on it.
+    pub(crate) cuts: Vec<u32>,
     pub(crate) proofs: Vec<Option<Proof>>,
     /// Of each node, in picos: None where it holds no plan.
     pub(crate) bounds: Vec<Option<i128>>,
+    /// Each leaf that may hold a plan, with its bound.
+    pub(crate) order: LeafOrder,
     pub(crate) best: Option<Best>,
     pub(crate) scratch: Scratch,
 }
@@ -52,12 +60,14 @@ impl Model for Tree {
     ghost use Rattle.plan_core.specs.Views.{shown_plan};
     ghost use Rattle.box_space.specs.Views.{shown_proof};
     ghost use Rattle.box_tree.specs.Kept.{Held, AreSized};
+    ghost use Rattle.box_tree.specs.Open.{AreIndexed};
 
     ghost Value = { Held };
 
     ghost view = { λ t. record {
       kept = record {
         splits = t.splits;
+        cuts = t.cuts.items;
         proofs = map (option_map shown_proof) t.proofs.items;
         bounds = t.bounds.items;
         best = option_map (λ b. shown_plan b.plan) t.best;
@@ -66,7 +76,7 @@ impl Model for Tree {
       scratch = t.scratch;
     } };
 
-    ghost invariant = { λ t. AreSized (length t.splits.list) (length t.proofs.items) (length t.bounds.items) };
+    ghost invariant = { λ t. AreSized (length t.splits.list) (length t.proofs.items) (length t.bounds.items) × AreIndexed t.splits.list t.bounds.items t.order };
 }
 
 impl Tree {
@@ -75,10 +85,16 @@ impl Tree {
         ensures searched { IfOk result (λ t. searched_of t.kept ≡ entries.start) }
         ensures tree { IfOk result (IsOf (net_of net.now)) }
     {
+        let bound = Some(net.reach_bound());
+        let splits = SplitTree::new(alloc)?;
+        let cuts = vec![in alloc; 0; coords(net) as usize]?;
+        let order = root_alone(alloc, bound)?;
         Ok(Tree {
-            splits: SplitTree::new(alloc)?,
+            splits,
+            cuts,
             proofs: vec![in alloc; None]?,
-            bounds: vec![in alloc; Some(net.reach_bound())]?,
+            bounds: vec![in alloc; bound]?,
+            order,
             best: None,
             scratch: Scratch::new(alloc, net)?,
         })
@@ -109,6 +125,14 @@ impl Tree {
         ensures { map shown_split result.now ≡ self.now.kept.splits.list }
     {
         self.splits.splits()
+    }
+
+    /// For each coordinate the number of splits on it.
+    pub fn cuts(&self) -> &[u32]
+        ensures counts { (n : Net) → IsOf n self.now → AreCounts n self.now.kept.splits.list result.now }
+        ensures kept { result.now ≡ self.now.kept.cuts }
+    {
+        self.cuts.as_slice()
     }
 
     /// The box of a node. It goes from the node up to the root, and keeps the innermost cut on each side.

@@ -43,5 +43,5 @@ returns-clause-taken c =
     let before : c.node_bound.result ≡ get_or k.bounds 0 None = c.node_bound.ensures.kept ∙ ap (λ (z : Kept). get_or z.bounds 0 None) same in
     let bound_is : c.raised-bound.result ≡ raised (get_or k.bounds 0 None) (Some (shown_by n (root n) proof)) =
     c.raised-bound.ensures ∙ ap (λ (o : Option ℤ). raised o (Some (shown_value c.in_ok-shown.shown))) before ∙ ap (λ (z : Shown). raised (get_or k.bounds 0 None) (Some z)) shows in
-    subst (λ (z : Kept). IsTaken n (root_proof proof) k z) (sym (c.set_root.ensures.kept ∙ ap (λ (z : Kept). rooted z proof c.raised-bound.result) same))
+    subst (λ (z : Kept). IsTaken n (root_proof proof) k z) (sym (c.in_ok-set_root.ensures.kept ∙ ap (λ (z : Kept). rooted z proof c.raised-bound.result) same))
     (root-taken n k proof c.raised-bound.result c.requires.kept (c.in_ok-shown.ensures.in_order (root n) top) is_open.0 is_open.1 bound_is)

@@ -1,8 +1,8 @@
-use Rattle.std.proofs.Common.{◌≡◌, get_or, Option, None, ℤ, option_map, ap, sym, subst, ◌∙◌}
+use Rattle.std.proofs.Common.{◌≡◌, ℕ, ◌<◌, ◌≤◌, false, get_or, Option, None, ℤ, option_map, ap, sym, subst, ◌∙◌}
 use Rattle.std.proofs.lemmas.Result.{err_from_is_err_and}
 use Rattle.pool_model.specs.Network.{net_of}
 use Rattle.row_model.specs.Multipliers.{Shown, shown_by, IsInOrder}
-use Rattle.row_model.specs.Trees.{raised}
+use Rattle.row_model.specs.Trees.{raised, nodes, most_splits, is_cut}
 use Rattle.row_model.specs.Entries.{split_of, IsSplitEntryInOrder}
 use Rattle.box_space.specs.Views.{shown_proof, shown_split}
 use Rattle.row_book.specs.Views.{shown_value}
@@ -13,7 +13,9 @@ use Rattle.split_tree.specs.Splits.{Splits, MayCome, IsOf as AreCut}
 use Rattle.box_tree.specs.EntryFaults.{IsBadProof}
 use Rattle.box_tree.specs.Kept.{Kept, searched_of}
 use Rattle.box_tree.specs.Taken.{grown, IsTaken}
+use Rattle.box_tree.proofs.Counting.{few-counted}
 use Rattle.box_tree.proofs.Growing.{split-taken}
+use Rattle.box_tree.proofs.Indexing.{cut-past}
 use Rattle.box_tree.proofs.Refusals.{bad-split, bad-left, bad-right}
 use Rattle.box_tree.proofs.tree.Tree.split.Goals as goal
 
@@ -75,3 +77,17 @@ returns-clause-taken c =
     (subst (λ (z : Kept). CutsBetween n z.splits.list s c.in_ok-span.span) (sym same) cut.span)) in
     subst (λ (z : Kept). IsTaken n (split_of s left right) k z) (sym grows)
     (split-taken n k s c.in_ok-span.span left right c.raised.result c.raised-2.result c.requires.kept order splits left_is right_is)
+
+pub grow-requires-clause-uncut : goal.grow-requires-clause-uncut
+grow-requires-clause-uncut c =
+    let n = net_of c.args.net.now in
+    let same = c.in_ok-right_shown.ensures.kept ∙ c.in_ok-left_shown.ensures.kept in
+    subst (λ (z : Kept). (node : ℕ) → nodes z.splits.list ≤ node → is_cut z.splits.list node ≡ false) (sym same) (cut-past n c.args.self.now.kept.splits c.requires.kept.splits)
+
+pub grow-requires-clause-counted : goal.grow-requires-clause-counted
+grow-requires-clause-counted c =
+    let n = net_of c.args.net.now in
+    let k = c.args.self.now.kept in
+    let s = shown_split c.args.split in
+    let same = c.in_ok-right_shown.ensures.kept ∙ c.in_ok-left_shown.ensures.kept in
+    subst (λ (z : Kept). get_or z.cuts s.coord 0 < most_splits) (sym same) (few-counted n k.splits.list k.cuts s.coord c.in_ok-span.ensures.cuts.coord c.in_ok-span.ensures.few c.requires.kept.counted)
