@@ -1,5 +1,5 @@
 -- Which row the known rules pick.
-use Rattle.std.specs.Prelude.{ℕ, ◌<◌, List, ◌*ℤ◌, ◌<ℤ◌}
+use Rattle.std.specs.Prelude.{ℕ, ◌<◌, List, get_or, ◌*ℤ◌, ◌<ℤ◌}
 use Rattle.branching.specs.declared.view.CoordRow.{CoordRow}
 use Rattle.branching.specs.Rows.{row_at, width_of, IsOpenAt}
 
@@ -21,3 +21,11 @@ IsNarrower r s = (width_of r *ℤ s.root_width) <ℤ (width_of s *ℤ r.root_wid
 -- a row is missed by less than another
 abbrev pub IsLessMissed : CoordRow → CoordRow → Type 0
 IsLessMissed r s = r.miss < s.miss
+
+-- how many splits are on a row's coordinate: none where the list is shorter
+abbrev pub cuts_on : List ℕ → CoordRow → ℕ
+cuts_on cuts r = get_or cuts r.coord 0
+
+-- more splits are on a row's coordinate than on another's
+abbrev pub IsMoreCut : List ℕ → CoordRow → CoordRow → Type 0
+IsMoreCut cuts r s = cuts_on cuts s < cuts_on cuts r

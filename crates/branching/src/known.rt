@@ -1,8 +1,8 @@
-//! Three rules.
+//! Four rules.
 
 ghost use Rattle.std.specs.Prelude.{◌≡◌, ◌↔◌, IsTrue, ◌*ℤ◌};
 ghost use Rattle.branching.specs.Rows.{HasOpen, IsOpen, IsRow};
-ghost use Rattle.branching.specs.Known.{IsFirstGreatest, IsFirstOpen, IsLessMissed, IsNarrower};
+ghost use Rattle.branching.specs.Known.{IsFirstGreatest, IsFirstOpen, IsLessMissed, IsMoreCut, IsNarrower, cuts_on as count_on};
 
 use crate::view::{CoordRow, LeafView};
 
@@ -57,6 +57,32 @@ pub fn most_violated(view: &LeafView) -> usize
         }
     }
     best
+}
+
+/// The open row with the fewest splits on its coordinate: the first of the fewest. `cuts` has the number of splits for each
+/// coordinate, and a coordinate past its end has none.
+pub fn fewest(view: &LeafView, cuts: &[u32]) -> usize
+    requires { HasOpen view.now.rows }
+    ensures { IsFirstGreatest (IsMoreCut cuts.now) view.now.rows result }
+{
+    let rows = view.rows();
+    let mut best = first_open(view);
+    for (place, row) in rows.iter().enumerate() {
+        if row.is_open() && cuts_on(cuts, row) < cuts_on(cuts, &rows[best]) {
+            best = place;
+        }
+    }
+    best
+}
+
+/// How many splits are on a row's coordinate.
+fn cuts_on(cuts: &[u32], row: &CoordRow) -> u32
+    ensures { result ≡ count_on cuts.now row.now }
+{
+    match cuts.get(row.coord as usize) {
+        Some(count) => *count,
+        None => 0,
+    }
 }
 
 fn product(width: i64, root_width: i64) -> i128

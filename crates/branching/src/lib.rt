@@ -4,7 +4,8 @@
 //! closure that answers the place of a row. [`CutRule`] keeps such a closure beside the fact that on every view with an open row it
 //! answers the place of an open one; [`CutRule::new`] asks for that fact, so [`CutRule::pick`] rests on it and tests nothing.
 //!
-//! [`first_open`], [`widest`] and [`most_violated`] are three rules, for closures to call. A closure that is boxed has its clauses
+//! [`first_open`], [`widest`], [`most_violated`] and [`fewest`] are four rules, for closures to call; the last one goes by counts that
+//! its closure carries. A closure that is boxed has its clauses
 //! written:
 //!
 //! ```text
@@ -18,7 +19,7 @@
 //! ```
 //!
 //! `specs/Rows.antt` says what a view is, `specs/Rules.antt` what is kept of a rule and what a pick is, `specs/Known.antt` which row
-//! the three rules answer. Which leaf is cut, and how the rows of its view come about, is left to the crates above.
+//! the four rules answer. Which leaf is cut, and how the rows of its view come about, is left to the crates above.
 #![tactic(auto)]
 
 mod known;
@@ -28,6 +29,6 @@ mod rule;
 mod tests;
 mod view;
 
-pub use known::{first_open, most_violated, widest};
+pub use known::{fewest, first_open, most_violated, widest};
 pub use rule::{CutRule, RuleClosure};
 pub use view::{CoordRow, LeafView};

@@ -2,9 +2,9 @@
 
 ghost use Rattle.std.specs.Prelude.{◌≡◌};
 ghost use Rattle.branching.specs.Rows.{HasOpen, IsRow};
-ghost use Rattle.branching.specs.Known.{IsFirstGreatest, IsFirstOpen, IsLessMissed, IsNarrower};
+ghost use Rattle.branching.specs.Known.{IsFirstGreatest, IsFirstOpen, IsLessMissed, IsMoreCut, IsNarrower};
 
-use super::{CoordRow, CutRule, LeafView, first_open, most_violated, widest};
+use super::{CoordRow, CutRule, LeafView, fewest, first_open, most_violated, widest};
 use box_space::Split;
 use std::alloc::{AllocError, Global};
 use std::test::Fail;
@@ -103,5 +103,43 @@ fn a_closed_row_is_passed_over(rt: HostRuntime) -> Result<(), Fail> {
     assert_eq!(rt; picked, [split(6, 1, 0), split(6, 3, 0), split(6, 2, 1)]);
     let closed = view(alloc, 6, &[(1, 1, 9), (1, 5, 1), (0, 10, 2), (1, 4, 2)])?;
     assert!(rt; !closed.has_open());
+    Ok(())
+}
+
+/// The coordinate that the rule `fewest` picks, stored with these counts.
+fn fewest_picks(alloc: Global, view: &LeafView, cuts: &[u32]) -> Result<u32, AllocError>
+    requires { HasOpen view.now.rows }
+{
+    let cuts = Vec::from_slice(alloc, cuts)?;
+    let rule = CutRule::new(Box::new(
+        alloc,
+        move |view: &LeafView| -> usize
+            requires { HasOpen view.now.rows }
+            ensures { IsFirstGreatest (IsMoreCut cuts.items) view.now.rows result }
+        { fewest(view, cuts.as_slice()) },
+    )?);
+    Ok(rule.pick(view).coord)
+}
+
+#[test]
+fn the_fewest_splits_go_first(rt: HostRuntime) -> Result<(), Fail> {
+    let alloc = rt.alloc();
+    // two proportions, a quality that the form does not cut, and a flow
+    let root = view(
+        alloc,
+        0,
+        &[
+            (1_048_576, 1_048_576, 0),
+            (1_048_576, 1_048_576, 0),
+            (0, 2_000_000, 0),
+            (100_000_000, 100_000_000, 0),
+        ],
+    )?;
+    assert!(rt; root.has_open());
+    assert_eq!(rt; fewest_picks(alloc, &root, &[1, 0, 0, 0])?, 1);
+    assert_eq!(rt; fewest_picks(alloc, &root, &[1, 1, 0, 0])?, 3);
+    assert_eq!(rt; fewest_picks(alloc, &root, &[2, 1, 0, 1])?, 1);
+    // a coordinate past the end has no split
+    assert_eq!(rt; fewest_picks(alloc, &root, &[1, 1])?, 3);
     Ok(())
 }

@@ -11,7 +11,7 @@ use Rattle.cli_words.specs.Views.{Answers, Means, shown_request}
 use Rattle.box_space.specs.declared.coordinates.Form.{Form}
 use Rattle.box_space.specs.declared.coordinates.Form.TheVariants.{P, Q, Pq}
 use Rattle.cli_words.specs.declared.request.RuleName.{RuleName}
-use Rattle.cli_words.specs.declared.request.RuleName.TheVariants.{First, Widest, Violated}
+use Rattle.cli_words.specs.declared.request.RuleName.TheVariants.{First, Widest, Violated, Fewest}
 use Rattle.cli_words.specs.declared.request.Request.{Request}
 use Rattle.cli_words.specs.declared.request.WordsFault.{WordsFault}
 use Rattle.cli_words.specs.declared.request.WordsFault.TheVariants.{Usage, Memory}
@@ -57,6 +57,7 @@ same_rule : (r s : RuleName) → rule_name r ≡ rule_name s → r ≡ s
 same_rule First First e = refl
 same_rule Widest Widest e = refl
 same_rule Violated Violated e = refl
+same_rule Fewest Fewest e = refl
 same_rule r s e = absurd (apart _ _ refl e)
 
 one_form : (o : Option Text) (f g : Form) → IsForm o f → IsForm o g → f ≡ g

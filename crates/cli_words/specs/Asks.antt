@@ -9,7 +9,7 @@ use Rattle.cli_words.specs.Requests.{Asked, Solving, line_of, solve, check, repo
 use Rattle.box_space.specs.declared.coordinates.Form.{Form}
 use Rattle.box_space.specs.declared.coordinates.Form.TheVariants.{P, Q, Pq}
 use Rattle.cli_words.specs.declared.request.RuleName.{RuleName}
-use Rattle.cli_words.specs.declared.request.RuleName.TheVariants.{First, Widest, Violated}
+use Rattle.cli_words.specs.declared.request.RuleName.TheVariants.{First, Widest, Violated, Fewest}
 
 -- the words are the command of the line and these items: as many positionals as it has, and of its options each at most once
 pub record Commands (words : List Text) (line : Line) (items : List Given) : Type 0 where
@@ -55,6 +55,7 @@ abbrev pub rule_name : RuleName → Text
 rule_name First = codes "first"
 rule_name Widest = codes "widest"
 rule_name Violated = codes "violated"
+rule_name Fewest = codes "fewest"
 
 -- the rule that is named; widest where none is
 abbrev pub IsRule : Option Text → RuleName → Type 0

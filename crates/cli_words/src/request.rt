@@ -11,6 +11,8 @@ pub enum RuleName {
     Widest,
     /// The one whose products are missed most.
     Violated,
+    /// The one with the fewest splits on it.
+    Fewest,
 }
 
 /// What `solve` is asked.

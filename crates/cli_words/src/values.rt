@@ -30,6 +30,7 @@ pub(crate) fn read_rule(text: Option<&str>) -> Result<RuleName, WordsFault>
         Some("first") => Ok(RuleName::First),
         Some("widest") => Ok(RuleName::Widest),
         Some("violated") => Ok(RuleName::Violated),
+        Some("fewest") => Ok(RuleName::Fewest),
         Some(_) => Err(WordsFault::Usage),
     }
 }

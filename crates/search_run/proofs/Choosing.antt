@@ -41,21 +41,24 @@ use Rattle.std.proofs.lemmas.List.Elements.{All-get_or}
 use Rattle.std.proofs.lemmas.Grind.{common_steps}
 use Rattle.integers.specs.Numbers.{tabulate}
 use Rattle.pool_model.specs.Network.{Net}
+use Rattle.std.proofs.lemmas.Bool.{cases_lt}
 use Rattle.row_model.specs.Boxes.{Box, root, coords}
+use Rattle.row_model.specs.Trees.{Split as Cut}
+use Rattle.box_tree.specs.Counts.{cuts_on, AreCounts}
 use Rattle.box_space.specs.declared.coordinates.Form.{Form}
 use Rattle.box_space.specs.declared.coordinates.Split.{Split}
 use Rattle.branching.specs.Rows.{View, row_at, no_row, width_of, IsOpenAt, HasOpen}
 use Rattle.branching.specs.Rules.{Answers, IsPick}
-use Rattle.branching.specs.Known.{IsFirstOpen, IsFirstGreatest, IsNarrower}
+use Rattle.branching.specs.Known.{IsFirstOpen, IsFirstGreatest, IsMoreCut, IsNarrower}
 use Rattle.branching.specs.declared.view.CoordRow.{CoordRow}
 use Rattle.dual_rounding.proofs.FormRows.{passes_more, fails_more, All-numbers}
 use Rattle.cli_words.specs.declared.request.RuleName.{RuleName}
-use Rattle.cli_words.specs.declared.request.RuleName.TheVariants.{First, Widest, Violated}
+use Rattle.cli_words.specs.declared.request.RuleName.TheVariants.{First, Widest, Violated, Fewest}
 use Rattle.search_core.specs.Views.{form_coords, IsRowOf, AreRowsOf, IsViewOf}
 use Rattle.search_core.specs.Cases.{IsCuttable}
 use Rattle.search_core.proofs.FormCoords.{cuts_at, row-of}
-use Rattle.search_run.specs.Orders.{KeepsTo}
-use Rattle.search_run.specs.Steps.{width, IsNarrowerAt, IsWidest, IsChosen}
+use Rattle.search_run.specs.Orders.{IsPickedBy, picked}
+use Rattle.search_run.specs.Steps.{width, IsNarrowerAt, IsWidest, IsFewest, IsChosen}
 
 -- ---- the coordinates of a view's rows rise
 
@@ -105,6 +108,19 @@ module _ (n : Net) (form : Form) (b : Box) (rows : List CoordRow) (are : AreRows
         },
         is,
       )
+
+  less-or-more : (a b : ℕ) → (a < b) ⊎ ((a ≡ b) ⊎ (b < a))
+  less-or-more a b = grind arith
+
+  -- a row of a lower coordinate stands before
+  sooner : (i j : ℕ) → j < length rows → (row_at rows j).coord < (row_at rows i).coord → j < i
+  sooner i j h less = elim (less-or-more j i) [
+    | inl l ↦ l
+    | inr r ↦ elim r [
+      | inl e ↦ absurd (omega (arith, less, ap (λ (m : ℕ). (row_at rows m).coord) e))
+      | inr g ↦ absurd (omega (arith, less, coords-rise i j g h))
+    ]
+  ]
 
   -- ---- the first
 
@@ -158,37 +174,45 @@ module _ (n : Net) (form : Form) (b : Box) (rows : List CoordRow) (are : AreRows
     first = λ d cuttable lower.
         let (j, here, at) = row-open d cuttable in
         subst (λ (c : ℕ). IsNarrowerAt n b c (row_at rows i).coord) at
-        (narrower-to j i here.there is.is_open.there (is.first j (sooner j here.there (omega (arith, at, lower))) here));
+        (narrower-to j i here.there is.is_open.there (is.first j (sooner i j here.there (omega (arith, at, lower))) here));
+  }
+
+  -- ---- the one with the fewest splits
+
+  known-at : (i : ℕ) → i < length rows → (row_at rows i).coord < coords n
+  known-at i h =
+      subst (λ (c : ℕ). c < coords n) (coord-at i h)
+      (All-get_or (λ (c : ℕ). c < coords n) (form_coords n form) i 0 (omega (arith, long, h)) (All-numbers (cuts_at n form) (coords n)))
+
+  chosen-fewest : (splits : List Cut) (counts : List ℕ) (i : ℕ) → AreCounts n splits counts → IsFirstGreatest (IsMoreCut counts) rows i → IsFewest n form splits b (row_at rows i).coord
+  chosen-fewest splits counts i are is = record {
+    fewest = λ d cuttable.
+        let (j, here, at) = row-open d cuttable in
+        elim (cases_lt (get_or counts (row_at rows j).coord 0) (get_or counts (row_at rows i).coord 0)) [
+          | inl l ↦ absurd (is.greatest j here l)
+          | inr g ↦ omega (arith, g, counted-at i is.is_open.there, counted-at j here.there, ap (λ (c : ℕ). cuts_on splits c) at)
+        ];
+    first = λ d cuttable lower.
+        let (j, here, at) = row-open d cuttable in
+        let less = is.first j (sooner i j here.there (omega (arith, at, lower))) here in
+        omega (arith, less, counted-at i is.is_open.there, counted-at j here.there, ap (λ (c : ℕ). cuts_on splits c) at);
   }
     where
-      less-or-more : (a b : ℕ) → (a < b) ⊎ ((a ≡ b) ⊎ (b < a))
-      less-or-more a b = grind arith
-
-      sooner : (j : ℕ) → j < length rows → (row_at rows j).coord < (row_at rows i).coord → j < i
-      sooner j h less = elim (less-or-more j i) [
-        | inl l ↦ l
-        | inr r ↦ elim r [
-          | inl e ↦ absurd (omega (arith, less, ap (λ (m : ℕ). (row_at rows m).coord) e))
-          | inr g ↦ absurd (omega (arith, less, coords-rise i j g h))
-        ]
-      ]
+      counted-at : (k : ℕ) → k < length rows → get_or counts (row_at rows k).coord 0 ≡ cuts_on splits (row_at rows k).coord
+      counted-at k h = are.is (row_at rows k).coord (known-at k h)
 
 -- ---- the rule of a name
 
-answered-first : (post : Bor View → ℕ → Type 0) (v : View) (i : ℕ) → KeepsTo First post → Answers post v i → HasOpen v.rows → IsFirstOpen v.rows i
-answered-first post v i keeps a opens =
-    subst (λ (w : View). IsFirstOpen w.rows i) a.shows (keeps a.shown i (subst (λ (w : View). HasOpen w.rows) (sym a.shows) opens) a.says)
+-- what the rule answered holds of the view
+answered-by : (rule : RuleName) (cuts : List ℕ) (v : View) (i : ℕ) → Answers (picked rule cuts) v i → IsPickedBy rule cuts v.rows i
+answered-by rule cuts v i a = subst (λ (w : View). IsPickedBy rule cuts w.rows i) a.shows a.says
 
-answered-widest : (post : Bor View → ℕ → Type 0) (v : View) (i : ℕ) → KeepsTo Widest post → Answers post v i → HasOpen v.rows → IsFirstGreatest IsNarrower v.rows i
-answered-widest post v i keeps a opens =
-    subst (λ (w : View). IsFirstGreatest IsNarrower w.rows i) a.shows (keeps a.shown i (subst (λ (w : View). HasOpen w.rows) (sym a.shows) opens) a.says)
-
-pub pick-chosen : (n : Net) (form : Form) (rule : RuleName) (post : Bor View → ℕ → Type 0) (b : Box) (node : ℕ) (v : View) (split : Split) → KeepsTo rule post
-    → IsViewOf n form b node v → IsPick post v split → IsChosen n form rule b split.coord
-pick-chosen n form First post b node v split keeps seen pick = λ d cuttable.
-    subst (λ (c : ℕ). c ≤ d) (sym pick.split_at.coord)
-    (chosen-first n form b v.rows seen.rows pick.place (answered-first post v pick.place keeps pick.answered (pick.place, pick.is_open)) d cuttable)
-pick-chosen n form Widest post b node v split keeps seen pick =
-    subst (IsWidest n form b) (sym pick.split_at.coord)
-    (chosen-widest n form b v.rows seen.rows pick.place (answered-widest post v pick.place keeps pick.answered (pick.place, pick.is_open)))
-pick-chosen n form Violated post b node v split keeps seen pick = tt
+pub pick-chosen : (n : Net) (form : Form) (rule : RuleName) (splits : List Cut) (cuts : List ℕ) (b : Box) (node : ℕ) (v : View) (split : Split) → AreCounts n splits cuts
+    → IsViewOf n form b node v → IsPick (picked rule cuts) v split → IsChosen n form rule splits b split.coord
+pick-chosen n form First splits cuts b node v split counted seen pick = λ d cuttable.
+    subst (λ (c : ℕ). c ≤ d) (sym pick.split_at.coord) (chosen-first n form b v.rows seen.rows pick.place (answered-by First cuts v pick.place pick.answered) d cuttable)
+pick-chosen n form Widest splits cuts b node v split counted seen pick =
+    subst (IsWidest n form b) (sym pick.split_at.coord) (chosen-widest n form b v.rows seen.rows pick.place (answered-by Widest cuts v pick.place pick.answered))
+pick-chosen n form Violated splits cuts b node v split counted seen pick = tt
+pick-chosen n form Fewest splits cuts b node v split counted seen pick =
+    subst (IsFewest n form splits b) (sym pick.split_at.coord) (chosen-fewest n form b v.rows seen.rows splits cuts pick.place counted (answered-by Fewest cuts v pick.place pick.answered))

@@ -23,7 +23,6 @@ use Rattle.search_core.specs.Cases.{IsBetterStart, HasNoBetterStart, IsRepairedA
 use Rattle.search_core.specs.Next.{IsEntry}
 use Rattle.search_core.proofs.Starting.{better, no-better, none-better}
 use Rattle.cli_words.specs.declared.request.RuleName.{RuleName}
-use Rattle.search_run.specs.Orders.{Keeps}
 use Rattle.search_run.specs.Left.{counted, is_less, start_left, unproved, root_left, repair_left, left}
 use Rattle.search_run.proofs.Covering.{none-after-start, none-after-plan}
 use Rattle.search_run.proofs.Proofs.{root-proof, cut-more}
@@ -170,11 +169,11 @@ module _ (n : Net) (s t : Searching) (is : IsSearchOf n s) (now : IsSearchOf n t
         none-now x made (none-kept (entries.split_of split l r) (λ w b. record { cheapest = b.cheapest; cheaper = b.cheaper }) none),
       )
 
-  pub nearer : (rule : RuleName) (post : Bor View → ℕ → Type 0) (keeps : Keeps rule post) (e : Entry) →
+  pub nearer : (post : Bor View → ℕ → Type 0) (e : Entry) →
       searched t ≡ after (searched s) (shown_entry e) → IsRepairedAfter n (searched s) (shown_entry e) s.repaired t.repaired
       → IsEntryInOrder n (searched s) (shown_entry e) → IsEntry n s.options (searched s) s.repaired post e → left t < left s
-  nearer rule post keeps (Improve plan) made flag order (inl start) = start-nearer (shown_plan plan) made (flag.started (shown_plan plan) start) start
-  nearer rule post keeps (Improve plan) made flag order (inr repair) =
+  nearer post (Improve plan) made flag order (inl start) = start-nearer (shown_plan plan) made (flag.started (shown_plan plan) start) start
+  nearer post (Improve plan) made flag order (inr repair) =
       repair-nearer (shown_plan plan) made repair.clear (flag.repaired repair.rooted.apart.start) order repair.rooted.apart.start
-  nearer rule post keeps (Root proof) made flag order due = root-nearer (shown_proof proof) made flag due.1.is_open due.0.start
-  nearer rule post keeps (SplitOf split l r) made flag order due = split-nearer (shown_split split) _ _ made flag due.1 due.0.rooted.apart.start
+  nearer post (Root proof) made flag order due = root-nearer (shown_proof proof) made flag due.1.is_open due.0.start
+  nearer post (SplitOf split l r) made flag order due = split-nearer (shown_split split) _ _ made flag due.1 due.0.rooted.apart.start

@@ -10,17 +10,22 @@ use Rattle.row_model.specs.Entries.{Searched, IsEntryInOrder, after, made_from}
 use Rattle.box_space.specs.Views.{shown_proof, shown_split}
 use Rattle.box_space.specs.declared.coordinates.Form.{Form}
 use Rattle.box_space.specs.declared.coordinates.Split.{Split}
+use Rattle.box_tree.specs.Counts.{AreCounts}
 use Rattle.box_tree.specs.Views.{shown_entry}
 use Rattle.box_tree.specs.declared.entry.Entry.{Entry}
 use Rattle.box_tree.specs.declared.entry.Entry.TheVariants.{Root, SplitOf, Improve}
-use Rattle.branching.specs.Rows.{View}
+use Rattle.std.specs.Prelude.{Result, Ok, Err, IfOk}
+use Rattle.branching.specs.Rows.{View, HasOpen}
+use Rattle.branching.specs.Rules.{IsPick}
+use Rattle.cli_words.specs.declared.request.RuleName.{RuleName}
 use Rattle.dual_rounding.specs.Price.{IsPriced}
 use Rattle.dual_rounding.proofs.Priced.{priced-raised}
 use Rattle.search_core.specs.Given.{IsGiven}
 use Rattle.search_core.specs.Next.{IsEntry, IsLeastSplit, IsNext}
+use Rattle.search_core.specs.declared.next.Next.{Next}
 use Rattle.search_core.specs.declared.next.Next.TheVariants as next
 use Rattle.search_core.specs.declared.options.Options.{Options}
-use Rattle.search_run.specs.Orders.{options_of, KeepsTo, Keeps}
+use Rattle.search_run.specs.Orders.{options_of, picked, Keeps}
 use Rattle.search_run.specs.Steps.{IsHalf, IsCut, IsDue, IsStep}
 use Rattle.search_run.specs.Runs.{AreSteps, IsEnd, IsNextStep}
 use Rattle.search_run.specs.declared.ended.Ended.TheVariants as ended
@@ -35,15 +40,15 @@ half-of n form b o least proof e given = record {
   priced = subst (λ (z : Option ℤ). IsPriced n b (raised z (option_map (shown_by n b) proof))) (sym e) (priced-raised n b least proof given.price);
 }
 
-cut-of : (n : Net) (o : Orders) (s : Searched) (post : Bor View → ℕ → Type 0) (split : Split) (left right : Option Proof) → KeepsTo o.rule post
-    → length s.tree.splits < o.nodes → IsLeastSplit n (options_of o) s post split left right → IsCut n o s (shown_split split) left right
-cut-of n o s post split left right keeps few is =
+cut-of : (n : Net) (o : Orders) (s : Searched) (cuts : List ℕ) (split : Split) (left right : Option Proof) → AreCounts n s.tree.splits cuts
+    → length s.tree.splits < o.nodes → IsLeastSplit n (options_of o) s (picked o.rule cuts) split left right → IsCut n o s (shown_split split) left right
+cut-of n o s cuts split left right counted few is =
     let b = box_of n s.tree.splits split.leaf in
     record {
       few = few;
       leaf = is.leaf;
       cuttable = is.halving.cuttable;
-      chosen = pick-chosen n o.form o.rule post b split.leaf is.view split keeps is.seen is.picked;
+      chosen = pick-chosen n o.form o.rule s.tree.splits cuts b split.leaf is.view split counted is.seen is.picked;
       middle = is.halving.middle;
       left_half = half-of n o.form (left_of b split.coord split.cut) (tree_bound n s.tree) is.least left is.bounded is.halving.left_given;
       right_half = half-of n o.form (right_of b split.coord split.cut) (tree_bound n s.tree) is.least right is.bounded is.halving.right_given;
@@ -51,13 +56,13 @@ cut-of n o s post split left right keeps few is =
 
 -- ---- an entry that comes next is due
 
-pub due-of : (n : Net) (o : Orders) (s : Searched) (repaired : Bool) (post : Bor View → ℕ → Type 0) (e : Entry) → KeepsTo o.rule post
-    → IsEntry n (options_of o) s repaired post e → IsDue n o s (shown_entry e)
-due-of n o s repaired post (Improve plan) keeps (inl start) = inl start
-due-of n o s repaired post (Improve plan) keeps (inr repair) = inr (repair.rooted, repair.repair)
-due-of n o s repaired post (Root proof) keeps is = is
-due-of n o s repaired post (SplitOf split left right) keeps is =
-    (is.0.rooted, cut-of n o s post split (option_map shown_proof left) (option_map shown_proof right) keeps is.1 is.2)
+pub due-of : (n : Net) (o : Orders) (s : Searched) (repaired : Bool) (cuts : List ℕ) (e : Entry) → AreCounts n s.tree.splits cuts
+    → IsEntry n (options_of o) s repaired (picked o.rule cuts) e → IsDue n o s (shown_entry e)
+due-of n o s repaired cuts (Improve plan) counted (inl start) = inl start
+due-of n o s repaired cuts (Improve plan) counted (inr repair) = inr (repair.rooted, repair.repair)
+due-of n o s repaired cuts (Root proof) counted is = is
+due-of n o s repaired cuts (SplitOf split left right) counted is =
+    (is.0.rooted, cut-of n o s cuts split (option_map shown_proof left) (option_map shown_proof right) counted is.1 is.2)
 
 -- ---- one step more
 
@@ -87,26 +92,71 @@ way-more n o begun s t way next = record {
 
 -- ---- what comes next, under the options of the orders
 
-module _ (n : Net) (o : Orders) (s : Searched) (options : Options) (asked : options ≡ options_of o) (repaired : Bool) (post : Bor View → ℕ → Type 0) (rule : Keeps o.rule post) where
-  pub next-step : (t : Searched) (e : Entry) → IsNext n options s repaired post (next.Do e) → IsEntryInOrder n s (shown_entry e) → t ≡ after s (shown_entry e)
+module _ (n : Net) (o : Orders) (s : Searched) (options : Options) (asked : options ≡ options_of o) (repaired : Bool) (cuts : List ℕ) (counted : AreCounts n s.tree.splits cuts) where
+  pub next-step : (t : Searched) (e : Entry) → IsNext n options s repaired (picked o.rule cuts) (next.Do e) → IsEntryInOrder n s (shown_entry e) → t ≡ after s (shown_entry e)
       → IsNextStep n o s t
   next-step t e is order made = record {
     entry = shown_entry e;
-    step = record { in_order = order; due = due-of n o s repaired post e rule.keeps (subst (λ (x : Options). IsEntry n x s repaired post e) asked is) };
+    step = record { in_order = order; due = due-of n o s repaired cuts e counted (subst (λ (x : Options). IsEntry n x s repaired (picked o.rule cuts) e) asked is) };
     made = made;
   }
 
-  pub next-closed : IsNext n options s repaired post next.Closed → IsEnd n o s ended.Closed
-  next-closed is = subst (λ (x : Options). IsNext n x s repaired post next.Closed) asked is
+  pub next-closed : IsNext n options s repaired (picked o.rule cuts) next.Closed → IsEnd n o s ended.Closed
+  next-closed is = subst (λ (x : Options). IsNext n x s repaired (picked o.rule cuts) next.Closed) asked is
 
-  pub next-infeasible : IsNext n options s repaired post next.Infeasible → IsEnd n o s ended.Infeasible
+  pub next-infeasible : IsNext n options s repaired (picked o.rule cuts) next.Infeasible → IsEnd n o s ended.Infeasible
   next-infeasible is = is
 
-  pub next-stopped : IsNext n options s repaired post next.Stopped → IsEnd n o s ended.Stopped
-  next-stopped is = let h : IsNext n (options_of o) s repaired post next.Stopped = subst (λ (x : Options). IsNext n x s repaired post next.Stopped) asked is in (h.0.rooted, h.1, h.2)
+  pub next-stopped : IsNext n options s repaired (picked o.rule cuts) next.Stopped → IsEnd n o s ended.Stopped
+  next-stopped is = let h : IsNext n (options_of o) s repaired (picked o.rule cuts) next.Stopped = subst (λ (x : Options). IsNext n x s repaired (picked o.rule cuts) next.Stopped) asked is in (h.0.rooted, h.1, h.2)
 
-  pub next-stuck : IsNext n options s repaired post next.Stuck → IsEnd n o s ended.Stuck
-  next-stuck is = let h : IsNext n (options_of o) s repaired post next.Stuck = subst (λ (x : Options). IsNext n x s repaired post next.Stuck) asked is in (h.0.rooted, h.1, h.2, h.3)
+  pub next-stuck : IsNext n options s repaired (picked o.rule cuts) next.Stuck → IsEnd n o s ended.Stuck
+  next-stuck is = let h : IsNext n (options_of o) s repaired (picked o.rule cuts) next.Stuck = subst (λ (x : Options). IsNext n x s repaired (picked o.rule cuts) next.Stuck) asked is in (h.0.rooted, h.1, h.2, h.3)
 
-  pub next-undecided : IsNext n options s repaired post next.Undecided → IsEnd n o s ended.Undecided
-  next-undecided is = let h : IsNext n (options_of o) s repaired post next.Undecided = subst (λ (x : Options). IsNext n x s repaired post next.Undecided) asked is in (h.0.rooted, h.1, h.2)
+  pub next-undecided : IsNext n options s repaired (picked o.rule cuts) next.Undecided → IsEnd n o s ended.Undecided
+  next-undecided is = let h : IsNext n (options_of o) s repaired (picked o.rule cuts) next.Undecided = subst (λ (x : Options). IsNext n x s repaired (picked o.rule cuts) next.Undecided) asked is in (h.0.rooted, h.1, h.2)
+
+-- ---- a closure that keeps to the rule
+
+pick-weaker : (rule : RuleName) (cuts : List ℕ) (post : Bor View → ℕ → Type 0) (v : View) (split : Split) → Keeps rule cuts post → IsPick post v split → IsPick (picked rule cuts) v split
+pick-weaker rule cuts post v split is pick =
+    let a = pick.answered in
+    record {
+      place = pick.place;
+      answered = record { shown = a.shown; shows = a.shows; says = is.keeps a.shown pick.place (subst (λ (w : View). HasOpen w.rows) (sym a.shows) (pick.place, pick.is_open)) a.says };
+      is_open = pick.is_open;
+      split_at = pick.split_at;
+    }
+
+entry-weaker : (n : Net) (o : Options) (s : Searched) (repaired : Bool) (rule : RuleName) (cuts : List ℕ) (post : Bor View → ℕ → Type 0) (e : Entry) → Keeps rule cuts post
+    → IsEntry n o s repaired post e → IsEntry n o s repaired (picked rule cuts) e
+entry-weaker n o s repaired rule cuts post (Improve plan) keeps is = is
+entry-weaker n o s repaired rule cuts post (Root proof) keeps is = is
+entry-weaker n o s repaired rule cuts post (SplitOf split left right) keeps is =
+    let l = is.2 in (
+      is.0,
+      is.1,
+      record {
+        leaf = l.leaf;
+        view = l.view;
+        seen = l.seen;
+        picked = pick-weaker rule cuts post l.view split keeps l.picked;
+        least = l.least;
+        bounded = l.bounded;
+        halving = l.halving;
+      },
+    )
+
+pub next-weaker : (n : Net) (o : Options) (s : Searched) (repaired : Bool) (rule : RuleName) (cuts : List ℕ) (post : Bor View → ℕ → Type 0) (answer : Next) → Keeps rule cuts post
+    → IsNext n o s repaired post answer → IsNext n o s repaired (picked rule cuts) answer
+next-weaker n o s repaired rule cuts post (next.Do e) keeps is = entry-weaker n o s repaired rule cuts post e keeps is
+next-weaker n o s repaired rule cuts post next.Infeasible keeps is = is
+next-weaker n o s repaired rule cuts post next.Closed keeps is = is
+next-weaker n o s repaired rule cuts post next.Stopped keeps is = is
+next-weaker n o s repaired rule cuts post next.Stuck keeps is = is
+next-weaker n o s repaired rule cuts post next.Undecided keeps is = is
+
+pub each-weaker : {E : Type 0} (n : Net) (o : Options) (s : Searched) (repaired : Bool) (rule : RuleName) (cuts : List ℕ) (post : Bor View → ℕ → Type 0) (r : Result Next E) → Keeps rule cuts post
+    → IfOk r (IsNext n o s repaired post) → IfOk r (IsNext n o s repaired (picked rule cuts))
+each-weaker n o s repaired rule cuts post (Ok answer) keeps h = next-weaker n o s repaired rule cuts post answer keeps h
+each-weaker n o s repaired rule cuts post (Err e) keeps h = tt

@@ -1,5 +1,5 @@
 -- The steps of a run: a starting plan, a proof of the root, a repaired plan, or a cut of the least leaf.
-use Rattle.std.specs.Prelude.{◌≡◌, ◌⊎◌, ◌<◌, ◌≤◌, ℕ, length, All, IsTrue, Option, option_map, ℤ, ◌-ℤ◌, ◌*ℤ◌, ◌<ℤ◌}
+use Rattle.std.specs.Prelude.{◌≡◌, ◌⊎◌, ◌<◌, ◌≤◌, ℕ, List, length, All, IsTrue, Option, option_map, ℤ, ◌-ℤ◌, ◌*ℤ◌, ◌<ℤ◌}
 use Rattle.std.specs.Option.{ForSome}
 use Rattle.pool_model.specs.Network.{Net}
 use Rattle.row_model.specs.Boxes.{Box, root, left_of, right_of}
@@ -7,8 +7,9 @@ use Rattle.row_model.specs.Multipliers.{Proof, shown_by}
 use Rattle.row_model.specs.Trees.{Split, box_of, raised, tree_bound, IsLeastLeaf}
 use Rattle.row_model.specs.Entries.{Entry, root_proof, split_of, improve, Searched, IsEntryInOrder}
 use Rattle.box_space.specs.declared.coordinates.Form.{Form}
+use Rattle.box_tree.specs.Counts.{cuts_on}
 use Rattle.cli_words.specs.declared.request.RuleName.{RuleName}
-use Rattle.cli_words.specs.declared.request.RuleName.TheVariants.{First, Widest, Violated}
+use Rattle.cli_words.specs.declared.request.RuleName.TheVariants.{First, Widest, Violated, Fewest}
 use Rattle.dual_rounding.specs.Price.{IsPriced}
 use Rattle.dual_rounding.specs.Programs.{has_row}
 use Rattle.search_core.specs.Cases.{IsBetterStart, IsCuttable, IsRepair, IsRootProof}
@@ -32,11 +33,18 @@ pub record IsWidest (n : Net) (form : Form) (b : Box) (c : ℕ) : Type 0 where
   pub widest : (d : ℕ) → IsCuttable n form b d → ¬ IsNarrowerAt n b c d
   pub first : (d : ℕ) → IsCuttable n form b d → d < c → IsNarrowerAt n b d c
 
--- Of the coordinates at which the box can be cut the one of the rule. Of the rule that goes by what a cut gains nothing is said.
-abbrev pub IsChosen : Net → Form → RuleName → Box → ℕ → Type 0
-IsChosen n form First b c = (d : ℕ) → IsCuttable n form b d → c ≤ d
-IsChosen n form Widest b c = IsWidest n form b c
-IsChosen n form Violated b c = Unit {0}
+-- of the coordinates at which the box can be cut one with the fewest splits on it, the lowest at a tie
+pub record IsFewest (n : Net) (form : Form) (splits : List Split) (b : Box) (c : ℕ) : Type 0 where
+  pub fewest : (d : ℕ) → IsCuttable n form b d → cuts_on splits c ≤ cuts_on splits d
+  pub first : (d : ℕ) → IsCuttable n form b d → d < c → cuts_on splits c < cuts_on splits d
+
+-- Of the coordinates at which the box can be cut the one of the rule, in the tree of these splits. Of the rule that goes by what a cut
+-- gains nothing is said.
+abbrev pub IsChosen : Net → Form → RuleName → List Split → Box → ℕ → Type 0
+IsChosen n form First splits b c = (d : ℕ) → IsCuttable n form b d → c ≤ d
+IsChosen n form Widest splits b c = IsWidest n form b c
+IsChosen n form Violated splits b c = Unit {0}
+IsChosen n form Fewest splits b c = IsFewest n form splits b c
 
 -- ---- what a cut adds
 
@@ -55,7 +63,7 @@ pub record IsCut (n : Net) (o : Orders) (s : Searched) (split : Split) (left rig
   pub few : length s.tree.splits < o.nodes
   pub leaf : IsLeastLeaf n s.tree split.leaf
   pub cuttable : IsCuttable n o.form (box_of n s.tree.splits split.leaf) split.coord
-  pub chosen : IsChosen n o.form o.rule (box_of n s.tree.splits split.leaf) split.coord
+  pub chosen : IsChosen n o.form o.rule s.tree.splits (box_of n s.tree.splits split.leaf) split.coord
   pub middle : split.cut ≡ middle_at (box_of n s.tree.splits split.leaf) split.coord
   pub left_half : IsHalf n o.form (left_of (box_of n s.tree.splits split.leaf) split.coord split.cut) (tree_bound n s.tree) left
   pub right_half : IsHalf n o.form (right_of (box_of n s.tree.splits split.leaf) split.coord split.cut) (tree_bound n s.tree) right

@@ -7,58 +7,53 @@ ghost use Rattle.box_tree.specs.Kept.{IsOf, searched_of};
 ghost use Rattle.box_tree.specs.Views.{shown_entry};
 ghost use Rattle.search_core.specs.Cases.{IsRepairedAfter};
 ghost use Rattle.search_core.specs.Searches.{searched, IsAsked, IsSearchOf};
-ghost use Rattle.search_run.specs.Orders.{options_of, Keeps};
+ghost use Rattle.search_run.specs.Orders.{options_of};
 ghost use Rattle.search_run.specs.Runs.{IsEnd, IsNextStep, IsRun};
 ghost use Rattle.search_run.specs.Found.{IsFound};
 ghost use Rattle.search_run.specs.Left.{left};
 
 use crate::ended::{Ended, Outcome};
 use crate::orders::Orders;
+use crate::rules::next_by;
 use blend_network::Network;
 use box_tree::{Entry, Tree};
-use branching::CutRule;
 use edge_io::Memory;
 use search_core::{Next, Search};
 use std::alloc::Global;
 
-/// A run from a tree, under a rule.
-pub(crate) fn run_under(
+/// Goes on from a tree of the network until nothing more is to be done for the orders, and says how that ended. The only error is
+/// want of memory.
+///
+/// Each entry that is added is the step that is due: the cheapest starting plan, then a proof of the root, then again and again a
+/// cut of the least leaf, with a repaired plan before it where there is one.
+pub fn run_search(
     alloc: Global,
     net: &Network,
     orders: Orders,
     tree: Tree,
-    rule: &CutRule,
 ) -> Result<Outcome, Memory>
     requires asked { IsAsked (options_of orders) }
     requires tree { IsOf (net_of net.now) tree }
-    requires rule { Keeps orders.rule (⟦<branching::RuleClosure as Fn(&branching::LeafView) -> usize>⟧.post rule.now.closure) }
     ensures tree { IfOk result (λ r. IsOf (net_of net.now) r.tree) }
     ensures run { IfOk result (λ r. IsRun (net_of net.now) orders (searched_of tree.kept) (searched_of r.tree.kept) r.ended) }
     ensures found { IfOk result (λ r. IsFound (net_of net.now) orders (searched_of tree.kept) (searched_of r.tree.kept) r.ended) }
 {
     let _limited = net.sizes();
     let mut search = Search::start(alloc, net, orders.options(), tree)?;
-    let ended = drive(alloc, net, orders, &mut search, rule)?;
+    let ended = drive(alloc, net, orders, &mut search)?;
     let tree = search.into_tree();
     Ok(Outcome { tree, ended })
 }
 
 /// Takes step after step, to the end.
-fn drive(
-    alloc: Global,
-    net: &Network,
-    orders: Orders,
-    search: &mut Search,
-    rule: &CutRule,
-) -> Result<Ended, Memory>
+fn drive(alloc: Global, net: &Network, orders: Orders, search: &mut Search) -> Result<Ended, Memory>
     requires search { IsSearchOf (net_of net.now) search.old }
     requires options { search.old.options ≡ options_of orders }
-    requires rule { Keeps orders.rule (⟦<branching::RuleClosure as Fn(&branching::LeafView) -> usize>⟧.post rule.now.closure) }
     ensures search { IsSearchOf (net_of net.now) search.new }
     ensures run { IfOk result (IsRun (net_of net.now) orders (searched search.old) (searched search.new)) }
 {
     loop {
-        if let Some(ended) = step(alloc, net, orders, search, rule)? {
+        if let Some(ended) = step(alloc, net, orders, search)? {
             return Ok(ended);
         }
     }
@@ -70,11 +65,9 @@ fn step(
     net: &Network,
     orders: Orders,
     search: &mut Search,
-    rule: &CutRule,
 ) -> Result<Option<Ended>, Memory>
     requires search { IsSearchOf (net_of net.now) search.old }
     requires options { search.old.options ≡ options_of orders }
-    requires rule { Keeps orders.rule (⟦<branching::RuleClosure as Fn(&branching::LeafView) -> usize>⟧.post rule.now.closure) }
     ensures search { IsSearchOf (net_of net.now) search.new }
     ensures options { search.new.options ≡ search.old.options }
     ensures stepped { IfOk result (λ o. IfNone o (IsNextStep (net_of net.now) orders (searched search.old) (searched search.new))) }
@@ -82,7 +75,7 @@ fn step(
     ensures ended { IfOk result (λ o. IfSome o (IsEnd (net_of net.now) orders (searched search.new))) }
     ensures unchanged { IfOk result (λ o. IfSome o (λ _. searched search.new ≡ searched search.old)) }
 {
-    match search.next(alloc, net, rule)? {
+    match next_by(alloc, net, orders.rule, search)? {
         Next::Do(entry) => {
             take(net, search, entry)?;
             Ok(None)

@@ -1,8 +1,9 @@
 //! A search that is driven to its end: what comes next is asked and taken, again and again, until the search says how it ended.
 //!
 //! [`run_search`] takes a tree and [`Orders`]: the form of the programs, how many splits there may be, the gap that is enough, and the
-//! name of the cut rule. It makes the rule, and answers the tree that the search left with how it [`Ended`]. It begins with any tree
-//! of the network, the root alone or one that was made before.
+//! name of the cut rule. It answers the tree that the search left with how it [`Ended`]. It begins with any tree
+//! of the network, the root alone or one that was made before. [`next_by`] answers what comes next by the rule of a name, and makes the
+//! rule for that one step.
 //!
 //! `specs/Steps.antt` says what each step is, `specs/Runs.antt` what a run is: a list of entries, each the step that was due after
 //! those before it, and an end that holds of the tree that they make. `specs/Found.antt` says what follows of that tree alone, and
@@ -19,6 +20,7 @@ mod rules;
 #[cfg(test)]
 mod tests;
 
+pub use driving::run_search;
 pub use ended::{Ended, Outcome};
 pub use orders::Orders;
-pub use rules::{pick_by, run_search};
+pub use rules::next_by;

@@ -47,6 +47,6 @@ fn looks_of(rule: RuleName) -> u32
 {
     match rule {
         RuleName::Violated => LOOKS,
-        RuleName::First | RuleName::Widest => 0,
+        RuleName::First | RuleName::Widest | RuleName::Fewest => 0,
     }
 }

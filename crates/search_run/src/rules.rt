@@ -1,61 +1,70 @@
-//! A run under the rule of a name. The function that boxes the rule lends it down.
+//! What comes next under the rule of a name. The rule is made for one step, and lent down.
 
-ghost use Rattle.std.specs.Prelude.{◌≡◌, IfOk};
+ghost use Rattle.std.specs.Prelude.{IfOk};
 ghost use Rattle.pool_model.specs.Network.{net_of};
-ghost use Rattle.box_tree.specs.Kept.{IsOf, searched_of};
+ghost use Rattle.row_model.specs.Entries.{IsEntryInOrder};
+ghost use Rattle.box_tree.specs.Views.{shown_entry};
 ghost use Rattle.branching.specs.Rows.{HasOpen};
-ghost use Rattle.search_core.specs.Searches.{IsAsked};
-ghost use Rattle.search_run.specs.Orders.{options_of, IsPickedBy};
-ghost use Rattle.search_run.specs.Runs.{IsRun};
-ghost use Rattle.search_run.specs.Found.{IsFound};
+ghost use Rattle.search_core.specs.Next.{IsDo, IsNext};
+ghost use Rattle.search_core.specs.Searches.{searched, IsSearchOf};
+ghost use Rattle.search_run.specs.Orders.{picked, IsPickedBy, Keeps};
 
-use crate::driving::run_under;
-use crate::ended::Outcome;
-use crate::orders::Orders;
 use blend_network::Network;
-use box_tree::Tree;
-use branching::{CutRule, LeafView, first_open, most_violated, widest};
+use branching::{CutRule, LeafView, fewest, first_open, most_violated, widest};
 use cli_words::RuleName;
 use edge_io::Memory;
+use search_core::{Next, Search};
 use std::alloc::Global;
 
-/// Goes on from a tree of the network until nothing more is to be done for the orders, and says how that ended. The only error is
-/// want of memory.
-///
-/// Each entry that is added is the step that is due: the cheapest starting plan, then a proof of the root, then again and again a
-/// cut of the least leaf, with a repaired plan before it where there is one.
-pub fn run_search(
+/// What comes next for a search, by the rule of a name. The rule carries how many splits are on each coordinate now, so it is made
+/// for this one step.
+pub fn next_by(
     alloc: Global,
     net: &Network,
-    orders: Orders,
-    tree: Tree,
-) -> Result<Outcome, Memory>
-    requires asked { IsAsked (options_of orders) }
-    requires tree { IsOf (net_of net.now) tree }
-    ensures tree { IfOk result (λ r. IsOf (net_of net.now) r.tree) }
-    ensures run { IfOk result (λ r. IsRun (net_of net.now) orders (searched_of tree.kept) (searched_of r.tree.kept) r.ended) }
-    ensures found { IfOk result (λ r. IsFound (net_of net.now) orders (searched_of tree.kept) (searched_of r.tree.kept) r.ended) }
+    name: RuleName,
+    search: &Search,
+) -> Result<Next, Memory>
+    requires { IsSearchOf (net_of net.now) search.now }
+    ensures next { IfOk result (IsNext (net_of net.now) search.now.options (searched search.now) search.now.repaired (picked name search.now.tree.kept.cuts)) }
+    ensures in_order { IfOk result (IsDo (λ entry. IsEntryInOrder (net_of net.now) (searched search.now) (shown_entry entry))) }
 {
-    let name = orders.rule;
+    let cuts = Vec::from_slice(alloc, search.tree().cuts())?;
     let closure = Box::new(
         alloc,
         move |view: &LeafView| -> usize
             requires { HasOpen view.now.rows }
-            ensures { IsPickedBy name view.now.rows result }
-        { pick_by(name, view) },
+            ensures { IsPickedBy name cuts.items view.now.rows result }
+        { pick_by(name, cuts.as_slice(), view) },
     )?;
     let rule = CutRule::new(closure);
-    run_under(alloc, net, orders, tree, &rule)
+    next_under(alloc, net, name, search, &rule)
 }
 
-/// The row that the rule of a name picks. Rules that are boxed call it.
-pub fn pick_by(name: RuleName, view: &LeafView) -> usize
+/// What comes next for a search, by a rule that keeps to that of a name.
+fn next_under(
+    alloc: Global,
+    net: &Network,
+    name: RuleName,
+    search: &Search,
+    rule: &CutRule,
+) -> Result<Next, Memory>
+    requires search { IsSearchOf (net_of net.now) search.now }
+    requires rule { Keeps name search.now.tree.kept.cuts (⟦<branching::RuleClosure as Fn(&branching::LeafView) -> usize>⟧.post rule.now.closure) }
+    ensures next { IfOk result (IsNext (net_of net.now) search.now.options (searched search.now) search.now.repaired (picked name search.now.tree.kept.cuts)) }
+    ensures in_order { IfOk result (IsDo (λ entry. IsEntryInOrder (net_of net.now) (searched search.now) (shown_entry entry))) }
+{
+    search.next(alloc, net, rule)
+}
+
+/// The row that the rule of a name picks, where so many splits are on each coordinate. Rules that are boxed call it.
+fn pick_by(name: RuleName, cuts: &[u32], view: &LeafView) -> usize
     requires { HasOpen view.now.rows }
-    ensures { IsPickedBy name view.now.rows result }
+    ensures { IsPickedBy name cuts.now view.now.rows result }
 {
     match name {
         RuleName::First => first_open(view),
         RuleName::Widest => widest(view),
         RuleName::Violated => most_violated(view),
+        RuleName::Fewest => fewest(view, cuts),
     }
 }

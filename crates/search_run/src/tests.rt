@@ -8,7 +8,7 @@ use box_space::Form;
 use box_tree::Tree;
 use cli_words::RuleName;
 use std::test::Fail;
-use worked_networks::{HAVERLY_1, network};
+use worked_networks::{HAVERLY_1, TWO_POOLS, network};
 
 /// A thousandth of money as the gap that is enough.
 fn orders(nodes: u16, rule: RuleName) -> Orders
@@ -36,5 +36,26 @@ fn a_run_goes_on_from_a_tree(rt: HostRuntime) -> Result<(), Fail> {
     // the best plan of this network costs -400
     let cost = long.tree.best_cost().ok_or("a cost")?;
     assert!(rt; cost.num <= i128::from(cost.base).saturating_mul(-399_999_000_000_000));
+    Ok(())
+}
+
+#[test]
+fn the_rule_fewest_takes_the_coordinates_in_turn(rt: HostRuntime) -> Result<(), Fail> {
+    let alloc = rt.alloc();
+    let net = network(alloc, TWO_POOLS)?;
+    let root = Tree::start(alloc, &net)?;
+    let exact = Orders {
+        gap: 0,
+        ..orders(8, RuleName::Fewest)
+    };
+    let run = run_search(alloc, &net, exact, root)?;
+    assert_eq!(rt; run.ended, Ended::Stopped);
+    // three proportions and three flows are cut; the four qualities between them are not
+    let coords = [0, 1, 2, 7, 8, 9, 0, 1];
+    assert_eq!(rt; run.tree.splits().len(), coords.len());
+    for (split, coord) in run.tree.splits().iter().zip(coords.iter()) {
+        assert_eq!(rt; split.coord, *coord);
+    }
+    assert_eq!(rt; run.tree.cuts(), [2, 2, 1, 0, 0, 0, 0, 1, 1, 1].as_slice());
     Ok(())
 }

@@ -7,11 +7,11 @@ use Rattle.search_run.proofs.Stepping.{IsWay}
 use Rattle.search_run.proofs.driving.drive.Given as goal
 
 abbrev pub invariant-loop-ended : goal.invariant-loop-ended
-invariant-loop-ended g l = record {
+invariant-loop-ended l = record {
   search : IsSearchOf (net_of l.net) l.search;
   options : l.search.options ≡ options_of l.orders;
   way : IsWay (net_of l.net) l.orders (searched l.fn.search) (searched l.search);
 }
 
 abbrev pub decreases-loop-ended : goal.decreases-loop-ended
-decreases-loop-ended g l = left l.search
+decreases-loop-ended l = left l.search

@@ -4,10 +4,10 @@ use Rattle.box_tree.specs.Kept.{Held, searched_of}
 use Rattle.search_core.specs.Searches.{searched}
 use Rattle.search_run.specs.Runs.{IsRun}
 use Rattle.search_run.proofs.Ending.{found-by}
-use Rattle.search_run.proofs.driving.run_under.Goals as goal
+use Rattle.search_run.proofs.driving.run_search.Goals as goal
 
 pub returns-clause-found : goal.returns-clause-found
-returns-clause-found g c =
+returns-clause-found c =
     let n = net_of c.args.net.now in
     let o = c.args.orders in
     let ended = c.in_ok-ended.ended in
