@@ -26,6 +26,7 @@ pub(crate) fn find_state<D: Disk>(
         MatchResult result (IsIn text file) (λ e. IsFree e ⊎ ((largest : ℕ) → Has text largest file e)) }
     ensures long { result ≡ Ok State.Born → length head.now ≤ end }
     ensures same { OnOk result (D.reads disk.new ≡ D.reads disk.old) }
+    ensures kept { IsErrOf result JournalFault.Memory → D.reads disk.new ≡ D.reads disk.old }
     ensures quiet { LeavesOnly D.moment D.left_since disk.old disk.new (D.may_leave disk.old) }
     ensures same_disk { IsSameDisk D.faults D.tells D.admits disk.old disk.new }
     ensures failed { IsErrOf result JournalFault.Disk → Rose (D.faults disk.old) (D.faults disk.new) }
@@ -46,6 +47,7 @@ fn read_front<D: Disk>(
     ensures size { IfOk result (λ v. length v.items ≤ end) }
     ensures free { IfErr result IsFree }
     ensures same { OnOk result (D.reads disk.new ≡ D.reads disk.old) }
+    ensures kept { IsErrOf result JournalFault.Memory → D.reads disk.new ≡ D.reads disk.old }
     ensures quiet { LeavesOnly D.moment D.left_since disk.old disk.new (D.may_leave disk.old) }
     ensures same_disk { IsSameDisk D.faults D.tells D.admits disk.old disk.new }
     ensures failed { IsErrOf result JournalFault.Disk → Rose (D.faults disk.old) (D.faults disk.new) }

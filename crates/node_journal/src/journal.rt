@@ -133,6 +133,9 @@ impl Journal {
         // A file that is refused is left as it is.
         ensures untouched { IfErr result (λ e. IsFree e ⊎ LeavesOnly D.moment D.left_since disk.old disk.new (D.may_leave disk.old)) }
 
+        // Where memory runs out the file reads as it did.
+        ensures kept { IsErrOf result JournalFault.Memory → D.reads disk.new ≡ D.reads disk.old }
+
         ensures failed { IsErrOf result JournalFault.Disk → Rose (D.faults disk.old) (D.faults disk.new) }
         ensures same_disk { IsSameDisk D.faults D.tells D.admits disk.old disk.new }
     {
@@ -177,6 +180,7 @@ fn open_measured<D: Disk>(
     ensures any_moment { (text file : List ℕ) (list : List entries.Entry) → IsOnDisk file (D.reads disk.old) (D.may_leave disk.old) → whole.now ≡ newborn text →
         IsOwn text file → Stands file text list → LeavesOnly D.moment D.left_since disk.old disk.new (λ c. D.may_leave disk.old c ⊎ IsOwnFor text list c) }
     ensures untouched { IfErr result (λ e. IsFree e ⊎ LeavesOnly D.moment D.left_since disk.old disk.new (D.may_leave disk.old)) }
+    ensures kept { IsErrOf result JournalFault.Memory → D.reads disk.new ≡ D.reads disk.old }
     ensures failed { IsErrOf result JournalFault.Disk → Rose (D.faults disk.old) (D.faults disk.new) }
     ensures same_disk { IsSameDisk D.faults D.tells D.admits disk.old disk.new }
 {
@@ -207,6 +211,7 @@ fn bear<D: Disk>(
     ensures free { IfErr result IsFree }
     ensures any_moment { (text file : List ℕ) → IsOnDisk file (D.reads disk.old) (D.may_leave disk.old) → IsUnborn file → IsOwn text file →
         whole.now ≡ newborn text → LeavesOnly D.moment D.left_since disk.old disk.new (IsOwnFor text []) }
+    ensures kept { IsErrOf result JournalFault.Memory → D.reads disk.new ≡ D.reads disk.old }
     ensures failed { IsErrOf result JournalFault.Disk → Rose (D.faults disk.old) (D.faults disk.new) }
     ensures same_disk { IsSameDisk D.faults D.tells D.admits disk.old disk.new }
 {
@@ -238,6 +243,7 @@ fn recover<D: Disk>(
     ensures quiet { (text file : List ℕ) (list : List entries.Entry) → IsOnDisk file (D.reads disk.old) (D.may_leave disk.old) → IsHeaded text start file →
         IsKept text list file → LeavesOnly D.moment D.left_since disk.old disk.new (D.may_leave disk.old) }
     ensures untouched { IfErr result (λ e. IsFree e ⊎ LeavesOnly D.moment D.left_since disk.old disk.new (D.may_leave disk.old)) }
+    ensures kept { IsErrOf result JournalFault.Memory → D.reads disk.new ≡ D.reads disk.old }
     ensures failed { IsErrOf result JournalFault.Disk → Rose (D.faults disk.old) (D.faults disk.new) }
     ensures same_disk { IsSameDisk D.faults D.tells D.admits disk.old disk.new }
 {

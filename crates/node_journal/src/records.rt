@@ -37,6 +37,7 @@ pub(crate) fn read_records<D: Disk>(
         IsFree e ⊎ IsBadBehind (length room.old) start file e) }
     ensures reached { IfOk result (λ x. x.1 ≤ end) }
     ensures same { OnOk result (D.reads disk.new ≡ D.reads disk.old) }
+    ensures kept { IsErrOf result JournalFault.Memory → D.reads disk.new ≡ D.reads disk.old }
     ensures quiet { LeavesOnly D.moment D.left_since disk.old disk.new (D.may_leave disk.old) }
     ensures same_disk { IsSameDisk D.faults D.tells D.admits disk.old disk.new }
     ensures failed { IsErrOf result JournalFault.Disk → Rose (D.faults disk.old) (D.faults disk.new) }
@@ -75,6 +76,7 @@ fn next_record<D: Disk>(
         (FailsAt (length room.old) number (drop at file)) }
     ensures reached { IfOk result (λ o. IfSome o (λ x. (at < x.1) × (x.1 ≤ end))) }
     ensures same { OnOk result (D.reads disk.new ≡ D.reads disk.old) }
+    ensures kept { IsErrOf result JournalFault.Memory → D.reads disk.new ≡ D.reads disk.old }
     ensures quiet { LeavesOnly D.moment D.left_since disk.old disk.new (D.may_leave disk.old) }
     ensures same_disk { IsSameDisk D.faults D.tells D.admits disk.old disk.new }
     ensures failed { IsErrOf result JournalFault.Disk → Rose (D.faults disk.old) (D.faults disk.new) }
@@ -142,6 +144,7 @@ fn open_record<D: Disk>(
         MatchResult result (λ x. IsRecordAt (length room.old) at file (shown_entry x.0) x.1) (FailsAt (length room.old) number (drop at file)) }
     ensures reached { IfOk result (λ x. (at < x.1) × (x.1 ≤ end)) }
     ensures same { OnOk result (D.reads disk.new ≡ D.reads disk.old) }
+    ensures kept { IsErrOf result JournalFault.Memory → D.reads disk.new ≡ D.reads disk.old }
     ensures quiet { LeavesOnly D.moment D.left_since disk.old disk.new (D.may_leave disk.old) }
     ensures same_disk { IsSameDisk D.faults D.tells D.admits disk.old disk.new }
     ensures failed { IsErrOf result JournalFault.Disk → Rose (D.faults disk.old) (D.faults disk.new) }
@@ -170,6 +173,7 @@ fn entry_at<D: Disk>(
         (λ e. (take (length room.old) (drop at file) ≡ payload (shown_entry e)) × EntryFits (shown_entry e))) }
     ensures free { IfErr result IsFree }
     ensures same { OnOk result (D.reads disk.new ≡ D.reads disk.old) }
+    ensures kept { IsErrOf result JournalFault.Memory → D.reads disk.new ≡ D.reads disk.old }
     ensures quiet { LeavesOnly D.moment D.left_since disk.old disk.new (D.may_leave disk.old) }
     ensures same_disk { IsSameDisk D.faults D.tells D.admits disk.old disk.new }
     ensures failed { IsErrOf result JournalFault.Disk → Rose (D.faults disk.old) (D.faults disk.new) }

@@ -1,6 +1,5 @@
 -- A run with a journal: from what the search with it leaves to what the program leaves.
-use Rattle.std.proofs.Common.{◌≡◌, ◌≢◌, ◌⊎◌, inl, inr, ℕ, ◌≤◌, List, [], ◌++◌, length, Option, Some, None, Ok, Err, refl, sym, ap, subst, ◌∙◌, arith}
-use Rattle.std.specs.Prelude.{Result}
+use Rattle.std.proofs.Common.{◌≡◌, ◌⊎◌, inl, inr, ℕ, ◌≤◌, List, Option, Some, None, Ok, Err, refl, sym, ap, subst, ◌∙◌, arith}
 use Rattle.disk_model.specs.Disks.{LeavesOnly, Reaches, IsOneOf}
 use Rattle.disk_model.proofs.Moments.{goes_further, leaves-weaker, now-has}
 use Rattle.edge_io.specs.Writing.{behind}
@@ -18,11 +17,11 @@ use Rattle.node_journal.specs.declared.fault.JournalFault.{JournalFault}
 use Rattle.node_journal.specs.declared.fault.JournalFault.TheVariants as journal_faults
 use Rattle.node_journal.proofs.Decided.{one_standing}
 use Rattle.search_run.specs.Runs.{IsRun}
-use Rattle.search_run.specs.Found.{IsFound, IsGrown}
+use Rattle.search_run.specs.Found.{IsFound}
 use Rattle.search_run.specs.declared.orders.Orders.{Orders}
 use Rattle.search_run.specs.declared.ended.Ended.{Ended}
 use Rattle.search_run.specs.declared.ended.Ended.TheVariants as ends
-use Rattle.recorded_run.specs.Recorded.{BeginsWith, IsBetween, IsCause, IsFreeFault, IsLeftAlone, IsNetworksOwn, Ends}
+use Rattle.recorded_run.specs.Recorded.{BeginsWith, IsBetween, IsCause, IsFreeFault, IsLeftAlone, IsNetworksOwn, StandsNow, Ends}
 use Rattle.recorded_run.specs.Sessions.{IsResumed}
 use Rattle.recorded_run.specs.declared.fault.RunFault.{RunFault}
 use Rattle.recorded_run.specs.declared.fault.RunFault.TheVariants as faults
@@ -30,7 +29,7 @@ use Rattle.recorded_run.proofs.Causes.{no_cause}
 use Rattle.pool_cli.specs.Journaled.{IsRefused, IsForeign, IsFailed, IsUnopened, IsCauseOf, Holds, IsPrintOf, IsAttached, Journaled}
 use Rattle.pool_cli.specs.Reads.{Files, ReadsUnder}
 use Rattle.pool_cli.specs.Recorded.{IsOpened}
-use Rattle.pool_cli.specs.Solution.{IsSolutionFrom, status_of}
+use Rattle.pool_cli.specs.Solution.{status_of}
 use Rattle.pool_cli.specs.SolveEnds.{EndsWith, IsEnded, IsPrinted, IsWithinBudget, fault_status, orders_of}
 use Rattle.pool_cli.specs.declared.solution.Solution.{Solution}
 use Rattle.pool_cli.specs.declared.status.Status.{Status}
@@ -163,6 +162,16 @@ fault-not-ended (faults.Journal (journal_faults.BadRecord number)) h = h
 fault-not-ended (faults.Journal journal_faults.Memory) h = h
 fault-not-ended (faults.OutOfOrder number) h = h
 
+-- memory ran out exactly where the fault says so
+memory-fault : (fault : RunFault) → fault_status fault ≡ statuses.OutOfMemory → fault ≡ faults.Journal journal_faults.Memory
+memory-fault (faults.Journal journal_faults.Disk) is = absurd (cc)
+memory-fault (faults.Journal journal_faults.NotAJournal) is = absurd (cc)
+memory-fault (faults.Journal (journal_faults.UnknownVersion version)) is = absurd (cc)
+memory-fault (faults.Journal journal_faults.OtherNetwork) is = absurd (cc)
+memory-fault (faults.Journal (journal_faults.BadRecord number)) is = absurd (cc)
+memory-fault (faults.Journal journal_faults.Memory) is = refl
+memory-fault (faults.OutOfOrder number) is = absurd (cc)
+
 ended-printed : (status : Status) → IsEnded status → IsPrinted status
 ended-printed statuses.Closed h = tt
 ended-printed statuses.Stopped h = tt
@@ -193,7 +202,8 @@ module _ {D : Type 0} (moment : D → ℕ) (left_since : D → ℕ → List ℕ 
   pub attached-unsolved : (fault : RunFault) (Prints : Cert → Type 0) → IsFreeFault fault ⊎ IsCause n text file fault →
       ((cause : RunFault) → IsCause n text file cause → IsFreeFault fault ⊎ (fault ≡ cause))
       → IsLeftAlone fault (LeavesOnly moment left_since mid new (may_leave mid)) →
-      ((first : List Entry) → IsNetworksOwn n text first file → Goes first (λ last. Unit {0})) → Attached (fault_status fault) Prints
+      ((first : List Entry) → IsNetworksOwn n text first file → Goes first (λ last. fault ≡ faults.Journal journal_faults.Memory → StandsNow n text last (reads new))) →
+      Attached (fault_status fault) Prints
   attached-unsolved fault Prints refused decided alone own =
       let status = fault_status fault in
       let caused : IsRefused status → IsCauseOf n text file status =
@@ -214,6 +224,7 @@ module _ {D : Type 0} (moment : D → ℕ) (left_since : D → ℕ → List ℕ 
               begins = goes.1;
               any_moment = behind-attach moment left_since may_leave counts_now old mid new (IsBetween n text first goes.0) attach goes.2;
               held = λ printed. absurd (fault-not-ended fault printed);
+              stands = λ memory. goes.3 (memory-fault fault memory);
               printed = λ ended. absurd (fault-not-ended fault (ended-printed status ended));
             };
       }
@@ -236,6 +247,7 @@ module _ {D : Type 0} (moment : D → ℕ) (left_since : D → ℕ → List ℕ 
           begins = goes.1;
           any_moment = behind-attach moment left_since may_leave counts_now old mid new (IsBetween n text first goes.0) attach goes.2;
           held = λ printed. ends-holds n text o first file limited at goes.0 found (reads new) (may_leave new) goes.3;
+          stands = λ memory. absurd (ended-not-failed ended (subst IsFailed (sym memory) tt));
           printed = λ whole. print-of n text o first file limited at (reads mid) found ended goes.0 Prints is resumed goes.3.made valid prints;
         };
   }
@@ -261,6 +273,7 @@ module _ (n : Net) (text : List ℕ) (o : Orders) (Leaves : (List ℕ → Type 0
           begins = run.begins;
           any_moment = run.any_moment;
           held = run.held;
+          stands = run.stands;
           printed = λ whole.
               let print = run.printed whole in
               record { prints = prints whole (cert_of n (made_by run.last)) print.prints; solution = print.solution; grown = print.grown; no_worse = print.no_worse };
@@ -286,6 +299,7 @@ module _ (n : Net) (text : List ℕ) (o : Orders) (Leaves : (List ℕ → Type 0
           begins = run.begins;
           any_moment = run.any_moment;
           held = λ printed. run.held (ended-printed (status_of ended) (ended-whole ended));
+          stands = λ memory. absurd (cc);
           printed = λ whole. absurd whole;
         };
   }

@@ -1,5 +1,4 @@
 -- A valid certificate can be reported.
-use Rattle.std.proofs.Common.{◌≡◌, List, ℕ, Result, Ok, Err, subst, sym}
 use Rattle.pool_model.specs.Network.{Net}
 use Rattle.pool_model.specs.Claim.{Claimed, with_gap, with_bound, no_plan}
 use Rattle.row_model.specs.Trees.{Tree}

@@ -1,7 +1,6 @@
 -- A tree that grows by entries in order: its bound is no lower, and its plan no dearer.
-use Rattle.std.proofs.Common.{◌≡◌, ◌≢◌, ℕ, zero, suc, ◌+◌, ◌*◌, ◌<◌, ◌≤◌, ◌⊎◌, inl, inr, ◌==◌, ◌||◌, if◌then◌else◌, List, [], ◌∷◌, ◌++◌, length, Bool, true, false, Option, option_map, Some, None, ℤ, pos, ◌*ℤ◌, ◌≤ℤ◌, ◌<ℤ◌, arith, refl, sym, ap, subst, ◌∙◌}
+use Rattle.std.proofs.Common.{◌≡◌, ◌≢◌, ℕ, zero, suc, ◌*◌, ◌<◌, ◌⊎◌, inl, inr, ◌==◌, ◌||◌, if◌then◌else◌, List, [], ◌∷◌, length, Bool, true, false, Option, option_map, Some, None, ℤ, pos, arith, refl, sym, ap, subst, ◌∙◌}
 use Rattle.std.specs.Option.{ForSome}
-use Rattle.std.specs.Int.{int_max}
 use Rattle.std.proofs.lemmas.Int.{clamps}
 use Rattle.std.proofs.lemmas.Option.{none-some}
 use Rattle.integers.proofs.AtKey.{same_or_other}
@@ -11,8 +10,8 @@ use Rattle.pool_model.specs.Plan.{Written, IsWritten, plan_of, cost_of}
 use Rattle.pool_model.specs.Starting.{lesser, least_below, reach_bound}
 use Rattle.row_model.specs.Boxes.{left_of, right_of}
 use Rattle.row_model.specs.Multipliers.{Proof, Shown, bound, no_plan, shown_by}
-use Rattle.row_model.specs.Trees.{Split, Tree, IsTree, split_at, left_node, right_node, nodes, is_cut, box_of, raised, own, bound_after, node_bound, leaf_bound, tree_bound}
-use Rattle.row_model.specs.Entries.{Entry, root_proof, split_of, improve, Searched, start, after, made_from, made_by, AreInOrder, IsSearched, IsRootInOrder, IsSplitEntryInOrder, IsPlanInOrder, IsEntryInOrder, AreInOrderFrom, IsCheaper}
+use Rattle.row_model.specs.Trees.{Split, Tree, IsTree, left_node, right_node, nodes, is_cut, box_of, raised, own, bound_after, node_bound, leaf_bound, tree_bound}
+use Rattle.row_model.specs.Entries.{Entry, root_proof, split_of, improve, Searched, start, after, made_from, made_by, AreInOrder, IsSearched, IsRootInOrder, IsSplitEntryInOrder, IsEntryInOrder, AreInOrderFrom, IsCheaper}
 use Rattle.row_model.proofs.EntryLaw.{length-more, searched-kept}
 use Rattle.row_model.proofs.TreeBound.{tree-empty}
 use Rattle.pool_model.specs.Claim as claims

@@ -1,5 +1,5 @@
 -- How a trial goes.
-use Rattle.std.proofs.Common.{◌≡◌, ◌⊎◌, ℕ, ◌+◌, ◌*◌, inl, inr, Option, Some, None, ℤ, refl, sym, ap, subst, ◌∙◌}
+use Rattle.std.proofs.Common.{◌≡◌, ◌⊎◌, ℕ, ◌+◌, ◌*◌, inl, inr, Option, Some, None, ℤ, refl, sym, ap, subst}
 use Rattle.integers.proofs.Tabulate.{get_or-tabulate}
 use Rattle.pool_model.specs.Network.{Net, no_product, net_of}
 use Rattle.pool_model.specs.Plan.{Written, plan_of}
@@ -12,7 +12,7 @@ use Rattle.cert_checker.specs.Answers.{verdict_of}
 use Rattle.cert_checker.specs.declared.verdict.Verdict.{Verdict}
 use Rattle.cert_checker.specs.declared.verdict.Verdict.TheVariants as verdicts
 use Rattle.tree_certificate.specs.Certificates.{claim_of}
-use Rattle.network_maker.specs.Draws.{state_after}
+use Rattle.drawn_numbers.specs.Draws.{state_after}
 use Rattle.network_maker.specs.Generated.{generated, drawn_product}
 use Rattle.search_run.specs.Found.{CoversStarts}
 use Rattle.search_run.specs.declared.orders.Orders.{Orders}

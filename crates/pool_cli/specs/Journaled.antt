@@ -13,7 +13,7 @@ use Rattle.node_journal.specs.Settled.{IsOnDisk}
 use Rattle.node_journal.specs.declared.fault.JournalFault.TheVariants as faults
 use Rattle.search_run.specs.Found.{IsGrown}
 use Rattle.search_run.specs.declared.orders.Orders.{Orders}
-use Rattle.recorded_run.specs.Recorded.{BeginsWith, HasOutOfOrder, IsBetween, IsNetworksOwn}
+use Rattle.recorded_run.specs.Recorded.{BeginsWith, HasOutOfOrder, IsBetween, IsNetworksOwn, StandsNow}
 use Rattle.pool_cli.specs.Reads.{Files, ReadsUnder}
 use Rattle.pool_cli.specs.Resumed.{IsNoWorse}
 use Rattle.pool_cli.specs.Solution.{IsSolutionFrom}
@@ -80,13 +80,15 @@ pub record IsPrintOf (n : Net) (o : Orders) (begun found : Searched) (status : S
 
 -- A run on a file that is the network's own and stands for the first list. A crash at any moment leaves what it might have left before,
 -- or the network's own file, for a list between the first and the last: so of two such lists one begins with the other. Where the run
--- came to its end, the file stands for the last list, and what is printed is the certificate of its tree.
+-- came to its end, the file stands for the last list, and what is printed is the certificate of its tree. Where memory ran out, the file
+-- that reads then stands for the last list too.
 pub record IsRunOn (n : Net) (text : List ℕ) (o : Orders) (first : List Entry) (Leaves : (List ℕ → Type 0) → Type 0) (before : List ℕ → Type 0) (reads : Option (List ℕ)) (images : List ℕ → Type 0)
     (status : Status) (Prints : Cert → Type 0) : Type 0 where
   pub last : List Entry
   pub begins : BeginsWith last first
   pub any_moment : Leaves (λ c. before c ⊎ IsBetween n text first last c)
   pub held : IsPrinted status → Holds n text last reads images
+  pub stands : status ≡ statuses.OutOfMemory → StandsNow n text last reads
   pub printed : IsEnded status → IsPrintOf n o (made_by first) (made_by last) status Prints
 
 -- A run that read a file, which was one of the images of before. A refusal has its cause in the file, and a cause that is there is

@@ -1,7 +1,7 @@
 -- How `trial` ends.
 use Rattle.std.specs.Prelude.{◌≡◌, ◌^◌, ℕ, List, pos}
 use Rattle.pool_model.specs.Network.{Net, net_of}
-use Rattle.pool_model.specs.Claim.{Claimed, with_gap, with_bound, no_plan}
+use Rattle.pool_model.specs.Claim.{Claimed, with_gap}
 use Rattle.box_space.specs.declared.coordinates.Form.TheVariants.{Pq}
 use Rattle.cert_format.specs.Cert.{Cert}
 use Rattle.cert_format.specs.Text.{text_of}

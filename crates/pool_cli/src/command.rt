@@ -80,6 +80,7 @@ pub fn run<S: Shelf, K: Sink, D: Disk>(
         Journaled (S.files shelf.old) s (LeavesOnly D.moment D.left_since disk.old disk.new) (D.may_leave disk.old) (D.reads disk.new) (D.may_leave disk.new)
         result (λ c. K.taken out.new ≡ behind (K.taken out.old) (text_of c)) }
     ensures apart { (asked : Asked) → Asks (map string_bytes words.now) asked → HasNoJournal asked → disk.new ≡ disk.old }
+    ensures unasked { ((asked : Asked) → ¬ Asks (map string_bytes words.now) asked) → disk.new ≡ disk.old }
 {
     match read_words(alloc, words) {
         Ok(Request::Solve(words)) => Status::from(solve(alloc, &words, shelf, out, disk)),

@@ -8,7 +8,7 @@ use Rattle.node_journal.specs.Files.{Stands}
 use Rattle.node_journal.specs.Longest.{longest}
 use Rattle.node_journal.proofs.Decided.{one_fault, one_standing, stands_sound}
 use Rattle.node_journal.proofs.ShortPayloads.{allowed_in_order}
-use Rattle.recorded_run.specs.Recorded.{IsFirstOutOfOrder, IsReplayFault, HasOutOfOrder, IsCause, IsFreeFault, IsLeftAlone}
+use Rattle.recorded_run.specs.Recorded.{IsFirstOutOfOrder, IsReplayFault, IsCause, IsFreeFault, IsLeftAlone}
 use Rattle.recorded_run.specs.declared.fault.RunFault.{RunFault}
 use Rattle.recorded_run.specs.declared.fault.RunFault.TheVariants.{Journal, OutOfOrder}
 

@@ -1,22 +1,25 @@
 -- Lists that grow entry by entry, and what a crash leaves meanwhile.
-use Rattle.std.proofs.Common.{◌≡◌, ◌≢◌, ◌⊎◌, inl, inr, Bool, ℕ, suc, ◌<◌, map, get_or, take, drop, ◌+◌, ◌≤◌, List, [], ◌∷◌, ◌++◌, length, Option, Some, refl, sym, ap, subst, ◌∙◌, append_assoc, arith}
+use Rattle.std.proofs.Common.{◌≡◌, ◌≢◌, ◌⊎◌, inl, inr, Bool, ℕ, suc, ◌<◌, map, get_or, take, drop, ◌≤◌, List, [], ◌∷◌, ◌++◌, length, Option, refl, sym, ap, subst, ◌∙◌, append_assoc}
 use Rattle.std.proofs.lemmas.List.{append-nil, map-id, map-append, take-append-drop}
 use Rattle.std.proofs.Math.Seq.{drop-cons}
-use Rattle.disk_model.specs.Disks.{LeavesOnly, Only}
+use Rattle.disk_model.specs.Disks.{LeavesOnly}
 use Rattle.disk_model.proofs.Moments.{goes_further, leaves-weaker}
 use Rattle.pool_model.specs.Network.{Net}
 use Rattle.row_model.specs.Entries.{Entry, Searched, start, after, made_from, made_by, AreInOrder, AreInOrderFrom, IsEntryInOrder}
 use Rattle.box_tree.specs.declared.entry.EntryFault.{EntryFault}
 use Rattle.box_tree.specs.declared.entry.EntryFault.TheVariants as entry_faults
-use Rattle.node_journal.specs.Files.{Stands, IsKept, IsOwnFor}
+use Rattle.node_journal.specs.Files.{IsKept, IsOwnFor}
 use Rattle.node_journal.specs.Journals.{IsBeforeOrAfter}
 use Rattle.node_journal.specs.Records.{IsKeptAt}
 use Rattle.edge_io.proofs.Counting.{grows-same, grows-then}
 use Rattle.node_journal.specs.Settled.{IsOnDisk, IsSameDisk}
+use Rattle.node_journal.specs.declared.fault.JournalFault.{JournalFault}
+use Rattle.node_journal.specs.declared.fault.JournalFault.TheVariants as journal_faults
 use Rattle.node_journal.proofs.Births.{kept-own}
 use Rattle.node_journal.proofs.Decided.{kept_of}
 use Rattle.node_journal.proofs.Runs.{quiet-start}
-use Rattle.recorded_run.specs.Recorded.{BeginsWith, IsNetworksOwn, IsBetween, IsRecorded, Ends, IsFirstOutOfOrder, IsReplayFault, refused_as}
+use Rattle.recorded_run.specs.declared.fault.RunFault.TheVariants as faults
+use Rattle.recorded_run.specs.Recorded.{BeginsWith, IsNetworksOwn, IsBetween, IsRecorded, StandsNow, Ends, IsFirstOutOfOrder, IsReplayFault, refused_as}
 
 -- ---- one entry more
 
@@ -79,6 +82,19 @@ recorded-ends n text list gate s reads images is = record {
   own = kept-own_file n text list is.file (kept_of gate text is.file list is.kept) is.in_order;
   made = is.made;
 }
+
+-- the file that the disk holds is what a read gives
+pub kept-stands : (n : Net) (text : List ℕ) (list : List Entry) (gate : ℕ) (file : List ℕ) (reads : Option (List ℕ)) (images : List ℕ → Type 0) → AreInOrder n list
+    → IsOnDisk file reads images → IsKeptAt gate text list file → StandsNow n text list reads
+kept-stands n text list gate file reads images are d kept = record { file = file; read = d.read; own = kept-own_file n text list file (kept_of gate text file list kept) are }
+
+pub recorded-stands : (n : Net) (text : List ℕ) (list : List Entry) (gate : ℕ) (s : Searched) (reads : Option (List ℕ)) (images : List ℕ → Type 0) → IsRecorded n text list gate s reads images
+    → StandsNow n text list reads
+recorded-stands n text list gate s reads images is = kept-stands n text list gate is.file reads images is.in_order is.on_disk is.kept
+
+-- the fault of a run for want of memory is that of its journal
+pub memory-of : (fault : JournalFault) → faults.Journal fault ≡ faults.Journal journal_faults.Memory → fault ≡ journal_faults.Memory
+memory-of fault is = cc
 
 -- so far: a crash left a list between the first and the last, and the disk holds the last
 pub record SoFar {D : Type 0} (n : Net) (moment : D → ℕ) (left_since : D → ℕ → List ℕ → Type 0) (reads : D → Option (List ℕ)) (may_leave : D → List ℕ → Type 0)

@@ -1,5 +1,5 @@
 -- What is recorded: the list that the disk holds, the tree that is made of it, and the files that a crash leaves.
-use Rattle.std.specs.Prelude.{◌≡◌, ◌⊎◌, ℕ, List, ◌∷◌, ◌++◌, length, Option}
+use Rattle.std.specs.Prelude.{◌≡◌, ◌⊎◌, ℕ, List, ◌∷◌, ◌++◌, length, Option, Some}
 use Rattle.std.specs.List.{AllByRecursion}
 use Rattle.pool_model.specs.Network.{Net}
 use Rattle.row_model.specs.Entries.{Entry, Searched, made_by, AreInOrder, IsEntryInOrder}
@@ -90,6 +90,12 @@ IsCause n text file (OutOfOrder k) = HasOutOfOrder n text file k
 abbrev pub IsLeftAlone : RunFault → Type 0 → Type 0
 IsLeftAlone (Journal fault) Untouched = IsFree fault ⊎ Untouched
 IsLeftAlone (OutOfOrder k) Untouched = Unit {0}
+
+-- a read gives the network's own file, which stands for the list
+pub record StandsNow (n : Net) (text : List ℕ) (list : List Entry) (reads : Option (List ℕ)) : Type 0 where
+  pub file : List ℕ
+  pub read : reads ≡ Some file
+  pub own : IsNetworksOwn n text list file
 
 -- at the end: a file is the only image, it is the network's own for the list, and the tree is made of that
 pub record Ends (n : Net) (text : List ℕ) (list : List Entry) (s : Searched) (reads : Option (List ℕ)) (images : List ℕ → Type 0) : Type 0 where

@@ -1,5 +1,5 @@
 -- What a session is between two steps, and what a run of it leaves.
-use Rattle.std.specs.Prelude.{◌≡◌, ℕ, List, false, Option, Some, Result, OnOk}
+use Rattle.std.specs.Prelude.{◌≡◌, ℕ, List, false, Option, Some, Result, MatchResult}
 use Rattle.disk_model.specs.Disks.{LeavesOnly}
 use Rattle.pool_model.specs.Network.{Net}
 use Rattle.row_model.specs.Entries.{Entry, Searched, made_by, AreInOrder}
@@ -11,8 +11,10 @@ use Rattle.search_run.specs.Orders.{options_of}
 use Rattle.search_run.specs.Runs.{IsRun}
 use Rattle.search_run.specs.declared.ended.Ended.{Ended}
 use Rattle.search_run.specs.declared.orders.Orders.{Orders}
-use Rattle.recorded_run.specs.Recorded.{BeginsWith, IsBetween, IsRecorded}
+use Rattle.node_journal.specs.declared.fault.JournalFault.TheVariants.{Memory}
+use Rattle.recorded_run.specs.Recorded.{BeginsWith, IsBetween, IsRecorded, StandsNow}
 use Rattle.recorded_run.specs.declared.fault.RunFault.{RunFault}
+use Rattle.recorded_run.specs.declared.fault.RunFault.TheVariants.{Journal}
 use Rattle.recorded_run.specs.declared.session.Session.{Session}
 
 -- the search is the network's and asks for what was ordered, and its journal takes each entry that is in order
@@ -23,13 +25,15 @@ pub record IsSession (n : Net) (o : Orders) (s : Session) : Type 0 where
   pub usable : s.journal.failed ≡ false
 
 -- A run from a list that the disk holds: a crash at any moment leaves the network's own file, for a list between that one and the
--- last; and where the run came to its end the disk holds the last, and the tree is made of it.
+-- last. Where the run came to its end the disk holds the last, and the tree is made of it; where memory ran out the file stands for it.
 pub record IsRecordedRun {D : Type 0} (n : Net) (moment : D → ℕ) (left_since : D → ℕ → List ℕ → Type 0) (reads : D → Option (List ℕ)) (may_leave : D → List ℕ → Type 0)
     (text : List ℕ) (first : List Entry) (old new : D) (s : Session) (result : Result Ended RunFault) : Type 0 where
   pub last : List Entry
   pub begins : BeginsWith last first
   pub any_moment : LeavesOnly moment left_since old new (IsBetween n text first last)
-  pub held : OnOk result (IsRecorded n text last s.journal.gate (searched s.search) (reads new) (may_leave new))
+  pub held : MatchResult result
+      (λ _. IsRecorded n text last s.journal.gate (searched s.search) (reads new) (may_leave new))
+      (λ fault. fault ≡ Journal Memory → StandsNow n text last (reads new))
 
 -- What was found by going on from entries: they are in order, and the file stands for them, where it is known what a read of it gives;
 -- the run begins with the tree of them, and what follows of its tree holds.

@@ -1,30 +1,28 @@
-//! A recorded run from the file to the end of the search, under the rule of a name.
+//! A recorded run from the file to the end of the search.
 
-ghost use Rattle.std.specs.Prelude.{◌≡◌, ◌≤◌, ◌^◌, ◌⊎◌, ℕ, List, Some, length, IsTrue, IfOk, IfErr, IsErrAnd, IsErrOf};
+ghost use Rattle.std.specs.Prelude.{◌≡◌, ◌≤◌, ◌^◌, ◌⊎◌, ℕ, List, Some, length, IsTrue, IfOk, IfErr, IsErrAnd, IsErrOf, MatchResult};
 ghost use Rattle.edge_io.specs.Counts.{Rose};
 ghost use Rattle.disk_model.specs.Disks.{Reaches, LeavesOnly};
 ghost use Rattle.pool_model.specs.Network.{net_of};
 ghost use Rattle.row_model.specs.Entries as entries;
 ghost use Rattle.box_tree.specs.Kept.{IsOf, searched_of};
-ghost use Rattle.branching.specs.Rows.{HasOpen};
 ghost use Rattle.node_journal.specs.Journals.{IsLeft};
 ghost use Rattle.node_journal.specs.Settled.{IsOnDisk, IsSameDisk};
 ghost use Rattle.node_journal.specs.declared.fault.JournalFault.TheVariants as journal_faults;
 ghost use Rattle.search_core.specs.Searches.{searched, IsAsked};
-ghost use Rattle.search_run.specs.Orders.{options_of, IsPickedBy};
+ghost use Rattle.search_run.specs.Orders.{options_of};
 ghost use Rattle.search_run.specs.Runs.{IsRun};
-ghost use Rattle.recorded_run.specs.Recorded.{BeginsWith, IsNetworksOwn, IsBetween, IsRecorded, IsCause, IsFreeFault, IsLeftAlone, Ends};
+ghost use Rattle.recorded_run.specs.Recorded.{BeginsWith, IsNetworksOwn, IsBetween, IsRecorded, IsCause, IsFreeFault, IsLeftAlone, StandsNow, Ends};
 ghost use Rattle.recorded_run.specs.Sessions.{IsSession, IsRecordedRun, IsResumed};
 
 use crate::fault::RunFault;
 use crate::replay::replayed;
 use crate::session::Session;
 use blend_network::Network;
-use branching::{CutRule, LeafView};
 use disk_model::Disk;
 use node_journal::{Journal, Opened, largest_payload};
 use search_core::Search;
-use search_run::{Ended, Orders, Outcome, pick_by};
+use search_run::{Orders, Outcome};
 use std::alloc::Global;
 
 /// Opens the journal of the network on the file that is attached, and goes on from the tree of its entries until nothing more is to
@@ -44,11 +42,14 @@ pub fn run_recorded<D: Disk>(
     // The run goes on from the tree of entries, which are those that the file stands for.
     ensures run { IfOk result (λ r. IsResumed (net_of net.now) orders text.now (D.reads disk.old) (searched_of r.tree.kept) r.ended) }
     // Of two lists, of which the last begins with the first: a crash at any moment leaves what it might have left before, or the
-    // network's own file, for a list between the two. At the end the file stands for the last, and what is answered is the tree of it.
+    // network's own file, for a list between the two. At the end the file stands for the last, also where memory ran out, and what is
+    // answered is the tree of it.
     ensures any_moment { (file : List ℕ) (first : List entries.Entry) → D.reads disk.old ≡ Some file → IsNetworksOwn (net_of net.now) text.now first file →
         (last : List entries.Entry) × BeginsWith last first
         × LeavesOnly D.moment D.left_since disk.old disk.new (λ c. D.may_leave disk.old c ⊎ IsBetween (net_of net.now) text.now first last c)
-        × IfOk result (λ r. Ends (net_of net.now) text.now last (searched_of r.tree.kept) (D.reads disk.new) (D.may_leave disk.new)) }
+        × MatchResult result
+        (λ r. Ends (net_of net.now) text.now last (searched_of r.tree.kept) (D.reads disk.new) (D.may_leave disk.new))
+        (λ fault. fault ≡ RunFault.Journal journal_faults.Memory → StandsNow (net_of net.now) text.now last (D.reads disk.new)) }
 
     // A refusal has its cause in the file, and a cause that is there is answered, unless disk or memory failed.
     ensures refused { IfErr result (λ f. (file : List ℕ) → D.reads disk.old ≡ Some file → IsFreeFault f ⊎ IsCause (net_of net.now) text.now file f) }
@@ -66,39 +67,8 @@ pub fn run_recorded<D: Disk>(
     let tree = replayed(alloc, net, entries)?;
     let search = Search::start(alloc, net, orders.options(), tree)?;
     let mut session = Session { journal, search };
-    let ended = drive_named(alloc, net, orders, disk, &mut session)?;
+    let ended = session.drive(alloc, net, orders, disk)?;
     let Session { journal: _, search } = session;
     let tree = search.into_tree();
     Ok(Outcome { tree, ended })
-}
-
-/// Drives a session under the rule of the name that is ordered.
-fn drive_named<D: Disk>(
-    alloc: Global,
-    net: &Network,
-    orders: Orders,
-    disk: &mut D,
-    session: &mut Session,
-) -> Result<Ended, RunFault>
-    requires session { IsSession (net_of net.now) orders session.old }
-    requires left { IsTrue (D.tells disk.old) → IsLeft session.old.journal (D.reads disk.old) (D.may_leave disk.old) }
-    ensures session { IfOk result (λ _. IsSession (net_of net.now) orders session.new) }
-    ensures run { IfOk result (IsRun (net_of net.now) orders (searched session.old.search) (searched session.new.search)) }
-    ensures recorded { (text : List ℕ) (first : List entries.Entry) →
-        IsRecorded (net_of net.now) text first session.old.journal.gate (searched session.old.search) (D.reads disk.old) (D.may_leave disk.old) →
-        IsRecordedRun (net_of net.now) D.moment D.left_since D.reads D.may_leave text first disk.old disk.new session.new result }
-    ensures free { IfErr result IsFreeFault }
-    ensures failed { IsErrOf result (RunFault.Journal journal_faults.Disk) → Rose (D.faults disk.old) (D.faults disk.new) }
-    ensures same_disk { IsSameDisk D.faults D.tells D.admits disk.old disk.new }
-{
-    let name = orders.rule;
-    let closure = Box::new(
-        alloc,
-        move |view: &LeafView| -> usize
-            requires { HasOpen view.now.rows }
-            ensures { IsPickedBy name view.now.rows result }
-        { pick_by(name, view) },
-    )?;
-    let rule = CutRule::new(closure);
-    session.drive(alloc, net, orders, disk, &rule)
 }

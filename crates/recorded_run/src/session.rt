@@ -12,7 +12,6 @@ ghost use Rattle.node_journal.specs.Settled.{IsOnDisk, IsSameDisk};
 ghost use Rattle.node_journal.specs.declared.fault.JournalFault.TheVariants as journal_faults;
 ghost use Rattle.search_core.specs.Searches.{searched};
 ghost use Rattle.search_core.specs.Cases.{IsRepairedAfter};
-ghost use Rattle.search_run.specs.Orders.{Keeps};
 ghost use Rattle.search_run.specs.Runs.{IsRun};
 ghost use Rattle.recorded_run.specs.Recorded.{IsRecorded, IsFreeFault};
 ghost use Rattle.recorded_run.specs.Sessions.{IsSession, IsRecordedRun};
@@ -20,11 +19,10 @@ ghost use Rattle.recorded_run.specs.Sessions.{IsSession, IsRecordedRun};
 use crate::fault::RunFault;
 use blend_network::Network;
 use box_tree::Entry;
-use branching::CutRule;
 use disk_model::Disk;
 use node_journal::{Journal, JournalFault, largest_payload};
 use search_core::{Next, Search};
-use search_run::{Ended, Orders};
+use search_run::{Ended, Orders, next_by};
 use std::alloc::Global;
 
 /// A journal, and the search whose tree is made of what the journal holds.
@@ -53,6 +51,10 @@ impl Session {
         ensures recorded { OnOk result ((text file : List ℕ) (list : List entries.Entry) →
             IsOnDisk file (D.reads disk.old) (D.may_leave disk.old) → IsKeptAt self.old.journal.gate text list file →
             (after : List ℕ) × IsOnDisk after (D.reads disk.new) (D.may_leave disk.new) × IsKeptAt self.new.journal.gate text (list ++ shown_entry entry ∷ []) after) }
+        // So it does where memory runs out behind it.
+        ensures kept { IsErrOf result (RunFault.Journal journal_faults.Memory) → (text file : List ℕ) (list : List entries.Entry) →
+            IsOnDisk file (D.reads disk.old) (D.may_leave disk.old) → IsKeptAt self.old.journal.gate text list file →
+            (after : List ℕ) × IsOnDisk after (D.reads disk.new) (D.may_leave disk.new) × IsKeptAt self.new.journal.gate text (list ++ shown_entry entry ∷ []) after }
         ensures any_moment { (text file : List ℕ) (list : List entries.Entry) →
             IsOnDisk file (D.reads disk.old) (D.may_leave disk.old) → IsKeptAt self.old.journal.gate text list file →
             LeavesOnly D.moment D.left_since disk.old disk.new (IsBeforeOrAfter text list (shown_entry entry)) }
@@ -75,10 +77,8 @@ impl Session {
         net: &Network,
         orders: Orders,
         disk: &mut D,
-        rule: &CutRule,
     ) -> Result<Ended, RunFault>
         requires session { IsSession (net_of net.now) orders self.old }
-        requires rule { Keeps orders.rule (⟦<branching::RuleClosure as Fn(&branching::LeafView) -> usize>⟧.post rule.now.closure) }
         requires left { IsTrue (D.tells disk.old) → IsLeft self.old.journal (D.reads disk.old) (D.may_leave disk.old) }
         ensures session { IfOk result (λ _. IsSession (net_of net.now) orders self.new) }
         ensures run { IfOk result (IsRun (net_of net.now) orders (searched self.old.search) (searched self.new.search)) }
@@ -90,7 +90,7 @@ impl Session {
         ensures same_disk { IsSameDisk D.faults D.tells D.admits disk.old disk.new }
     {
         'steps: loop {
-            match self.search.next(alloc, net, rule)? {
+            match next_by(alloc, net, orders.rule, &self.search)? {
                 Next::Do(entry) => self.record(net, orders, disk, entry)?,
                 Next::Closed => return Ok(Ended::Closed),
                 Next::Stopped => return Ok(Ended::Stopped),

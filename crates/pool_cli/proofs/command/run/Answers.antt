@@ -214,3 +214,7 @@ returns-in-Err-Usage-clause-ends g c = λ asked asks. absurd (c.in-Err-Usage.ens
 
 pub returns-in-Err-Usage-clause-decided : goal.returns-in-Err-Usage-clause-decided
 returns-in-Err-Usage-clause-decided g c = λ told asked is asks. absurd (c.in-Err-Usage.ensures.usage (ap (λ f. Err f) c.in-Err-Usage.field-0-is) asked asks)
+
+-- words that ask for something
+pub returns-in-Ok-Solve-clause-unasked : goal.returns-in-Ok-Solve-clause-unasked
+returns-in-Ok-Solve-clause-unasked g c = λ none. absurd (none (solve (shown_solving c.in-Ok-Solve.words)) (rw c.in-Ok-Solve.field-0-is at c.in-Ok-Solve.ensures.asks))

@@ -9,7 +9,6 @@ use Rattle.row_model.specs.Entries.{made_by}
 use Rattle.box_tree.specs.Kept.{searched_of}
 use Rattle.cert_format.specs.Valid.{IsValid}
 use Rattle.cert_format.specs.Views.{shown_cert}
-use Rattle.network_text.specs.Canonical.{canonical_text}
 use Rattle.node_journal.proofs.Runs.{quiet-start, quiet-call}
 use Rattle.node_journal.specs.declared.fault.JournalFault.TheVariants as journal_faults
 use Rattle.recorded_run.specs.declared.fault.RunFault.TheVariants as faults
@@ -100,4 +99,6 @@ returns-in_err-certificate-clause-journal g c =
     (g.D.Disk.reads new) (g.D.Disk.may_leave new) (Err fault)) (c.deref.ensures.value ∙ c.in_ok-text.ensures.text)
     (inr (attached-unsolved g.D.Disk.moment g.D.Disk.left_since g.D.Disk.reads g.D.Disk.may_leave g.met.D.Disk.counts_now n c.deref.result.now c.args.orders at.0 old mid new at.2 attach
     fault (shows (Err fault)) (inl (inr refl)) (λ cause has. inl (inr refl)) (inl (inr refl))
-    (λ first own. let goes = c.in_ok-outcome.ensures.any_moment at.0 first at.1 own in (goes.0, goes.1, goes.2, tt)))))
+    (λ first own.
+    let goes = c.in_ok-outcome.ensures.any_moment at.0 first at.1 own in
+    (goes.0, goes.1, goes.2, λ memory. record { file = goes.3.file; read = goes.3.on_disk.read; own = goes.3.own })))))

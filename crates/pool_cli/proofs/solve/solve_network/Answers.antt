@@ -1,4 +1,4 @@
-use Rattle.std.proofs.Common.{inl, ℕ, List, Ok, Err, refl, ap, subst}
+use Rattle.std.proofs.Common.{inl, Ok, Err, refl, ap, subst}
 use Rattle.disk_model.specs.Disks.{LeavesOnly}
 use Rattle.pool_model.specs.Network.{net_of}
 use Rattle.row_model.specs.Entries.{made_by}

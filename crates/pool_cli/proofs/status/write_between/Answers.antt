@@ -1,10 +1,9 @@
-use Rattle.std.proofs.Common.{◌≡◌, ◌++◌, ℤ, pos, subst, ◌∙◌, ap, FitsSigned, rules}
+use Rattle.std.proofs.Common.{◌≡◌, ◌++◌, pos, ◌∙◌, FitsSigned, rules}
 use Rattle.std.proofs.lemmas.Int.{to_z-of_z}
 use mir.Syntax.{w128}
 use mir.Val.{to_z, of_z}
 use Rattle.std.specs.Fmt.{signed_decimal}
 use Rattle.std.proofs.lemmas.Result.{err_from_is_err_and}
-use Rattle.edge_io.specs.Writing.{Wrote}
 use Rattle.edge_io.proofs.Writes.{front-first, front-behind, wrote-behind}
 use Rattle.pool_cli.proofs.status.write_between.Goals as goal
 

@@ -1,14 +1,15 @@
 -- From the file that is attached to the end of the run.
-use Rattle.std.proofs.Common.{◌≡◌, ◌⊎◌, ℕ, List, map, refl, inl, inr, ap, subst, sym, ◌∙◌}
+use Rattle.std.proofs.Common.{◌≡◌, ◌⊎◌, ℕ, List, Err, map, refl, inl, inr, ap, subst, sym, ◌∙◌}
 use Rattle.std.specs.Prelude.{IsTrue}
 use Rattle.std.specs.List.{AllByRecursion}
 use Rattle.std.proofs.lemmas.Result.{err_from_is_err_and}
 use Rattle.disk_model.proofs.Calling.{reaches-file}
 use Rattle.pool_model.specs.Network.{net_of}
-use Rattle.row_model.specs.Entries.{Searched, made_by, AreInOrder, IsSearched}
+use Rattle.row_model.specs.Entries.{Entry, Searched, made_by, AreInOrder, IsSearched}
 use Rattle.box_tree.specs.Kept.{Held, searched_of}
 use Rattle.box_tree.specs.Views.{shown_entry}
 use Rattle.node_journal.specs.Faults.{IsAllowed, IsFree, Has}
+use Rattle.node_journal.specs.Records.{IsKeptAt}
 use Rattle.node_journal.proofs.Decided.{one_standing}
 use Rattle.node_journal.proofs.ShortPayloads.{allowed_in_order}
 use Rattle.search_core.specs.Searches.{searched}
@@ -16,21 +17,21 @@ use Rattle.search_run.specs.Runs.{IsRun}
 use Rattle.search_run.proofs.Ending.{found-by}
 use Rattle.recorded_run.specs.Recorded.{Ends}
 use Rattle.recorded_run.specs.declared.fault.RunFault.TheVariants.{Journal}
-use Rattle.recorded_run.proofs.Recording.{begins-same, opened-recorded, opening-moments, run-moments, recorded-ends, same_disk-then}
+use Rattle.recorded_run.proofs.Recording.{begins-same, opened-recorded, opening-moments, run-moments, recorded-ends, kept-stands, memory-of, same_disk-then}
 use Rattle.recorded_run.proofs.Causes.{no_cause, decided-by, replay-cause, replay-free, replay-alone, free-alone}
 use Rattle.recorded_run.proofs.rules.run_recorded.Goals as goal
 
 -- the session that is driven
-pub drive_named-requires-clause-session : goal.drive_named-requires-clause-session
-drive_named-requires-clause-session g c = record {
+pub drive-requires-clause-session : goal.drive-requires-clause-session
+drive-requires-clause-session g c = record {
   search = c.in_ok-search.ensures.search;
   options = c.in_ok-search.ensures.options ∙ c.options.ensures;
   largest = c.in_ok-opened.ensures.largest ∙ c.largest_payload-largest.ensures.value;
   usable = c.in_ok-opened.ensures.usable;
 }
 
-pub drive_named-requires-clause-left : goal.drive_named-requires-clause-left
-drive_named-requires-clause-left g c = λ tells.
+pub drive-requires-clause-left : goal.drive-requires-clause-left
+drive-requires-clause-left g c = λ tells.
     let was = reaches-file (g.D.Disk.reads c.args.disk.now) 0 (c.requires.attached (subst IsTrue c.open.ensures.same_disk.same_telling tells)) in
     let left = c.in_ok-opened.ensures.left was.0 was.1 in
     (c.args.text.now, map shown_entry c.in_ok-opened.opened.entries.items, left.0, left.1, left.2)
@@ -65,19 +66,19 @@ returns-clause-any_moment g c = λ file first is own.
     let held = opened-recorded n text first list c.in_ok-opened.opened.journal.gate (searched c.in_ok-search.search) left.0 (g.D.Disk.reads c.open.new.disk) (g.D.Disk.may_leave c.open.new.disk)
     same own.in_order made left.1 left.2 in
     let run = c.in_ok-ended.ensures.recorded text first held in
-    let ends = recorded-ends n text run.last c.drive_named.new.session.journal.gate (searched c.drive_named.new.session.search)
-    (g.D.Disk.reads c.drive_named.new.disk) (g.D.Disk.may_leave c.drive_named.new.disk) run.held in (
+    let ends = recorded-ends n text run.last c.drive.new.self.journal.gate (searched c.drive.new.self.search)
+    (g.D.Disk.reads c.drive.new.disk) (g.D.Disk.may_leave c.drive.new.disk) run.held in (
       run.last,
       run.begins,
-      run-moments n g.D.Disk.moment g.D.Disk.left_since g.D.Disk.may_leave text first run.last c.args.disk.now c.open.new.disk c.drive_named.new.disk
+      run-moments n g.D.Disk.moment g.D.Disk.left_since g.D.Disk.may_leave text first run.last c.args.disk.now c.open.new.disk c.drive.new.disk
           own.in_order run.begins (c.open.ensures.any_moment file first is own.own own.stands) run.any_moment,
-      subst (λ (h : Held). Ends n text run.last (searched_of h.kept) (g.D.Disk.reads c.drive_named.new.disk) (g.D.Disk.may_leave c.drive_named.new.disk)) (sym c.into_tree-tree.ensures) ends,
+      subst (λ (h : Held). Ends n text run.last (searched_of h.kept) (g.D.Disk.reads c.drive.new.disk) (g.D.Disk.may_leave c.drive.new.disk)) (sym c.into_tree-tree.ensures) ends,
     )
 
 pub returns-in_err-ended-clause-any_moment : goal.returns-in_err-ended-clause-any_moment
 returns-in_err-ended-clause-any_moment g c =
     let p = err_from_is_err_and c.from_residual-in_err-ended.result c.from_residual-in_err-ended.ensures.1 in
-    rw (p.1)
+    rw (p.1, p.2)
     (λ file first is own.
     let n = net_of c.args.net.now in
     let text = c.args.text.now in
@@ -87,48 +88,60 @@ returns-in_err-ended-clause-any_moment g c =
     let made = ap (λ (h : Held). searched_of h.kept) c.in_ok-search.ensures.tree ∙ c.in_ok-tree.ensures.made in
     let held = opened-recorded n text first list c.in_ok-opened.opened.journal.gate (searched c.in_ok-search.search) left.0 (g.D.Disk.reads c.open.new.disk) (g.D.Disk.may_leave c.open.new.disk)
     same own.in_order made left.1 left.2 in
-    let run = c.drive_named.ensures.recorded text first held in (
+    let run = c.in_err-ended.ensures.recorded text first held in (
       run.last,
       run.begins,
-      run-moments n g.D.Disk.moment g.D.Disk.left_since g.D.Disk.may_leave text first run.last c.args.disk.now c.open.new.disk c.drive_named.new.disk
+      run-moments n g.D.Disk.moment g.D.Disk.left_since g.D.Disk.may_leave text first run.last c.args.disk.now c.open.new.disk c.drive.new.disk
           own.in_order run.begins (c.open.ensures.any_moment file first is own.own own.stands) run.any_moment,
-      tt,
+      run.held,
     ))
 
 pub returns-in_err-opened-clause-any_moment : goal.returns-in_err-opened-clause-any_moment
 returns-in_err-opened-clause-any_moment g c =
     let p = err_from_is_err_and c.from_residual.result c.from_residual.ensures.1 in
-    rw (p.1)
+    rw (p.1, p.2)
     (λ file first is own. (
       first,
       begins-same first,
       opening-moments (net_of c.args.net.now) g.D.Disk.moment g.D.Disk.left_since g.D.Disk.may_leave c.args.text.now first c.args.disk.now
           c.open.new.disk own.in_order (c.open.ensures.any_moment file first is own.own own.stands),
-      tt,
+      λ memory. record {
+        file = file;
+        read = c.in_err-opened.ensures.kept (ap Err (memory-of c.in_err-opened.field-0.0 memory)) ∙ is;
+        own = own;
+      },
     ))
 
 pub returns-in_err-tree-clause-any_moment : goal.returns-in_err-tree-clause-any_moment
 returns-in_err-tree-clause-any_moment g c =
     let p = err_from_is_err_and c.from_residual-in_err-tree.result c.from_residual-in_err-tree.ensures.1 in
     rw (p.1)
-    (λ file first is own. (
+    (λ file first is own.
+    let list = map shown_entry c.in_ok-opened.opened.entries.items in
+    let same = one_standing file c.args.text.now list first (c.in_ok-opened.ensures.entries file is) own.stands in
+    let left = c.in_ok-opened.ensures.left file is in (
       first,
       begins-same first,
       opening-moments (net_of c.args.net.now) g.D.Disk.moment g.D.Disk.left_since g.D.Disk.may_leave c.args.text.now first c.args.disk.now
           c.open.new.disk own.in_order (c.open.ensures.any_moment file first is own.own own.stands),
-      tt,
+      λ memory. kept-stands (net_of c.args.net.now) c.args.text.now first c.in_ok-opened.opened.journal.gate left.0 (g.D.Disk.reads c.open.new.disk) (g.D.Disk.may_leave c.open.new.disk)
+          own.in_order left.1 (subst (λ (l : List Entry). IsKeptAt c.in_ok-opened.opened.journal.gate c.args.text.now l left.0) same left.2),
     ))
 
 pub returns-in_err-search-clause-any_moment : goal.returns-in_err-search-clause-any_moment
 returns-in_err-search-clause-any_moment g c =
     let p = err_from_is_err_and c.from_residual-in_err-search.result c.from_residual-in_err-search.ensures.1 in
     rw (p.1)
-    (λ file first is own. (
+    (λ file first is own.
+    let list = map shown_entry c.in_ok-opened.opened.entries.items in
+    let same = one_standing file c.args.text.now list first (c.in_ok-opened.ensures.entries file is) own.stands in
+    let left = c.in_ok-opened.ensures.left file is in (
       first,
       begins-same first,
       opening-moments (net_of c.args.net.now) g.D.Disk.moment g.D.Disk.left_since g.D.Disk.may_leave c.args.text.now first c.args.disk.now
           c.open.new.disk own.in_order (c.open.ensures.any_moment file first is own.own own.stands),
-      tt,
+      λ memory. kept-stands (net_of c.args.net.now) c.args.text.now first c.in_ok-opened.opened.journal.gate left.0 (g.D.Disk.reads c.open.new.disk) (g.D.Disk.may_leave c.open.new.disk)
+          own.in_order left.1 (subst (λ (l : List Entry). IsKeptAt c.in_ok-opened.opened.journal.gate c.args.text.now l left.0) same left.2),
     ))
 
 -- ---- causes
@@ -230,8 +243,8 @@ returns-in_err-ended-clause-untouched g c =
 
 pub returns-clause-same_disk : goal.returns-clause-same_disk
 returns-clause-same_disk g c =
-    same_disk-then g.D.Disk.faults g.D.Disk.tells g.D.Disk.admits c.args.disk.now c.open.new.disk c.drive_named.new.disk c.open.ensures.same_disk c.drive_named.ensures.same_disk
+    same_disk-then g.D.Disk.faults g.D.Disk.tells g.D.Disk.admits c.args.disk.now c.open.new.disk c.drive.new.disk c.open.ensures.same_disk c.drive.ensures.same_disk
 
 pub returns-in_err-ended-clause-same_disk : goal.returns-in_err-ended-clause-same_disk
 returns-in_err-ended-clause-same_disk g c =
-    same_disk-then g.D.Disk.faults g.D.Disk.tells g.D.Disk.admits c.args.disk.now c.open.new.disk c.drive_named.new.disk c.open.ensures.same_disk c.drive_named.ensures.same_disk
+    same_disk-then g.D.Disk.faults g.D.Disk.tells g.D.Disk.admits c.args.disk.now c.open.new.disk c.drive.new.disk c.open.ensures.same_disk c.drive.ensures.same_disk

@@ -1,15 +1,14 @@
 -- Step after step: what the tree is, what the disk holds, and what a crash leaves.
-use Rattle.std.proofs.Common.{◌≡◌, ℕ, List, [], ◌∷◌, ◌++◌, subst, sym, ◌∙◌}
+use Rattle.std.proofs.Common.{[], ◌∷◌, ◌++◌, Err, ap, subst, sym, ◌∙◌}
 use Rattle.std.specs.Prelude.{IsTrue}
 use Rattle.std.proofs.lemmas.Result.{err_from_is_err_and}
-use Rattle.edge_io.proofs.Counting.{rose-behind}
 use Rattle.pool_model.specs.Network.{net_of}
 use Rattle.row_model.specs.Entries.{Searched, start, IsEntryInOrder}
 use Rattle.box_tree.specs.Views.{shown_entry}
 use Rattle.search_core.specs.Searches.{searched}
 use Rattle.search_run.proofs.Stepping.{way-start, way-more, next-step, next-closed, next-stopped, next-stuck, next-infeasible, next-undecided}
 use Rattle.search_run.proofs.Nearer.{nearer}
-use Rattle.recorded_run.proofs.Recording.{so_far-start, so_far-moments, in_order-more, begins-more, recorded-more, same_disk-same, same_disk-then}
+use Rattle.recorded_run.proofs.Recording.{so_far-start, so_far-moments, in_order-more, begins-more, recorded-more, kept-stands, recorded-stands, same_disk-same, same_disk-then}
 use Rattle.recorded_run.proofs.session.Session.drive.Goals as goal
 
 pub steps-init : goal.steps-init
@@ -35,7 +34,7 @@ steps-preserved g c =
     record {
       session = done.session;
       way = way-more n c.args.orders (searched c.args.self.now.search) (searched s) (searched then.search) c.steps.invariant.way
-          (next-step n c.args.orders (searched s) s.options c.steps.invariant.session.options s.repaired _ c.requires.rule (searched then.search) c.in-Do.entry due in_order done.taken);
+          (next-step n c.args.orders (searched s) s.options c.steps.invariant.session.options s.repaired s.tree.kept.cuts c.steps.invariant.session.search.tree.kept.counted (searched then.search) c.in-Do.entry due in_order done.taken);
       left = λ tells.
           let was = c.steps.invariant.left (subst IsTrue c.record.ensures.same_disk.same_telling tells) in
           let put = done.recorded was.0 was.2 was.1 was.3 was.4 in
@@ -65,7 +64,7 @@ steps-smaller g c =
     let due = rw c.in-Do.is at c.in_ok-entry.ensures.next in
     let done = c.in_ok-record-in-Do.ensures in
     let then = c.record.new.self.search in
-    nearer n s then c.steps.invariant.session.search done.session.search (done.session.options ∙ sym c.steps.invariant.session.options) c.args.orders.rule _ c.requires.rule c.in-Do.entry
+    nearer n s then c.steps.invariant.session.search done.session.search (done.session.options ∙ sym c.steps.invariant.session.options) _ c.in-Do.entry
     done.taken done.repaired in_order due
 
 -- ---- ends
@@ -76,7 +75,12 @@ returns-in_err-entry-clause-recorded g c =
     rw (p.1)
     (λ text first is.
     let so = c.steps.invariant.so_far text first is in
-    record { last = so.last; begins = so.begins; any_moment = so.any_moment; held = tt })
+    record {
+      last = so.last;
+      begins = so.begins;
+      any_moment = so.any_moment;
+      held = λ memory. recorded-stands (net_of c.args.net.now) text so.last c.steps.self.journal.gate (searched c.steps.self.search) (g.D.Disk.reads c.steps.disk) (g.D.Disk.may_leave c.steps.disk) so.held;
+    })
 
 pub returns-in_err-record-in-Do-clause-recorded : goal.returns-in_err-record-in-Do-clause-recorded
 returns-in_err-record-in-Do-clause-recorded g c =
@@ -85,7 +89,7 @@ returns-in_err-record-in-Do-clause-recorded g c =
     let e = shown_entry c.in-Do.entry in
     let in_order = rw c.in-Do.is at c.in_ok-entry.ensures.in_order in
     let p = err_from_is_err_and c.from_residual-in_err-record-in-Do.result c.from_residual-in_err-record-in-Do.ensures.1 in
-    rw (p.1)
+    rw (p.1, p.2)
     (λ text first is.
     let so = c.steps.invariant.so_far text first is in
     let order = subst (λ (x : Searched). IsEntryInOrder n x e) so.held.made in_order in
@@ -95,7 +99,10 @@ returns-in_err-record-in-Do-clause-recorded g c =
       any_moment = so_far-moments n g.D.Disk.moment g.D.Disk.left_since g.D.Disk.reads g.D.Disk.may_leave g.met.D.Disk.counts_now g.met.D.Disk.only_now
           text first so.last e c.args.disk.now c.steps.disk c.record.new.disk so.begins so.held.in_order (in_order-more n start so.last e so.held.in_order order) so.any_moment
           (c.record.ensures.any_moment text so.held.file so.last so.held.on_disk so.held.kept);
-      held = tt;
+      held = λ memory.
+          let put = c.in_err-record-in-Do.ensures.kept (ap Err memory) text so.held.file so.last so.held.on_disk so.held.kept in
+          kept-stands n text (so.last ++ e ∷ []) c.record.new.self.journal.gate put.0 (g.D.Disk.reads c.record.new.disk) (g.D.Disk.may_leave c.record.new.disk)
+          (in_order-more n start so.last e so.held.in_order order) put.1 put.2;
     })
 
 pub returns-in_err-record-in-Do-clause-same_disk : goal.returns-in_err-record-in-Do-clause-same_disk
@@ -109,7 +116,7 @@ returns-in-Closed-clause-run g c =
       entries = c.steps.invariant.way.entries;
       steps = c.steps.invariant.way.steps;
       made = c.steps.invariant.way.made;
-      end = next-closed (net_of c.args.net.now) c.args.orders (searched s) s.options c.steps.invariant.session.options s.repaired _ c.requires.rule (rw c.in-Closed.is at c.in_ok-entry.ensures.next);
+      end = next-closed (net_of c.args.net.now) c.args.orders (searched s) s.options c.steps.invariant.session.options s.repaired s.tree.kept.cuts c.steps.invariant.session.search.tree.kept.counted (rw c.in-Closed.is at c.in_ok-entry.ensures.next);
     }
 
 pub returns-in-Closed-clause-recorded : goal.returns-in-Closed-clause-recorded
@@ -124,7 +131,7 @@ returns-in-Stopped-clause-run g c =
       entries = c.steps.invariant.way.entries;
       steps = c.steps.invariant.way.steps;
       made = c.steps.invariant.way.made;
-      end = next-stopped (net_of c.args.net.now) c.args.orders (searched s) s.options c.steps.invariant.session.options s.repaired _ c.requires.rule (rw c.in-Stopped.is at c.in_ok-entry.ensures.next);
+      end = next-stopped (net_of c.args.net.now) c.args.orders (searched s) s.options c.steps.invariant.session.options s.repaired s.tree.kept.cuts c.steps.invariant.session.search.tree.kept.counted (rw c.in-Stopped.is at c.in_ok-entry.ensures.next);
     }
 
 pub returns-in-Stopped-clause-recorded : goal.returns-in-Stopped-clause-recorded
@@ -139,7 +146,7 @@ returns-in-Stuck-clause-run g c =
       entries = c.steps.invariant.way.entries;
       steps = c.steps.invariant.way.steps;
       made = c.steps.invariant.way.made;
-      end = next-stuck (net_of c.args.net.now) c.args.orders (searched s) s.options c.steps.invariant.session.options s.repaired _ c.requires.rule (rw c.in-Stuck.is at c.in_ok-entry.ensures.next);
+      end = next-stuck (net_of c.args.net.now) c.args.orders (searched s) s.options c.steps.invariant.session.options s.repaired s.tree.kept.cuts c.steps.invariant.session.search.tree.kept.counted (rw c.in-Stuck.is at c.in_ok-entry.ensures.next);
     }
 
 pub returns-in-Stuck-clause-recorded : goal.returns-in-Stuck-clause-recorded
@@ -154,8 +161,8 @@ returns-in-Infeasible-clause-run g c =
       entries = c.steps.invariant.way.entries;
       steps = c.steps.invariant.way.steps;
       made = c.steps.invariant.way.made;
-      end = next-infeasible (net_of c.args.net.now) c.args.orders (searched s) s.options c.steps.invariant.session.options s.repaired _
-          c.requires.rule (rw c.in-Infeasible.is at c.in_ok-entry.ensures.next);
+      end = next-infeasible (net_of c.args.net.now) c.args.orders (searched s) s.options c.steps.invariant.session.options s.repaired s.tree.kept.cuts
+          c.steps.invariant.session.search.tree.kept.counted (rw c.in-Infeasible.is at c.in_ok-entry.ensures.next);
     }
 
 pub returns-in-Infeasible-clause-recorded : goal.returns-in-Infeasible-clause-recorded
@@ -170,7 +177,7 @@ returns-in-Undecided-clause-run g c =
       entries = c.steps.invariant.way.entries;
       steps = c.steps.invariant.way.steps;
       made = c.steps.invariant.way.made;
-      end = next-undecided (net_of c.args.net.now) c.args.orders (searched s) s.options c.steps.invariant.session.options s.repaired _ c.requires.rule
+      end = next-undecided (net_of c.args.net.now) c.args.orders (searched s) s.options c.steps.invariant.session.options s.repaired s.tree.kept.cuts c.steps.invariant.session.search.tree.kept.counted
           (rw c.in-Undecided.is at c.in_ok-entry.ensures.next);
     }
 

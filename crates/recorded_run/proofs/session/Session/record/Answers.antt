@@ -1,4 +1,4 @@
-use Rattle.std.proofs.Common.{◌≡◌, ℕ, sym, ◌∙◌, arith}
+use Rattle.std.proofs.Common.{sym, ◌∙◌, arith}
 use Rattle.box_tree.specs.Views.{shown_entry}
 use Rattle.search_core.specs.Searches.{searched}
 use Rattle.recorded_run.proofs.session.Session.record.Goals as goal
