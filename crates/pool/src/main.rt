@@ -4,12 +4,15 @@
 use disk_model::FileDisk;
 use edge_io::{FileShelf, StdSink};
 use pool_cli::{Status, run, write_message};
-use std::env;
 use std::io::ErrorKind;
 use std::process::ExitCode;
-use std::rt::Env;
+use std::rt::{Env, Files};
+use std::{env, fs};
 
 fn main(rt: HostRuntime) -> ExitCode {
+    // Where a standard stream is closed, the system gives its number to the next file that is opened. These take it, so that nothing
+    // that is printed goes into the journal. They can't be written to.
+    let _held = [hold(&rt), hold(&rt), hold(&rt)];
     let status = match words(&rt) {
         Ok(words) => {
             let mut shelf = FileShelf::new(&rt);
@@ -19,10 +22,20 @@ fn main(rt: HostRuntime) -> ExitCode {
         }
         Err(status) => status,
     };
-    let mut err = StdSink::new(rt.stderr());
-    // Whatever standard error takes, the status stands.
-    let _ = write_message(&status, &mut err);
+    tell(rt.stderr(), &status);
     ExitCode::from(status.code())
+}
+
+/// Writes the message of a status; whatever standard error takes, the status stands. Its buffer would else lie on the stack throughout.
+#[inline(never)]
+fn tell<P: Print + Drop>(stream: P, status: &Status) {
+    let mut err = StdSink::new(stream);
+    let _ = write_message(status, &mut err);
+}
+
+/// A file that is open and of no use, or nothing where none can be opened.
+fn hold<R: Files>(files: &R) -> Option<R::File> {
+    fs::open(files, "/dev/null").ok()
 }
 
 /// The words behind the program's name. Words that are no text ask nothing.
