@@ -1,7 +1,7 @@
 //! What small runs answer: which words are served, what `solve` prints where no search is needed, what `check` says of certificates
 //! and of each with a line changed, and which side failed. The cases are tables of text, a case a line.
 
-use super::tests::{shelf_failing, words_of};
+use super::{FULL, TREE, shelf_failing, words_of};
 use disk_model::MemDisk;
 use edge_io::MemSink;
 use pool_cli::{Status, run, write_message};
@@ -23,11 +23,7 @@ const TOO_SOUR: &str =
 const TWO_PRODUCTS: &str =
     r#"{"version":1,"sources":[{"name":"A","cost":1,"quality":{}}],"products":[{"name":"X","price":2,"max":30},{"name":"Y","price":2,"max":20}],"arcs":[["A","X"],["A","Y"]]}"#;
 
-/// The product takes 100, as much as the source has.
-const FULL: &str =
-    "poolcert 1\nkind gap\nshape 1 0 1 1 0 0 1\nplan 1 1\nweights\noutflows\ndirect 100000000\nsplits 0\nproofs 0\ncost -300000000000000 1\nbound -300000000000000\ngap 0 1\nend\n";
-
-/// The same over a base that is not the plan's.
+/// `FULL` over a base that is not the plan's.
 const OVER_TWO: &str =
     "poolcert 1\nkind gap\nshape 1 0 1 1 0 0 1\nplan 1 1\nweights\noutflows\ndirect 100000000\nsplits 0\nproofs 0\ncost -300000000000000 2\nbound -300000000000000\ngap 0 2\nend\n";
 
@@ -57,10 +53,6 @@ const BEST_OF_HAVERLY: &str =
 /// That no plan obeys, by the demand and the quality limit together.
 const NO_PLAN: &str =
     "poolcert 1\nkind none\nshape 1 0 1 1 0 0 1\nsplits 0\nproofs 1\nproof 0 0 2 2 1000000 3 1\nend\n";
-
-/// The zero plan of two sources that feed a pool, and a tree of two splits, of which one leaf holds no plan.
-const TREE: &str =
-    "poolcert 1\nkind gap\nshape 2 1 1 1 2 1 0\nplan 1 1\nweights 1 0\noutflows 0\ndirect\nsplits 2\nsplit 0 0 524288\nsplit 1 1 262144\nproofs 1\nproof 3 0 1 11 1\ncost 0 1\nbound -300000000000000\ngap 300000000000000 1\nend\n";
 
 /// Both products take what they can.
 const BOTH_FULL: &str =

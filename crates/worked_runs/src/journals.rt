@@ -1,37 +1,20 @@
-//! `solve` with a journal: the bytes of a finished one, a stop in each call of the disk, and files that are refused.
+//! `solve` with a journal: the bytes of a finished one, and files that are refused.
 
-use super::tests::{shelf_of, words_of};
+use super::{FULL, disk_of, shelf_of, words_of};
 use disk_model::FailDisk;
 use edge_io::MemSink;
 use pool_cli::run;
 use std::alloc::{AllocError, Global};
 use std::test::Fail;
-use worked_networks::{HAVERLY_1, HAVERLY_2};
+use worked_networks::{HAVERLY_1, HAVERLY_2, ONE_DIRECT};
 
-/// A source that sells up to 100 at 6, and a product that pays 9 and takes 100.
-const ONE_PRODUCT: &str =
-    r#"{"version":1,"qualities":["sulfur"],"sources":[{"name":"A","cost":6,"max":100,"quality":{"sulfur":3}}],"products":[{"name":"X","price":9,"max":100,"most":{"sulfur":3}}],"arcs":[["A","X"]]}"#;
-
-/// Its certificate.
-const FULL: &[u8] =
-    b"poolcert 1\nkind gap\nshape 1 0 1 1 0 0 1\nplan 1 1\nweights\noutflows\ndirect 100000000\nsplits 0\nproofs 0\ncost -300000000000000 1\nbound -300000000000000\ngap 0 1\nend\n";
-
-/// What stands before the records of its journal: birth byte, magic, version, and the canonical text behind its length.
+/// What stands before the records of the journal of `ONE_DIRECT`: birth byte, magic, version, and the canonical text behind its length.
 const HEAD: &[u8] =
     b"\x01POOLJNL\x01\x00\x00\x00\xda{\"arcs\":[[\"A\",\"X\"]],\"pools\":[],\"products\":[{\"least\":{},\"max\":100,\"min\":0,\"most\":{\"sulfur\":3},\"name\":\"X\",\"price\":9}],\"qualities\":[\"sulfur\"],\"sources\":[{\"cost\":6,\"max\":100,\"name\":\"A\",\"quality\":{\"sulfur\":3}}],\"version\":1}";
 
 /// The record of the plan that ships 100: an open gate, the length, kind, two bases, no weight, no outflow, and one flow.
 const RECORD: &[u8] =
     b"\x01\x00\x00\x00\x17\x02\x00\x00\x00\x01\x00\x00\x00\x01\x00\x00\x00\x00\x00\x01\x00\x00\x00\x00\x05\xf5\xe1\x00";
-
-/// A disk whose file is these parts, one behind another, and of which one call fails.
-fn disk_of(alloc: Global, parts: &[&[u8]], failing: u64) -> Result<FailDisk, AllocError> {
-    let mut bytes = Vec::new(alloc);
-    for part in parts {
-        bytes.extend_from_slice(part)?;
-    }
-    Ok(FailDisk::new(alloc, bytes, vec![in alloc; failing]?))
-}
 
 /// The code of `solve net --nodes 4 --journal j`, and what it printed.
 fn journaled(
@@ -52,47 +35,19 @@ fn code_over(alloc: Global, network: &str, parts: &[&[u8]]) -> Result<u8, AllocE
     journaled(alloc, network, &mut disk, &mut sink)
 }
 
-/// Whether a run over an image of each of these choices prints the certificate.
-fn goes_on(alloc: Global, disk: &FailDisk) -> Result<bool, Fail> {
-    for choice in 0..8 {
-        let image = disk.image(disk.moment(), choice)?;
-        let mut again = disk_of(alloc, &[image.as_slice()], 1000)?;
-        let mut sink = MemSink::new(alloc, Vec::new(alloc));
-        if journaled(alloc, ONE_PRODUCT, &mut again, &mut sink)? != 0 || sink.taken() != FULL {
-            return Ok(false);
-        }
-    }
-    Ok(true)
-}
-
-#[test]
-fn a_stop_in_any_call_is_told_and_the_next_run_goes_on(rt: HostRuntime) -> Result<(), Fail> {
-    let alloc = rt.alloc();
-    // The run makes 15 calls.
-    for call in 0..15 {
-        let mut disk = disk_of(alloc, &[], call)?;
-        let mut sink = MemSink::new(alloc, Vec::new(alloc));
-        assert_eq!(rt; journaled(alloc, ONE_PRODUCT, &mut disk, &mut sink)?, 22);
-        assert_eq!(rt; sink.taken(), b"".as_slice());
-        assert!(rt; goes_on(alloc, &disk)?);
-    }
-    Ok(())
-}
-
 #[test]
 fn the_finished_journal_has_these_bytes(rt: HostRuntime) -> Result<(), Fail> {
     let alloc = rt.alloc();
     let mut disk = disk_of(alloc, &[], 15)?;
     let mut sink = MemSink::new(alloc, Vec::new(alloc));
-    assert_eq!(rt; journaled(alloc, ONE_PRODUCT, &mut disk, &mut sink)?, 0);
-    assert_eq!(rt; sink.taken(), FULL);
+    assert_eq!(rt; journaled(alloc, ONE_DIRECT, &mut disk, &mut sink)?, 0);
+    assert_eq!(rt; sink.taken(), FULL.as_bytes());
     let image = disk.image(disk.moment(), 0)?;
     let mut whole = Vec::from_slice(alloc, HEAD)?;
     whole.extend_from_slice(RECORD)?;
     whole.push(0)?;
     assert_eq!(rt; image.as_slice(), whole.as_slice());
     assert_eq!(rt; image.len(), 260);
-    assert!(rt; goes_on(alloc, &disk)?);
     Ok(())
 }
 
@@ -100,16 +55,16 @@ fn the_finished_journal_has_these_bytes(rt: HostRuntime) -> Result<(), Fail> {
 fn a_file_is_refused_by_what_it_is(rt: HostRuntime) -> Result<(), Fail> {
     let alloc = rt.alloc();
     // A file of one byte is no journal yet.
-    assert_eq!(rt; code_over(alloc, ONE_PRODUCT, &[b"\x01"])?, 0);
+    assert_eq!(rt; code_over(alloc, ONE_DIRECT, &[b"\x01"])?, 0);
     // Record 2 is of no known kind, and record 1 is a plan that is no cheaper than that of record 0.
     let bad = code_over(
         alloc,
-        ONE_PRODUCT,
+        ONE_DIRECT,
         &[HEAD, RECORD, RECORD, b"\x01\x00\x00\x00\x01\x09\x00"],
     )?;
     assert_eq!(rt; bad, 31);
     assert_eq!(rt;
-        code_over(alloc, ONE_PRODUCT, &[HEAD, RECORD, RECORD, b"\x00"])?,
+        code_over(alloc, ONE_DIRECT, &[HEAD, RECORD, RECORD, b"\x00"])?,
         31
     );
     // The journal of the first network of Haverly, under the second and as one of version 7; and a network as the journal.

@@ -1,6 +1,7 @@
 //! `report` of a small certificate, of one that is refused, and of what `solve` prints; and `trial`.
 
-use super::tests::{shelf_of, solved, words_of};
+use super::tests::solved;
+use super::{FULL, shelf_of, words_of};
 use disk_model::MemDisk;
 use edge_io::{MemShelf, MemSink};
 use pool_cli::run;
@@ -12,15 +13,11 @@ use worked_networks::ONE_DIRECT;
 const OUTLETS: &str =
     r#"{"version":1,"title":"Outlets of site 4, loads in mg/l, flows in m3/h","qualities":["load"],"sources":[{"name":"W1","cost":1,"max":40,"quality":{"load":120}},{"name":"W2","cost":0,"max":60,"quality":{"load":30}},{"name":"fresh","cost":"0.35","quality":{"load":0}}],"pools":[{"name":"basin 1"},{"name":"basin 2"}],"products":[{"name":"river","price":3,"max":80,"most":{"load":50}},{"name":"sewer","price":1,"max":100,"most":{"load":90}}],"arcs":[["W1","basin 1"],["W2","basin 1"],["W2","basin 2"],["fresh","basin 2"],["basin 1","river"],["basin 1","sewer"],["basin 2","river"],["basin 2","sewer"],["fresh","river"]]}"#;
 
-/// All of the source's 100 go to the product.
-const FULL: &[u8] =
-    b"poolcert 1\nkind gap\nshape 1 0 1 1 0 0 1\nplan 1 1\nweights\noutflows\ndirect 100000000\nsplits 0\nproofs 0\ncost -300000000000000 1\nbound -300000000000000\ngap 0 1\nend\n";
-
-/// The same with a bound that is no money above.
+/// `FULL` with a bound that is one pico too high.
 const WRONG_BOUND: &[u8] =
     b"poolcert 1\nkind gap\nshape 1 0 1 1 0 0 1\nplan 1 1\nweights\noutflows\ndirect 100000000\nsplits 0\nproofs 0\ncost -300000000000000 1\nbound -299999999999999\ngap -1 1\nend\n";
 
-/// What a person reads of it.
+/// What a person reads of `FULL`.
 const FULL_REPORT: &[u8] =
     b"kind gap\ncost -300.000000\nbound -300.000000\ngap 0.000000\nflow           100.000000 A -> X\nquality             3.000000 X: sulfur\nslack             0.000000 A\nslack             0.000000 X\n";
 
@@ -41,7 +38,7 @@ fn reported(
 fn a_certificate_is_told_or_refused(rt: HostRuntime) -> Result<(), Fail> {
     let alloc = rt.alloc();
     let mut text = MemSink::new(alloc, Vec::new(alloc));
-    assert_eq!(rt; reported(alloc, ONE_DIRECT, FULL, &mut text)?, 0);
+    assert_eq!(rt; reported(alloc, ONE_DIRECT, FULL.as_bytes(), &mut text)?, 0);
     assert_eq!(rt; text.taken(), FULL_REPORT);
     let mut line = MemSink::new(alloc, Vec::new(alloc));
     assert_eq!(rt; reported(alloc, ONE_DIRECT, WRONG_BOUND, &mut line)?, 1);

@@ -1,56 +1,12 @@
 //! `solve`, with its options, and `check` of what it prints.
 
+use super::{shelf_of, words_of};
 use disk_model::MemDisk;
-use edge_io::{MemShelf, MemSink};
+use edge_io::MemSink;
 use pool_cli::run;
 use std::alloc::{AllocError, Global};
 use std::test::Fail;
 use worked_networks::{HAVERLY_1, HAVERLY_2, HAVERLY_3, SOUR_DIRECT};
-
-/// Words, parted at each space.
-pub(crate) fn words_of(alloc: Global, line: &str) -> Result<Vec<String>, AllocError> {
-    let mut words = Vec::new(alloc);
-    for word in line.split(' ') {
-        words.push(String::from_str(alloc, word)?)?;
-    }
-    Ok(words)
-}
-
-/// A shelf with these files, whose call of the number `failing` fails.
-pub(crate) fn shelf_failing(
-    alloc: Global,
-    files: &[(&str, &str)],
-    failing: u64,
-) -> Result<MemShelf, AllocError> {
-    let mut held = Vec::new(alloc);
-    for (name, text) in files {
-        held.push((
-            String::from_str(alloc, name)?,
-            Vec::from_slice(alloc, text.as_bytes())?,
-        ))?;
-    }
-    let mut calls = Vec::new(alloc);
-    calls.push(failing)?;
-    Ok(MemShelf::new(held, calls))
-}
-
-/// A shelf with a network, and a certificate where there is one.
-pub(crate) fn shelf_of(
-    alloc: Global,
-    network: &str,
-    certificate: &[u8],
-) -> Result<MemShelf, AllocError> {
-    let mut files = Vec::new(alloc);
-    files.push((
-        String::from_str(alloc, "net")?,
-        Vec::from_slice(alloc, network.as_bytes())?,
-    ))?;
-    files.push((
-        String::from_str(alloc, "cert")?,
-        Vec::from_slice(alloc, certificate)?,
-    ))?;
-    Ok(MemShelf::new(files, Vec::new(alloc)))
-}
 
 /// The code of `solve net` with these options, and what it printed.
 pub(crate) fn solved(

@@ -1,0 +1,54 @@
+//! Runs over a sink that takes so many bytes and no more, for every number of bytes below the text's length.
+
+use disk_model::MemDisk;
+use edge_io::MemSink;
+use pool_cli::run;
+use std::alloc::{AllocError, Global};
+use std::test::Fail;
+use worked_networks::ONE_DIRECT;
+use worked_runs::{FULL, shelf_of, words_of};
+
+/// The line on the certificate, and what a person reads of it.
+pub(crate) const LINE: &str =
+    "accepted gap cost -300000000000000 base 1 bound -300000000000000 gap 0\n";
+
+const REPORT: &str =
+    "kind gap\ncost -300.000000\nbound -300.000000\ngap 0.000000\nflow           100.000000 A -> X\nquality             3.000000 X: sulfur\nslack             0.000000 A\nslack             0.000000 X\n";
+
+/// The exact program of the network.
+const PROGRAM: &str =
+    "program pq\nmin z0 -3000000\nends z0 0 100000000\nrow 0 ge 100000000 z0 -1\nrow 1 ge 100000000 z0 -1\nrow 2 ge 0 z0 1\nrow 4 ge 0\nend\n";
+
+/// The code of these words over a sink.
+fn code_over(alloc: Global, asked: &str, sink: &mut MemSink) -> Result<u8, AllocError> {
+    let words = words_of(alloc, asked)?;
+    let mut shelf = shelf_of(alloc, ONE_DIRECT, FULL.as_bytes())?;
+    let mut disk = MemDisk::new(alloc, Vec::new(alloc));
+    Ok(run(alloc, &words, &mut shelf, sink, &mut disk).code())
+}
+
+/// Whether a sink that is full before the text's end has exactly the front that it has room for, and one that is full at the end all
+/// of it.
+fn is_cut_at_each_byte(alloc: Global, asked: &str, text: &str) -> Result<bool, Fail> {
+    for room in 0..text.len() {
+        let mut sink = MemSink::limit(alloc, room as u64)?;
+        let code = code_over(alloc, asked, &mut sink)?;
+        if code != 21 || Some(sink.taken()) != text.as_bytes().get(..room) {
+            return Ok(false);
+        }
+    }
+    let mut sink = MemSink::limit(alloc, text.len() as u64)?;
+    let code = code_over(alloc, asked, &mut sink)?;
+    Ok(code == 0 && sink.taken() == text.as_bytes())
+}
+
+#[test]
+fn a_sink_that_is_full_has_a_front_of_the_text(rt: HostRuntime) -> Result<(), Fail> {
+    let alloc = rt.alloc();
+    assert!(rt; is_cut_at_each_byte(alloc, "solve net", FULL)?);
+    assert!(rt; is_cut_at_each_byte(alloc, "solve net --journal j", FULL)?);
+    assert!(rt; is_cut_at_each_byte(alloc, "check net cert", LINE)?);
+    assert!(rt; is_cut_at_each_byte(alloc, "report net cert", REPORT)?);
+    assert!(rt; is_cut_at_each_byte(alloc, "formulate net", PROGRAM)?);
+    Ok(())
+}
