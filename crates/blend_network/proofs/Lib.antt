@@ -1,6 +1,7 @@
 pub mod Margins
 pub mod Built
 pub mod Indexed
+pub mod Within
 pub mod LimitLists
 pub mod CanonicalNames
 pub mod CanonicalArcs

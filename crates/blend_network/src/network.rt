@@ -1,7 +1,7 @@
 //! The network: the rows of a file with names looked up, numbers narrowed and absent maxima filled in.
 
-ghost use Rattle.std.specs.Prelude.{◌≡◌, ◌<◌, ◌≤◌, ◌^◌, [], length, get_or, pos, unsigned_abs};
-ghost use Rattle.pool_model.specs.Network.{net_of, counts_of, IsLimited};
+ghost use Rattle.std.specs.Prelude.{◌≡◌, ◌<◌, ◌≤◌, ◌^◌, [], length, get_or, pos, unsigned_abs, IfSome};
+ghost use Rattle.pool_model.specs.Network.{net_of, counts_of, IsLimited, IsWithin};
 ghost use Rattle.pool_model.specs.Paths.{paths_of, path_at};
 ghost use Rattle.pool_model.specs.Starting.{IsWay, through};
 ghost use Rattle.blend_network.specs.Made.{IsMade};
@@ -153,7 +153,8 @@ impl Network {
     pub fn source_quality(&self, i: u32, k: u32) -> i64
         requires source { i < (net_of self.now).sources }
         requires quality { k < (net_of self.now).qualities }
-        ensures { result ≡ (net_of self.now).source_quality i k }
+        ensures value { result ≡ (net_of self.now).source_quality i k }
+        ensures size { unsigned_abs result ≤ 10 ^ 11 }
     {
         self.sources[i as usize].quality.as_slice()[k as usize]
     }
@@ -196,7 +197,8 @@ impl Network {
     pub fn product_least(&self, j: u32, k: u32) -> Option<i64>
         requires product { j < (net_of self.now).products }
         requires quality { k < (net_of self.now).qualities }
-        ensures { result ≡ (net_of self.now).least j k }
+        ensures value { result ≡ (net_of self.now).least j k }
+        ensures size { IfSome result (IsWithin (10 ^ 11)) }
     {
         self.products[j as usize].least.as_slice()[k as usize]
     }
@@ -205,7 +207,8 @@ impl Network {
     pub fn product_most(&self, j: u32, k: u32) -> Option<i64>
         requires product { j < (net_of self.now).products }
         requires quality { k < (net_of self.now).qualities }
-        ensures { result ≡ (net_of self.now).most j k }
+        ensures value { result ≡ (net_of self.now).most j k }
+        ensures size { IfSome result (IsWithin (10 ^ 11)) }
     {
         self.products[j as usize].most.as_slice()[k as usize]
     }

@@ -27,6 +27,5 @@ pub fn value_in(
     ensures fault { (b : Box) → AreEndsOf (net_of net.now) b ends.now → IfErr result (IsFirstFault (net_of net.now) b (shown_proof proof.now)) }
     ensures fits { Fits (net_of net.now) scratch.new }
 {
-    let _counts = net.counts();
     value(net, &ends.view(), proof, scratch)
 }

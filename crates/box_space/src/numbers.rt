@@ -1,12 +1,14 @@
 //! The numbers of coordinates and variables.
 
-ghost use Rattle.std.specs.Prelude.{◌≡◌, ◌+◌, ◌*◌, ◌<◌, ◌≤◌, ◌^◌};
-ghost use Rattle.pool_model.specs.Network.{net_of};
+ghost use Rattle.std.specs.Prelude.{◌≡◌, ◌+◌, ◌*◌, ◌<◌, ◌≤◌, ◌^◌, length};
+ghost use Rattle.pool_model.specs.Network.{IsLimited, net_of};
+ghost use Rattle.pool_model.specs.Paths.{paths_of};
+ghost use Rattle.blend_network.specs.Counts.{AreCounts};
 ghost use Rattle.row_model.specs.Boxes.{qual_number, flow_number};
 ghost use Rattle.box_space.specs.Blocks.{IsBlock, size_of, number_of};
 
 use crate::table::Block;
-use blend_network::Network;
+use blend_network::{Counts, Network};
 
 /// The number of a block's variable among all variables.
 pub fn variable_number(net: &Network, block: Block, number: u32) -> u32
@@ -14,7 +16,18 @@ pub fn variable_number(net: &Network, block: Block, number: u32) -> u32
     requires among { number < size_of (net_of net.now) block }
     ensures { result ≡ number_of (net_of net.now) block number }
 {
-    let counts = net.sizes();
+    number_by(net, &net.sizes(), block, number)
+}
+
+/// The same, by counts that are read already.
+pub(crate) fn number_by(net: &Network, counts: &Counts, block: Block, number: u32) -> u32
+    requires limited { IsLimited (net_of net.now) }
+    requires paths { length (paths_of (net_of net.now)) ≤ 512 }
+    requires counts { AreCounts (net_of net.now) counts.now }
+    requires block { IsBlock (net_of net.now) block }
+    requires among { number < size_of (net_of net.now) block }
+    ensures { result ≡ number_of (net_of net.now) block number }
+{
     let outs = counts.feeds;
     let directs = outs + counts.outs;
     let paths = directs + counts.directs;

@@ -1,16 +1,18 @@
 //! Rows written from their tables.
 
 ghost use Rattle.std.specs.Prelude.{◌≡◌, ◌++◌, ◌+◌, ◌<◌, ◌≤◌, length};
-ghost use Rattle.pool_model.specs.Network.{net_of};
+ghost use Rattle.pool_model.specs.Network.{IsLimited, net_of};
+ghost use Rattle.pool_model.specs.Paths.{paths_of};
+ghost use Rattle.blend_network.specs.Counts.{AreCounts};
 ghost use Rattle.box_space.specs.Blocks.{IsBlock, size_of, source_of as source_in, HasSource};
 ghost use Rattle.blend_network.specs.Keys.{nodes_of, count_of};
 ghost use Rattle.box_space.specs.Tables.{IsTable, row_of, AreTerms, IsFactor, terms_of, most_of, factor_of, rated as made_of};
 ghost use Rattle.box_space.specs.Written.{IsLineOf};
 
-use crate::numbers::variable_number;
+use crate::numbers::number_by;
 use crate::rows::{LinRow, RowKind};
 use crate::table::{Block, Factor, Rate, RowTable, Terms};
-use blend_network::{Key, Network};
+use blend_network::{Counts, Key, Network};
 
 impl LinRow {
     /// Writes the row of a table in place of what stands there: terms by rising variable, each variable once. It costs what
@@ -19,18 +21,20 @@ impl LinRow {
         requires { IsTable (net_of net.now) table.now }
         ensures { IsLineOf (net_of net.now) (row_of (net_of net.now) table.now) self.new result }
     {
-        // Arcs and paths are few enough that there is room.
-        let _sizes = net.sizes();
+        let counts = net.sizes();
         self.clear();
         self.set_constant(table.constant);
         for terms in &table.terms {
-            self.add_terms(net, *terms);
+            self.add_terms(net, &counts, *terms);
         }
         table.kind
     }
 
     /// Adds terms.
-    fn add_terms(&mut self, net: &Network, terms: Terms)
+    fn add_terms(&mut self, net: &Network, counts: &Counts, terms: Terms)
+        requires limited { IsLimited (net_of net.now) }
+        requires paths { length (paths_of (net_of net.now)) ≤ 512 }
+        requires counts { AreCounts (net_of net.now) counts.now }
         requires known { AreTerms (net_of net.now) terms }
         requires room { length self.old.terms + most_of (net_of net.now) terms ≤ 1024 }
         ensures terms { self.new.terms ≡ self.old.terms ++ terms_of (net_of net.now) terms }
@@ -39,14 +43,27 @@ impl LinRow {
         match terms {
             Terms::Nothing => {}
             Terms::One(block, number, coef) => {
-                self.add_term(variable_number(net, block, number), coef);
+                self.add_term(number_by(net, counts, block, number), coef);
             }
-            Terms::All(block, key, node, factor) => self.add_all(net, block, key, node, factor),
+            Terms::All(block, key, node, factor) => {
+                self.add_all(net, counts, block, key, node, factor)
+            }
         }
     }
 
     /// Adds a term for each number that a key has at a node.
-    fn add_all(&mut self, net: &Network, block: Block, key: Key, node: u32, factor: Factor)
+    fn add_all(
+        &mut self,
+        net: &Network,
+        counts: &Counts,
+        block: Block,
+        key: Key,
+        node: u32,
+        factor: Factor,
+    )
+        requires limited { IsLimited (net_of net.now) }
+        requires paths { length (paths_of (net_of net.now)) ≤ 512 }
+        requires counts { AreCounts (net_of net.now) counts.now }
         requires known { AreTerms (net_of net.now) (Terms.All block key node factor) }
         requires room { length self.old.terms + size_of (net_of net.now) block ≤ 1024 }
         ensures terms { self.new.terms ≡ self.old.terms ++ terms_of (net_of net.now) (Terms.All block key node factor) }
@@ -55,7 +72,7 @@ impl LinRow {
         let numbers = net.numbers_at(key, node);
         for number in numbers {
             let coef = coef_at(net, block, factor, *number);
-            self.add_term(variable_number(net, block, *number), coef);
+            self.add_term(number_by(net, counts, block, *number), coef);
         }
     }
 }

@@ -22,10 +22,10 @@ IsNarrower r s = (width_of r *ℤ s.root_width) <ℤ (width_of s *ℤ r.root_wid
 abbrev pub IsLessMissed : CoordRow → CoordRow → Type 0
 IsLessMissed r s = r.miss < s.miss
 
--- how many splits are on a row's coordinate: none where the list is shorter
-abbrev pub cuts_on : List ℕ → CoordRow → ℕ
-cuts_on cuts r = get_or cuts r.coord 0
+-- how many splits a list says are on a row's coordinate: none where it is shorter
+abbrev pub listed_cuts : List ℕ → CoordRow → ℕ
+listed_cuts cuts r = get_or cuts r.coord 0
 
 -- more splits are on a row's coordinate than on another's
 abbrev pub IsMoreCut : List ℕ → CoordRow → CoordRow → Type 0
-IsMoreCut cuts r s = cuts_on cuts s < cuts_on cuts r
+IsMoreCut cuts r s = listed_cuts cuts s < listed_cuts cuts r

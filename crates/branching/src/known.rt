@@ -2,7 +2,7 @@
 
 ghost use Rattle.std.specs.Prelude.{◌≡◌, ◌↔◌, IsTrue, ◌*ℤ◌};
 ghost use Rattle.branching.specs.Rows.{HasOpen, IsOpen, IsRow};
-ghost use Rattle.branching.specs.Known.{IsFirstGreatest, IsFirstOpen, IsLessMissed, IsMoreCut, IsNarrower, cuts_on as count_on};
+ghost use Rattle.branching.specs.Known.{IsFirstGreatest, IsFirstOpen, IsLessMissed, IsMoreCut, IsNarrower, listed_cuts};
 
 use crate::view::{CoordRow, LeafView};
 
@@ -77,7 +77,7 @@ pub fn fewest(view: &LeafView, cuts: &[u32]) -> usize
 
 /// How many splits are on a row's coordinate.
 fn cuts_on(cuts: &[u32], row: &CoordRow) -> u32
-    ensures { result ≡ count_on cuts.now row.now }
+    ensures { result ≡ listed_cuts cuts.now row.now }
 {
     match cuts.get(row.coord as usize) {
         Some(count) => *count,

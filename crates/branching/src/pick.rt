@@ -1,11 +1,11 @@
 //! The split that a rule picks.
 
-ghost use Rattle.std.specs.Prelude.{◌≡◌};
-ghost use Rattle.branching.specs.Rows.{HasOpen, IsOpenAt};
-ghost use Rattle.branching.specs.Rules.{Answers, IsPick, IsSplitAt, PicksOpen};
+ghost use Rattle.std.specs.Prelude.{◌≡◌, ◌<ℤ◌};
+ghost use Rattle.branching.specs.Rows.{HasOpen, IsOpen, IsRow, middle_of};
+ghost use Rattle.branching.specs.Rules.{IsPick, PicksOpen};
 
 use crate::rule::{CutRule, RuleClosure};
-use crate::view::LeafView;
+use crate::view::{CoordRow, LeafView};
 use box_space::Split;
 
 impl CutRule {
@@ -22,29 +22,24 @@ impl CutRule {
         requires { HasOpen view.now.rows }
         ensures { IsPick (RuleClosure.post self.now.closure) view.now result }
     {
-        let place = self.place_of(view);
-        split_at(view, place)
-    }
-
-    /// The place that the closure answers.
-    fn place_of(&self, view: &LeafView) -> usize
-        requires { HasOpen view.now.rows }
-        ensures answered { Answers (RuleClosure.post self.now.closure) view.now result }
-        ensures is_open { IsOpenAt view.now.rows result }
-    {
-        let _proper = view.rows();
-        (self.closure)(view)
+        let rows = view.rows();
+        let place = (self.closure)(view);
+        split_of(view.node(), &rows[place])
     }
 }
 
-/// The split of a view's node in the middle of the row at a place.
-fn split_at(view: &LeafView, place: usize) -> Split
-    requires { IsOpenAt view.now.rows place }
-    ensures { IsSplitAt view.now place result }
+/// The split of a node in the middle of an open row.
+fn split_of(node: u32, row: &CoordRow) -> Split
+    requires row { IsRow row.now }
+    requires is_open { IsOpen row.now }
+    ensures leaf { result.leaf ≡ node }
+    ensures coord { result.coord ≡ row.now.coord }
+    ensures middle { result.cut ≡ middle_of row.now }
+    ensures above { row.now.low <ℤ result.cut }
+    ensures below { result.cut <ℤ row.now.high }
 {
-    let row = &view.rows()[place];
     Split {
-        leaf: view.node(),
+        leaf: node,
         coord: row.coord,
         cut: row.middle(),
     }

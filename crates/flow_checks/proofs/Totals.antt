@@ -41,9 +41,9 @@ abs-within size z h = omega (arith, ints, h.0, h.1)
 pub read_wide : (x : ℤ) (a : ℕ) → unsigned_abs x ≤ a → a ≤ 2 ^ 126 → to_z w128 (of_z w128 x) ≡ x
 read_wide x a h k = omega (arith, ints)
 
-pub part-size : (wide q : ℤ) (flow : ℕ) → wide ≡ q → IsWithin (10 ^ 11) q → flow ≤ 2 ^ 76 → unsigned_abs (to_z w128 (of_z w128 wide)) * flow ≤ 2 ^ 113
+pub part-size : (wide q : ℤ) (flow : ℕ) → wide ≡ q → unsigned_abs q ≤ 10 ^ 11 → flow ≤ 2 ^ 76 → unsigned_abs (to_z w128 (of_z w128 wide)) * flow ≤ 2 ^ 113
 part-size wide q flow e within h =
-    let small : unsigned_abs wide ≤ 10 ^ 11 = omega (arith, ap unsigned_abs e, abs-within (10 ^ 11) q within) in
+    let small : unsigned_abs wide ≤ 10 ^ 11 = omega (arith, ap unsigned_abs e, within) in
     rw (read_wide wide (10 ^ 11) small (omega arith)) (omega (arith, mul-le-mul small h))
 
 pub read-small : (x : ℤ) (a : ℕ) → unsigned_abs x ≤ a → a ≤ 2 ^ 126 → unsigned_abs (to_z w128 (of_z w128 x)) ≤ a

@@ -17,7 +17,6 @@ pub fn flows_fit(net: &Network, base: u64, x: &[u128], y: &[u128], z: &[u128]) -
     requires directs { length z.now ≡ (net_of net.now).directs }
     ensures { IsTrue result ↔ FlowsFit base x.now y.now z.now }
 {
-    let _sizes = net.sizes();
     let most = most_flow(base);
     are_at_most(x, most) && are_at_most(y, most) && are_at_most(z, most)
 }

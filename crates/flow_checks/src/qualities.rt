@@ -33,7 +33,6 @@ fn part(net: &Network, by: Carrier, number: u32, quality: u32, flow: u128) -> i1
     ensures value { result ≡ (net_of net.now).source_quality (source_by (net_of net.now) by number) quality *ℤ pos flow }
     ensures small { unsigned_abs result ≤ 2 ^ 113 }
 {
-    let _sizes = net.sizes();
     let source = source_of(net, by, number);
     weighted(i128::from(net.source_quality(source, quality)), flow)
 }
@@ -74,7 +73,6 @@ pub fn is_within_limits(
     requires inflow { inflow ≤ 2 ^ 76 }
     ensures { IsTrue result ↔ MeetsLimits (net_of net.now) product quality inflow brought }
 {
-    let _sizes = net.sizes();
     if is_above(net.product_most(product, quality), inflow, brought) {
         return false;
     }

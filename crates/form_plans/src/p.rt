@@ -32,7 +32,6 @@ pub fn plan_of(alloc: Global, net: &Network, point: &QualPoint) -> Result<Writte
     ensures has_plan { OnOk result (HasPlanOfP (net_of net.now) point.now) }
     ensures fault { IfErr result (IsFaultOfP (net_of net.now) point.now) }
 {
-    let _sizes = net.sizes();
     let lists = qual_slices(point);
     if !is_qual_point(net, &lists) {
         return Err(FormFault::NotAPoint);

@@ -18,6 +18,5 @@ pub fn plan_of(alloc: Global, net: &Network, point: &PropPoint) -> Result<Writte
     ensures has_plan { OnOk result (HasPlanOfPq (net_of net.now) point.now) }
     ensures fault { IfErr result (IsFaultOfPq (net_of net.now) point.now) }
 {
-    let _sizes = net.sizes();
     q::plan_of(alloc, net, point)
 }

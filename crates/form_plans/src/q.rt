@@ -1,7 +1,7 @@
 //! The written plan of a point of form Q.
 
 ghost use Rattle.std.specs.Prelude.{◌≡◌, ◌*◌, ◌/◌, ◌<◌, ◌≤◌, ◌^◌, IfErr, IfOk, OnOk};
-ghost use Rattle.pool_model.specs.Network.{net_of};
+ghost use Rattle.pool_model.specs.Network.{IsLimited, net_of};
 ghost use Rattle.plan_core.specs.Views.{shown_plan};
 ghost use Rattle.form_plans.specs.Taken.{HasPlanOfQ, IsFaultOfQ, IsPropPlan};
 
@@ -22,8 +22,8 @@ pub fn plan_of(alloc: Global, net: &Network, point: &PropPoint) -> Result<Writte
     ensures plan { IfOk result (λ w. IsPropPlan (net_of net.now) point.now (shown_plan w)) }
     ensures has_plan { OnOk result (HasPlanOfQ (net_of net.now) point.now) }
     ensures fault { IfErr result (IsFaultOfQ (net_of net.now) point.now) }
+    ensures limited { IsLimited (net_of net.now) }
 {
-    let _sizes = net.sizes();
     let lists = prop_slices(point);
     if !is_prop_point(net, &lists) {
         return Err(FormFault::NotAPoint);

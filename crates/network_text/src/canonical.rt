@@ -4,8 +4,9 @@
 ghost use Rattle.std.specs.Prelude.{◌≡◌, ◌<◌, ◌≤◌, [], length, map, get_or, Some, IfOk, OnOk};
 ghost use Rattle.serde_json.specs.Data.{object, string};
 ghost use Rattle.serde_json.specs.View.{view, members_view};
-ghost use Rattle.pool_model.specs.Network.{net_of, no_source, no_pool, no_product, no_arc};
+ghost use Rattle.pool_model.specs.Network.{net_of, IsLimited, no_source, no_pool, no_product, no_arc};
 ghost use Rattle.blend_network.specs.Kinds.{names_of};
+ghost use Rattle.blend_network.specs.Made.{IsMade};
 ghost use Rattle.network_parts.specs.declared.fault.Kind.TheVariants as kind;
 ghost use Rattle.blend_network.specs.Canonical.{canonical_arc, canonical_arcs};
 ghost use Rattle.network_text.specs.Canonical.{quantity_data, set_at, set_members, list_data, source_data, pool_data, product_data, arc_data, network_data, canonical_text};
@@ -28,13 +29,14 @@ pub fn write_canonical(alloc: Global, net: &Network) -> Result<Vec<u8>, Memory>
     ensures short { IfOk result (λ text. length text.items ≤ MAX_CANONICAL) }
     ensures read { IfOk result (λ text. ReadAs text.items net.now) }
 {
-    let _counts = net.counts();
     let value = network_value(alloc, net)?;
     Ok(value.to_vec(alloc)?)
 }
 
 fn network_value(alloc: Global, net: &Network) -> Result<Value, AllocError>
-    ensures { IfOk result (λ v. view v ≡ network_data net.now) }
+    ensures data { IfOk result (λ v. view v ≡ network_data net.now) }
+    ensures made { IsMade net.now }
+    ensures limited { IsLimited (net_of net.now) }
 {
     let mut members = Map::new(alloc);
     put(&mut members, alloc, "arcs", arcs_value(alloc, net)?)?;
@@ -48,7 +50,9 @@ fn network_value(alloc: Global, net: &Network) -> Result<Value, AllocError>
 
 /// The arcs by the names of their ends: feeds, then outs, then directs.
 fn arcs_value(alloc: Global, net: &Network) -> Result<Value, AllocError>
-    ensures { IfOk result (λ v. view v ≡ list_data arc_data (canonical_arcs net.now)) }
+    ensures data { IfOk result (λ v. view v ≡ list_data arc_data (canonical_arcs net.now)) }
+    ensures made { IsMade net.now }
+    ensures limited { IsLimited (net_of net.now) }
 {
     let [_, _, _, _, feeds, outs, directs] = net.counts();
     let mut list = Vec::new(alloc);

@@ -29,7 +29,6 @@ pub fn out_flow(net: &Network, plan: &WrittenPlan, out: u32) -> u128
     ensures flow { result ≡ (plan_of (net_of net.now) (shown_plan plan.now)).out out }
     ensures size { result ≤ 2 ^ 96 }
 {
-    let _arc = net.out(out);
     scaled(plan.base, outflow(plan, out))
 }
 
@@ -40,6 +39,5 @@ pub fn direct_flow(net: &Network, plan: &WrittenPlan, arc: u32) -> u128
     ensures flow { result ≡ (plan_of (net_of net.now) (shown_plan plan.now)).direct arc }
     ensures size { result ≤ 2 ^ 96 }
 {
-    let _arc = net.direct(arc);
     scaled(plan.base, direct(plan, arc))
 }

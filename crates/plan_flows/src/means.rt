@@ -22,10 +22,9 @@ pub fn mean(net: &Network, plan: &WrittenPlan, j: u32, k: u32) -> (i128, i128)
     requires inflow { 0 < product_inflow (net_of net.now) (plan_of (net_of net.now) (shown_plan plan.now)) j }
     ensures { IsMean (net_of net.now) (plan_of (net_of net.now) (shown_plan plan.now)) j k result.0 result.1 }
 {
-    // A network is limited, so the numbers of a plan that obeys it have room.
-    let _counts = net.sizes();
+    let inflow = product_flow(net, plan, j);
     let quality = reaching(net, plan, j, k);
-    (quality, product_flow(net, plan, j) as i128)
+    (quality, inflow as i128)
 }
 
 /// How much of a quality reaches a product, from pools and directly.

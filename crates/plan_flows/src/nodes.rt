@@ -2,7 +2,7 @@
 
 ghost use Rattle.std.specs.Prelude.{◌≡◌, ◌<◌, ◌≤◌, ◌^◌, ◌*◌, ◌==◌, if◌then◌else◌};
 ghost use Rattle.integers.specs.Sums.{sum_at};
-ghost use Rattle.pool_model.specs.Network.{net_of};
+ghost use Rattle.pool_model.specs.Network.{IsLimited, net_of};
 ghost use Rattle.pool_model.specs.Plan as model;
 ghost use Rattle.pool_model.specs.Plan.{IsWritten, plan_of, outflow as pool_outflow, product_inflow, source_outflow, written_out};
 ghost use Rattle.plan_core.specs.Views.{shown_plan};
@@ -122,6 +122,7 @@ pub fn product_flow(net: &Network, plan: &WrittenPlan, product: u32) -> u128
     requires { IsWritten (net_of net.now) (shown_plan plan.now) }
     ensures flow { result ≡ product_inflow (net_of net.now) (plan_of (net_of net.now) (shown_plan plan.now)) product }
     ensures size { result ≤ 2 ^ 105 }
+    ensures limited { IsLimited (net_of net.now) }
 {
     pooled_to(net, plan, product) + sent_to(net, plan, product)
 }
@@ -131,6 +132,7 @@ fn pooled_to(net: &Network, plan: &WrittenPlan, product: u32) -> u128
     requires { IsWritten (net_of net.now) (shown_plan plan.now) }
     ensures flow { let n = net_of net.now in result ≡ sum_at n.out_product product (plan_of n (shown_plan plan.now)).out n.outs }
     ensures size { result ≤ 2 ^ 104 }
+    ensures limited { IsLimited (net_of net.now) }
 {
     let counts = net.sizes();
     let mut flow = 0;

@@ -2,7 +2,7 @@
 
 ghost use Rattle.std.specs.Prelude.{◌≡◌, ◌<◌, ◌≤◌, ◌^◌, ◌*◌, ◌==◌, if◌then◌else◌, pos, ◌*ℤ◌, unsigned_abs};
 ghost use Rattle.integers.specs.Sums.{int_sum_at};
-ghost use Rattle.pool_model.specs.Network.{net_of};
+ghost use Rattle.pool_model.specs.Network.{IsLimited, net_of};
 ghost use Rattle.pool_model.specs.Plan.{IsWritten, plan_of, weight as weight_of, written_out};
 ghost use Rattle.plan_core.specs.Views.{shown_plan};
 ghost use Rattle.plan_core.specs.Weighed.{HasRoom, weighed};
@@ -66,6 +66,7 @@ fn pool_quality(net: &Network, plan: &WrittenPlan, pool: u32, quality: u32) -> i
 
 /// A quality of a feed's source by its weight, where it goes into a pool.
 fn quality_from(net: &Network, plan: &WrittenPlan, feed: u32, pool: u32, quality: u32) -> i128
+    requires limited { IsLimited (net_of net.now) }
     requires written { IsWritten (net_of net.now) (shown_plan plan.now) }
     requires feed { feed < (net_of net.now).feeds }
     requires quality { quality < (net_of net.now).qualities }
@@ -83,13 +84,13 @@ fn quality_from(net: &Network, plan: &WrittenPlan, feed: u32, pool: u32, quality
 
 /// A source's quality for each unit of a flow.
 fn source_part(net: &Network, source: u32, quality: u32, flow: u128) -> i128
+    requires limited { IsLimited (net_of net.now) }
     requires source { source < (net_of net.now).sources }
     requires quality { quality < (net_of net.now).qualities }
     requires flow { flow ≤ 2 ^ 76 }
     ensures value { result ≡ (net_of net.now).source_quality source quality *ℤ pos flow }
     ensures size { unsigned_abs result ≤ 10 ^ 11 * flow }
 {
-    let _counts = net.sizes();
     weighted(i128::from(net.source_quality(source, quality)), flow)
 }
 
@@ -112,6 +113,7 @@ pub(crate) fn sent_quality(net: &Network, plan: &WrittenPlan, product: u32, qual
 
 /// How much of a quality a direct brings to a product.
 fn quality_sent(net: &Network, plan: &WrittenPlan, arc: u32, product: u32, quality: u32) -> i128
+    requires limited { IsLimited (net_of net.now) }
     requires written { IsWritten (net_of net.now) (shown_plan plan.now) }
     requires room { HasRoom (net_of net.now) (shown_plan plan.now) }
     requires arc { arc < (net_of net.now).directs }

@@ -2,7 +2,7 @@
 
 ghost use Rattle.std.specs.Prelude.{◌≡◌, ℕ, ◌*◌, ◌<◌, ◌≤◌, ◌^◌, IfNone, IfSome, get_or, length};
 ghost use Rattle.integers.specs.Numbers.{numbers_at};
-ghost use Rattle.pool_model.specs.Network.{net_of};
+ghost use Rattle.pool_model.specs.Network.{IsLimited, net_of};
 ghost use Rattle.pool_model.specs.Plan.{Carries};
 ghost use Rattle.program_plans.specs.LeastBases.{IsLeastPartBase};
 ghost use Rattle.plan_bases.specs.Divisors.{IsDivisorOf};
@@ -38,13 +38,13 @@ pub fn part_base(net: &Network, flows: &Flows) -> Option<u32>
 
 /// The least base over which the parts of a pool's feeds are whole.
 fn pool_base(net: &Network, flows: &Flows, pool: u32) -> u128
+    requires limited { IsLimited (net_of net.now) }
     requires flows { AreFlows (net_of net.now) flows.now }
     requires carries { Carries (net_of net.now) (flows_plan flows.now) }
     requires pool { pool < (net_of net.now).pools }
     ensures least { IsPoolBase (net_of net.now) (flows_plan flows.now) pool result }
     ensures small { result ≤ 2 ^ 92 }
 {
-    let _sizes = net.sizes();
     let sent = sum_at_node(net, Key::OutsFrom, pool, flows.outs);
     if sent == 0 {
         return 1;

@@ -1,7 +1,7 @@
 //! The weights of feeds by their parts.
 
 ghost use Rattle.std.specs.Prelude.{◌≡◌, ℕ, ◌==◌, ◌<◌, ◌≤◌, ◌^◌, IfOk};
-ghost use Rattle.pool_model.specs.Network.{net_of};
+ghost use Rattle.pool_model.specs.Network.{IsLimited, net_of};
 ghost use Rattle.pool_model.specs.Plan.{Carries};
 ghost use Rattle.pool_model.specs.Starting.{feeds_before};
 ghost use Rattle.program_plans.specs.LeastBases.{AreWholeParts};
@@ -31,6 +31,7 @@ pub fn weights(alloc: Global, net: &Network, flows: &Flows, base: u32) -> Result
 
 /// A feed's weight.
 fn part(net: &Network, flows: &Flows, base: u32, feed: u32) -> u32
+    requires limited { IsLimited (net_of net.now) }
     requires flows { AreFlows (net_of net.now) flows.now }
     requires carries { Carries (net_of net.now) (flows_plan flows.now) }
     requires whole { AreWholeParts (net_of net.now) (flows_plan flows.now) base }
@@ -38,7 +39,6 @@ fn part(net: &Network, flows: &Flows, base: u32, feed: u32) -> u32
     requires feed { feed < (net_of net.now).feeds }
     ensures { IsPart (net_of net.now) (flows_plan flows.now) base feed result }
 {
-    let _sizes = net.sizes();
     let (_, pool) = net.feed(feed);
     let sent = sum_at_node(net, Key::OutsFrom, pool, flows.outs);
     if sent > 0 {

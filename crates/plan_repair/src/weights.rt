@@ -3,7 +3,7 @@
 
 ghost use Rattle.std.specs.Prelude.{◌≡◌, ℕ, ◌+◌, ◌/◌, ◌<◌, ◌≤◌, ◌^◌, ◌==◌, ◌||◌, ◌&&◌, nat_lt, get_or, length, IfOk};
 ghost use Rattle.integers.specs.Numbers.{tabulate};
-ghost use Rattle.pool_model.specs.Network.{net_of};
+ghost use Rattle.pool_model.specs.Network.{IsLimited, net_of};
 ghost use Rattle.plan_repair.specs.PlainPlan.{feed_flow as feed_flow_of, goes_before as goes_before_of, leads as leads_of, rest as rest_of, rounded_weight, weight_of};
 ghost use Rattle.plan_repair.specs.PoolSums.{AreFlowSums, AreRoundedSums};
 
@@ -45,6 +45,7 @@ fn weight(
     sums: &[u128; MAX_POOLS],
     feed: u32,
 ) -> u32
+    requires limited { IsLimited (net_of net.now) }
     requires feed { feed < (net_of net.now).feeds }
     requires point { (net_of net.now).feeds ≤ length point.now }
     requires flows { AreFlowSums (net_of net.now) point.now flows.now }
@@ -62,12 +63,12 @@ fn weight(
 
 /// What rounding leaves of the grain in a feed's pool.
 fn rest(net: &Network, point: &[i128], sums: &[u128; MAX_POOLS], feed: u32) -> u128
+    requires limited { IsLimited (net_of net.now) }
     requires feed { feed < (net_of net.now).feeds }
     requires sums { AreRoundedSums (net_of net.now) point.now sums.now }
     ensures value { result ≡ rest_of (net_of net.now) (feed_flow_of (net_of net.now) point.now) ((net_of net.now).feed_pool feed) }
     ensures size { result ≤ 2 ^ 20 }
 {
-    let _counts = net.counts();
     let (_, pool) = net.feed(feed);
     GRAIN.saturating_sub(sums[pool as usize])
 }
@@ -103,13 +104,13 @@ fn rounded_sums(net: &Network, point: &[i128], flows: &[u128; MAX_POOLS]) -> [u1
 
 /// A feed's part of what flows into its pool, rounded down.
 fn rounded(net: &Network, point: &[i128], flows: &[u128; MAX_POOLS], feed: u32) -> u128
+    requires limited { IsLimited (net_of net.now) }
     requires feed { feed < (net_of net.now).feeds }
     requires point { (net_of net.now).feeds ≤ length point.now }
     requires flows { AreFlowSums (net_of net.now) point.now flows.now }
     ensures value { result ≡ rounded_weight (net_of net.now) (feed_flow_of (net_of net.now) point.now) feed }
     ensures size { result ≤ 2 ^ 20 }
 {
-    let _counts = net.counts();
     let (_, pool) = net.feed(feed);
     share(GRAIN * feed_flow(net, point, feed), flows[pool as usize])
 }

@@ -2,7 +2,7 @@
 
 ghost use Rattle.std.specs.Prelude.{◌≡◌, ℕ, ◌*◌, ◌<◌, ◌≤◌, ◌^◌, ◌↔◌, IsTrue, get_or, length};
 ghost use Rattle.integers.specs.Sums.{sum_at};
-ghost use Rattle.pool_model.specs.Network.{net_of};
+ghost use Rattle.pool_model.specs.Network.{IsLimited, net_of};
 ghost use Rattle.row_model.specs.Variables.{path_count};
 ghost use Rattle.point_checks.specs.Slices.{seen};
 ghost use Rattle.point_checks.specs.Checks.{AreBases, ComesFrom, FitsProps, HasPropShape, IsProduct, SumsToOne};
@@ -19,7 +19,8 @@ const MAX_SECOND_BASE: u32 = 1_048_576;
 
 /// Whether the point has bases within their limits, and a number for each variable.
 pub(crate) fn has_shape(net: &Network, point: &PropSlices) -> bool
-    ensures { IsTrue result ↔ HasPropShape (net_of net.now) point.now }
+    ensures shape { IsTrue result ↔ HasPropShape (net_of net.now) point.now }
+    ensures limited { IsLimited (net_of net.now) }
 {
     let counts = net.sizes();
     if !are_bases(point.flows.base, point.prop_base) {

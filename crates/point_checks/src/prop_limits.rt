@@ -1,7 +1,7 @@
 //! Whether a point of form Q keeps the limits on qualities, by the flows along its paths, and whether it is a point at all.
 
 ghost use Rattle.std.specs.Prelude.{◌≡◌, ℕ, ◌<◌, ◌≤◌, ◌↔◌, IsTrue};
-ghost use Rattle.pool_model.specs.Network.{net_of};
+ghost use Rattle.pool_model.specs.Network.{IsLimited, net_of};
 ghost use Rattle.pool_model.specs.Plan.{Carries};
 ghost use Rattle.program_model.specs.Points.{proportion_flows};
 ghost use Rattle.point_checks.specs.Checks.{AreSmallProps, FitsProps, HasPropShape, IsPropPoint, KeepsLimits};
@@ -14,9 +14,9 @@ use flow_checks::{Carrier, carry, is_within_limits, quality_into, sum_at_node};
 
 /// Whether the point is one of form Q within the limits.
 pub fn is_prop_point(net: &Network, point: &PropSlices) -> bool
-    ensures { IsTrue result ↔ IsPropPoint (net_of net.now) point.now }
+    ensures point { IsTrue result ↔ IsPropPoint (net_of net.now) point.now }
+    ensures limited { IsLimited (net_of net.now) }
 {
-    let _sizes = net.sizes();
     if !has_shape(net, point) {
         return false;
     }

@@ -3,7 +3,7 @@
 ghost use Rattle.std.specs.Prelude.{◌≡◌, ◌*◌, ◌+◌, ◌<◌, ◌≤◌, ◌^◌, All, IfOk, get_or, length, map};
 ghost use Rattle.integers.specs.Numbers.{tabulate};
 ghost use Rattle.integers.specs.Sums.{sum_at};
-ghost use Rattle.pool_model.specs.Network.{net_of};
+ghost use Rattle.pool_model.specs.Network.{IsLimited, net_of};
 ghost use Rattle.pool_model.specs.Plan.{plan_of, written_outflow};
 ghost use Rattle.row_model.specs.Variables.{path_count};
 ghost use Rattle.plan_core.specs.Checks.{IsShaped};
@@ -42,6 +42,7 @@ pub(crate) fn pool_totals(
     requires { length outflows.now ≡ (net_of net.now).outs }
     ensures totals { IfOk result (λ v. v.items ≡ tabulate (λ l. sum_at (net_of net.now).out_pool l (λ o. get_or outflows.now o 0) (net_of net.now).outs) (net_of net.now).pools) }
     ensures small { IfOk result (λ v. All (λ t. t < 2 ^ 74) v.items) }
+    ensures limited { IsLimited (net_of net.now) }
 {
     let mut totals = Vec::new(alloc);
     for pool in 0..net.sizes().pools {
@@ -72,7 +73,8 @@ pub(crate) fn feed_flows(
     plan: &WrittenPlan,
 ) -> Result<Vec<u128>, Memory>
     requires { IsShaped (net_of net.now) (shown_plan plan.now) }
-    ensures { IfOk result (λ v. v.items ≡ tabulate (plan_of (net_of net.now) (shown_plan plan.now)).feed (net_of net.now).feeds) }
+    ensures flows { IfOk result (λ v. v.items ≡ tabulate (plan_of (net_of net.now) (shown_plan plan.now)).feed (net_of net.now).feeds) }
+    ensures limited { IsLimited (net_of net.now) }
 {
     let totals = pool_totals(alloc, net, plan.outflows.as_slice())?;
     let mut flows = Vec::new(alloc);

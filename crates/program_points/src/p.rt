@@ -27,7 +27,6 @@ pub fn point_of(alloc: Global, net: &Network, plan: &WrittenPlan) -> Result<Qual
     ensures flows { IfOk result (λ q. SameFlows (net_of net.now) (quality_flows (shown_qual (net_of net.now) q)) (plan_of (net_of net.now) (shown_plan plan.now))) }
     ensures cost { IfOk result (λ q. SameCost (net_of net.now) (quality_flows (shown_qual (net_of net.now) q)) (plan_of (net_of net.now) (shown_plan plan.now))) }
 {
-    let _sizes = net.sizes();
     let quals = pool_qualities(alloc, net, plan)?;
     let x = feed_flows(alloc, net, plan)?;
     let y = scaled(alloc, plan.base, plan.outflows.as_slice())?;

@@ -25,6 +25,5 @@ pub fn point_of(alloc: Global, net: &Network, plan: &WrittenPlan) -> Result<Prop
     ensures flows { IfOk result (λ q. SameFlows (net_of net.now) (proportion_flows (shown_prop q)) (plan_of (net_of net.now) (shown_plan plan.now))) }
     ensures cost { IfOk result (λ q. SameCost (net_of net.now) (proportion_flows (shown_prop q)) (plan_of (net_of net.now) (shown_plan plan.now))) }
 {
-    let _sizes = net.sizes();
     q::point_of(alloc, net, plan)
 }

@@ -1,7 +1,7 @@
 //! Points of form Q.
 
 ghost use Rattle.std.specs.Prelude.{◌≡◌, IfOk};
-ghost use Rattle.pool_model.specs.Network.{net_of};
+ghost use Rattle.pool_model.specs.Network.{IsLimited, net_of};
 ghost use Rattle.pool_model.specs.Plan.{IsWritten, Obeys, plan_of};
 ghost use Rattle.plan_core.specs.Views.{shown_plan};
 ghost use Rattle.program_model.specs.Points.{SameCost, SameFlows, proportion_flows};
@@ -24,10 +24,10 @@ pub fn point_of(alloc: Global, net: &Network, plan: &WrittenPlan) -> Result<Prop
     ensures point { IfOk result (IsHeldOfQ (net_of net.now)) }
     ensures flows { IfOk result (λ q. SameFlows (net_of net.now) (proportion_flows (shown_prop q)) (plan_of (net_of net.now) (shown_plan plan.now))) }
     ensures cost { IfOk result (λ q. SameCost (net_of net.now) (proportion_flows (shown_prop q)) (plan_of (net_of net.now) (shown_plan plan.now))) }
+    ensures limited { IsLimited (net_of net.now) }
 {
-    let _sizes = net.sizes();
-    let props = Vec::from_slice(alloc, plan.weights.as_slice())?;
     let x = feed_flows(alloc, net, plan)?;
+    let props = Vec::from_slice(alloc, plan.weights.as_slice())?;
     let y = scaled(alloc, plan.base, plan.outflows.as_slice())?;
     let z = scaled(alloc, plan.base, plan.direct.as_slice())?;
     let w = path_flows(alloc, net, plan)?;

@@ -3,7 +3,7 @@
 ghost use Rattle.std.specs.Prelude.{◌≡◌, ◌++◌, Err, OnErr};
 ghost use Rattle.edge_io.specs.Counts.{Grows, Rose};
 ghost use Rattle.edge_io.specs.Writing.{Wrote};
-ghost use Rattle.pool_model.specs.Network.{net_of};
+ghost use Rattle.pool_model.specs.Network.{IsLimited, net_of};
 ghost use Rattle.box_space.specs.Views.{IsView, shown_box};
 ghost use Rattle.program_text.specs.Outcomes.{WroteOrNothing};
 ghost use Rattle.program_text.specs.Lines.{cost_line, ends_lines};
@@ -34,8 +34,6 @@ pub fn write_formulation<K: Sink>(
     ensures failed { result ≡ Err FormulationFault.Write → Rose (K.faults out.old) (K.faults out.new) }
     ensures faults_grow { Grows (K.faults out.old) (K.faults out.new) }
 {
-    // A network is limited, so its rows rest on nothing of the box but its ends.
-    let _sizes = net.sizes();
     let root = root_box(alloc, net)?;
     let mut row = LinRow::new(alloc)?;
     match write_program(net, &root.view(), form, &mut row, out) {
@@ -56,6 +54,7 @@ fn write_program<K: Sink>(
     ensures wrote { Wrote result (K.taken out.old) (program_in (net_of net.now) (shown_box v.now) form) (K.taken out.new) }
     ensures failed { OnErr result (Rose (K.faults out.old) (K.faults out.new)) }
     ensures faults_grow { Grows (K.faults out.old) (K.faults out.new) }
+    ensures limited { IsLimited (net_of net.now) }
 {
     let mut text = TextBuffer::new();
     match put_program(net, v, form, row, &mut text) {
@@ -76,9 +75,11 @@ fn put_program<K: Sink>(
     ensures wrote { Wrote result (K.taken out.old) (program_in (net_of net.now) (shown_box v.now) form) (K.taken out.new) }
     ensures failed { OnErr result (Rose (K.faults out.old) (K.faults out.new)) }
     ensures faults_grow { Grows (K.faults out.old) (K.faults out.new) }
+    ensures limited { IsLimited (net_of net.now) }
 {
+    let rows = network_rows(net);
     write_first_lines(net, v, form, out)?;
-    write_rows(net, v, 0, network_rows(net), row, out)?;
+    write_rows(net, v, 0, rows, row, out)?;
     write_families(net, v, form, row, out)?;
     write_whole(out, b"end\n")
 }

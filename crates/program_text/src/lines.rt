@@ -1,6 +1,6 @@
 //! The lines of an exact program.
 
-ghost use Rattle.std.specs.Prelude.{◌≡◌, ◌+◌, ◌<◌, ◌≤◌, OnErr};
+ghost use Rattle.std.specs.Prelude.{◌≡◌, ◌+◌, ◌<◌, ◌≤◌, ◌^◌, OnErr};
 ghost use Rattle.edge_io.specs.Counts.{Grows, Rose};
 ghost use Rattle.edge_io.specs.Writing.{Wrote};
 ghost use Rattle.pool_model.specs.Network.{net_of};
@@ -15,7 +15,7 @@ use crate::terms::{write_costs, write_terms};
 use blend_network::Network;
 use box_space::{BoxView, Form, LinRow, RowKind, var_ends, vars};
 use edge_io::{Sink, WriteFault, write_whole};
-use row_book::{row_at, rows};
+use row_book::row_at;
 use text_buffer::TextBuffer;
 
 /// What is made as small as it can be.
@@ -109,12 +109,11 @@ pub(crate) fn write_rows<K: Sink>(
 ) -> Result<(), WriteFault>
     requires view { IsView (net_of net.now) v.now }
     requires known { first + count ≤ catalogue.rows (net_of net.now) }
+    requires small { first + count < 2 ^ 32 }
     ensures wrote { Wrote result (K.taken out.old) (row_lines (net_of net.now) (shown_box v.now) first count) (K.taken out.new) }
     ensures failed { OnErr result (Rose (K.faults out.old) (K.faults out.new)) }
     ensures faults_grow { Grows (K.faults out.old) (K.faults out.new) }
 {
-    // Row numbers are small enough to be added.
-    let _rows = rows(net);
     for n in 0..count {
         write_row(net, v, first + n, row, out)?;
     }

@@ -1,7 +1,7 @@
 //! Where the rows of the exact programs stand in the catalogue.
 
-ghost use Rattle.std.specs.Prelude.{◌≡◌, ◌+◌, ◌≤◌, length};
-ghost use Rattle.pool_model.specs.Network.{net_of};
+ghost use Rattle.std.specs.Prelude.{◌≡◌, ◌+◌, ◌<◌, ◌≤◌, ◌^◌, length};
+ghost use Rattle.pool_model.specs.Network.{IsLimited, net_of};
 ghost use Rattle.pool_model.specs.Limits.{least_limits, most_limits};
 ghost use Rattle.row_model.specs.Catalogue as catalogue;
 ghost use Rattle.row_model.specs.Catalogue.{pq_families, row_count};
@@ -16,6 +16,7 @@ pub(crate) fn network_rows(net: &Network) -> u32
     ensures count { result ≡ programs.network_rows (net_of net.now) }
     ensures fits { result ≤ catalogue.rows (net_of net.now) }
     ensures small { result ≤ 224 }
+    ensures limited { IsLimited (net_of net.now) }
 {
     let counts = net.sizes();
     counts.sources + (counts.pools + (counts.pools + (counts.products + counts.products)))
@@ -26,6 +27,7 @@ pub(crate) fn p_rows(net: &Network) -> (u32, u32)
     ensures first { result.0 ≡ programs.network_rows (net_of net.now) }
     ensures count { result.1 ≡ exact_rows_of_p (net_of net.now) }
     ensures fits { result.0 + result.1 ≤ catalogue.rows (net_of net.now) }
+    ensures small { result.0 + result.1 < 2 ^ 32 }
 {
     let counts = net.sizes();
     let mixing = cells(counts.pools, counts.qualities);
@@ -37,6 +39,7 @@ pub(crate) fn q_rows(net: &Network) -> (u32, u32)
     ensures first { result.0 ≡ first_of_q (net_of net.now) }
     ensures count { result.1 ≡ exact_rows_of_q (net_of net.now) }
     ensures fits { result.0 + result.1 ≤ catalogue.rows (net_of net.now) }
+    ensures small { result.0 + result.1 < 2 ^ 32 }
 {
     let counts = net.sizes();
     let first = network_rows(net) + p_form::count(net);
@@ -48,6 +51,7 @@ pub(crate) fn further_rows(net: &Network) -> (u32, u32)
     ensures first { result.0 ≡ first_of_pq (net_of net.now) }
     ensures count { result.1 ≡ row_count (pq_families (net_of net.now)) }
     ensures fits { result.0 + result.1 ≤ catalogue.rows (net_of net.now) }
+    ensures small { result.0 + result.1 < 2 ^ 32 }
 {
     let first = network_rows(net) + p_form::count(net) + q_form::count(net);
     (first, pq_form::count(net))

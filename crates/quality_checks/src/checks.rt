@@ -3,7 +3,7 @@
 
 ghost use Rattle.std.specs.Prelude.{◌≡◌, ℕ, ◌*◌, ◌<◌, ◌≤◌, ◌^◌, ◌↔◌, IsTrue, length, pos, ◌*ℤ◌, ◌≤ℤ◌, ◌<ℤ◌};
 ghost use Rattle.integers.specs.Sums.{sum_at};
-ghost use Rattle.pool_model.specs.Network.{net_of};
+ghost use Rattle.pool_model.specs.Network.{IsLimited, net_of};
 ghost use Rattle.pool_model.specs.Plan.{Carries};
 ghost use Rattle.program_model.specs.Points.{quality_flows};
 ghost use Rattle.flow_checks.specs.Sizes.{FlowsFit};
@@ -21,7 +21,8 @@ use std::cmp::Ordering;
 
 /// Whether the point has bases within their limits, and a number for each variable.
 pub(crate) fn has_shape(net: &Network, point: &QualSlices) -> bool
-    ensures { IsTrue result ↔ HasQualShape (net_of net.now) point.now }
+    ensures shape { IsTrue result ↔ HasQualShape (net_of net.now) point.now }
+    ensures limited { IsLimited (net_of net.now) }
 {
     let counts = net.sizes();
     if !are_bases(point.flows.base, point.qual_base) {
@@ -215,6 +216,7 @@ fn keeps_qualities(net: &Network, point: &QualSlices, pool: u32) -> bool
 }
 
 fn keeps_quality(net: &Network, point: &QualSlices, pool: u32, quality: u32) -> bool
+    requires limited { IsLimited (net_of net.now) }
     requires shape { HasQualShape (net_of net.now) point.now }
     requires small { AreSmallQuals (net_of net.now) point.now }
     requires carries { Carries (net_of net.now) (quality_flows (seen (net_of net.now) point.now)) }
@@ -222,7 +224,6 @@ fn keeps_quality(net: &Network, point: &QualSlices, pool: u32, quality: u32) -> 
     requires quality { quality < (net_of net.now).qualities }
     ensures { IsTrue result ↔ KeepsQuality (net_of net.now) (seen (net_of net.now) point.now) pool quality }
 {
-    let _sizes = net.sizes();
     let taken = quality_fed(net, pool, quality, point.flows.feeds);
     taken == mixed_sum(net, Key::OutsFrom, pool, quality, point.mix)
 }

@@ -1,7 +1,7 @@
 //! Whether a point of form P keeps the limits on qualities, by its mixed variables, and whether it is a point at all.
 
 ghost use Rattle.std.specs.Prelude.{◌≡◌, ℕ, ◌<◌, ◌≤◌, ◌↔◌, IsTrue};
-ghost use Rattle.pool_model.specs.Network.{net_of};
+ghost use Rattle.pool_model.specs.Network.{IsLimited, net_of};
 ghost use Rattle.pool_model.specs.Plan.{Carries};
 ghost use Rattle.program_model.specs.Points.{quality_flows};
 ghost use Rattle.flow_checks.specs.Sizes.{FlowsFit};
@@ -16,9 +16,9 @@ use flow_checks::{Carrier, carry, is_within_limits, quality_into, sum_at_node};
 
 /// Whether the point is one of form P within the limits.
 pub fn is_qual_point(net: &Network, point: &QualSlices) -> bool
-    ensures { IsTrue result ↔ IsQualPoint (net_of net.now) point.now }
+    ensures point { IsTrue result ↔ IsQualPoint (net_of net.now) point.now }
+    ensures limited { IsLimited (net_of net.now) }
 {
-    let _sizes = net.sizes();
     if !has_shape(net, point) {
         return false;
     }

@@ -2,7 +2,7 @@
 
 ghost use Rattle.std.specs.Prelude.{◌≡◌, ℕ, ◌+◌, ◌*◌, ◌<◌, ◌≤◌, ◌^◌, get_or, length, ℤ, pos, ◌*ℤ◌, unsigned_abs};
 ghost use Rattle.integers.specs.Sums.{int_sum_at, sum_at};
-ghost use Rattle.pool_model.specs.Network.{net_of};
+ghost use Rattle.pool_model.specs.Network.{IsLimited, net_of};
 ghost use Rattle.blend_network.specs.Keys.{count_of, key_of, nodes_of};
 ghost use Rattle.quality_checks.specs.Checks.{AreWithin};
 
@@ -11,6 +11,7 @@ use flow_checks::weighted;
 
 /// The quality that feeds bring to a pool, times their flow.
 pub(crate) fn quality_fed(net: &Network, pool: u32, quality: u32, flows: &[u128]) -> i128
+    requires limited { IsLimited (net_of net.now) }
     requires pool { pool < (net_of net.now).pools }
     requires quality { quality < (net_of net.now).qualities }
     requires long { length flows.now ≡ (net_of net.now).feeds }
@@ -26,13 +27,13 @@ pub(crate) fn quality_fed(net: &Network, pool: u32, quality: u32, flows: &[u128]
 
 /// The quality that a feed brings, times its flow.
 fn fed(net: &Network, feed: u32, quality: u32, flow: u128) -> i128
+    requires limited { IsLimited (net_of net.now) }
     requires feed { feed < (net_of net.now).feeds }
     requires quality { quality < (net_of net.now).qualities }
     requires small { flow ≤ 2 ^ 83 }
     ensures value { result ≡ (net_of net.now).source_quality ((net_of net.now).feed_source feed) quality *ℤ pos flow }
     ensures small { unsigned_abs result ≤ 10 ^ 11 * flow }
 {
-    let _sizes = net.sizes();
     let (source, _) = net.feed(feed);
     weighted(i128::from(net.source_quality(source, quality)), flow)
 }

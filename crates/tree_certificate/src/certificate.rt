@@ -2,7 +2,7 @@
 
 ghost use Rattle.std.specs.Prelude.{◌≡◌, ◌++◌, OnOk, ◌<◌, ◌^◌, ◌*◌, map, length, get_or, option_map, None, IfOk, neg_ℤ, pos, ◌-ℤ◌, ◌*ℤ◌, ◌≤ℤ◌, ◌≤◌, unsigned_abs};
 ghost use Rattle.std.specs.Option.{ForSome};
-ghost use Rattle.pool_model.specs.Network.{net_of};
+ghost use Rattle.pool_model.specs.Network.{IsLimited, net_of};
 ghost use Rattle.pool_model.specs.Plan.{Obeys, IsWritten, plan_of as written_plan};
 ghost use Rattle.pool_model.specs.Claim.{IsBound};
 ghost use Rattle.plan_core.specs.Checks.{IsCostOf};
@@ -29,6 +29,7 @@ pub fn certificate_of(alloc: Global, net: &Network, tree: Tree) -> Result<Certif
     ensures found { IfOk result (λ c. shown_cert c ≡ cert_of (net_of net.now) (searched_of tree.kept)) }
     ensures valid { IfOk result (λ c. IsValid (net_of net.now) (shown_cert c)) }
     ensures held { IfOk result (λ c. IsCert (shown_cert c)) }
+    ensures limited { IsLimited (net_of net.now) }
 {
     let shape = net.counts();
     let _reach = net.reach_bound();

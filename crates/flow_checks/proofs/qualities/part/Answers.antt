@@ -11,11 +11,11 @@ weighted-requires-clause-size c =
     let n = net_of c.args.net.now in
     let source = c.source_of-source.result in
     let narrow : FitsSigned w64 c.source_quality.result = search rules in
-    let read = c.from.ensures ∙ to_z-of_z w64 c.source_quality.result narrow ∙ c.source_quality.ensures in
+    let read = c.from.ensures ∙ to_z-of_z w64 c.source_quality.result narrow ∙ c.source_quality.ensures.value in
     omega (
       arith,
       part-size c.from.result (n.source_quality source c.args.quality) c.args.flow read
-          (c.sizes-sizes.ensures.limited.source_qualities source c.args.quality c.source_of-source.ensures.known c.requires.quality) c.requires.small,
+          (omega (arith, c.source_quality.ensures.size, ap unsigned_abs c.source_quality.ensures.value)) c.requires.small,
     )
 
 pub returns-clause-small : goal.returns-clause-small
@@ -23,7 +23,7 @@ returns-clause-small c =
     let n = net_of c.args.net.now in
     let source = c.source_of-source.result in
     let narrow : FitsSigned w64 c.source_quality.result = search rules in
-    let read = c.from.ensures ∙ to_z-of_z w64 c.source_quality.result narrow ∙ c.source_quality.ensures in
+    let read = c.from.ensures ∙ to_z-of_z w64 c.source_quality.result narrow ∙ c.source_quality.ensures.value in
     let most = part-size c.from.result (n.source_quality source c.args.quality) c.args.flow read
-    (c.sizes-sizes.ensures.limited.source_qualities source c.args.quality c.source_of-source.ensures.known c.requires.quality) c.requires.small in
+    (omega (arith, c.source_quality.ensures.size, ap unsigned_abs c.source_quality.ensures.value)) c.requires.small in
     read-small c.weighted.result (2 ^ 113) (omega (arith, c.weighted.ensures.size, most)) (omega arith)

@@ -14,16 +14,16 @@ use Rattle.form_plans.proofs.q.plan_of.Goals as goal
 
 pub returns-then-not-is_prop_point-clause-fault : goal.returns-then-not-is_prop_point-clause-fault
 returns-then-not-is_prop_point-clause-fault c =
-    λ held. false≢true (c.if-not-is_prop_point.ensures.1 (held-point (net_of c.args.net.now) c.args.point.now c.prop_slices-lists.result c.prop_slices-lists.ensures held))
+    λ held. false≢true (c.if-not-is_prop_point.ensures.point.1 (held-point (net_of c.args.net.now) c.args.point.now c.prop_slices-lists.result c.prop_slices-lists.ensures held))
 
 pub flow_divisor-divisor-requires : goal.flow_divisor-divisor-requires
-flow_divisor-divisor-requires c = (c.if-not-is_prop_point.ensures.0 refl).shape.bases.base
+flow_divisor-divisor-requires c = (c.if-not-is_prop_point.ensures.point.0 refl).shape.bases.base
 
 pub is_fine-requires : goal.is_fine-requires
 is_fine-requires c =
     let n = net_of c.args.net.now in
     let s = c.prop_slices-lists.result in
-    positive n s.flows c.flow_divisor-divisor.result (flow_lists n s (c.if-not-is_prop_point.ensures.0 refl)) c.flow_divisor-divisor.ensures
+    positive n s.flows c.flow_divisor-divisor.result (flow_lists n s (c.if-not-is_prop_point.ensures.point.0 refl)) c.flow_divisor-divisor.ensures
 
 pub returns-then-not-is_fine-clause-fault : goal.returns-then-not-is_fine-clause-fault
 returns-then-not-is_fine-clause-fault c =
@@ -31,7 +31,7 @@ returns-then-not-is_fine-clause-fault c =
     let q = c.args.point.now in
     let s = c.prop_slices-lists.result in
     let g = c.flow_divisor-divisor.result in
-    let p = c.if-not-is_prop_point.ensures.0 refl in (
+    let p = c.if-not-is_prop_point.ensures.point.0 refl in (
       point-held n q s c.prop_slices-lists.ensures p,
       too_fine-shown n q s c.prop_slices-lists.ensures (base-too_fine n s.flows g (flow_lists n s p) c.flow_divisor-divisor.ensures (above (s.flows.base / g) c.if-not-is_fine.ensures.1)),
     )
@@ -40,7 +40,7 @@ pub made-requires-clause-positive : goal.made-requires-clause-positive
 made-requires-clause-positive c =
     let n = net_of c.args.net.now in
     let s = c.prop_slices-lists.result in
-    positive n s.flows c.flow_divisor-divisor.result (flow_lists n s (c.if-not-is_prop_point.ensures.0 refl)) c.flow_divisor-divisor.ensures
+    positive n s.flows c.flow_divisor-divisor.result (flow_lists n s (c.if-not-is_prop_point.ensures.point.0 refl)) c.flow_divisor-divisor.ensures
 
 pub made-requires-clause-base : goal.made-requires-clause-base
 made-requires-clause-base c = c.if-not-is_fine.ensures.0 refl
@@ -49,15 +49,15 @@ pub made-requires-clause-outs : goal.made-requires-clause-outs
 made-requires-clause-outs c =
     let n = net_of c.args.net.now in
     let s = c.prop_slices-lists.result in
-    let p = c.if-not-is_prop_point.ensures.0 refl in
-    outs-fine n s.flows c.flow_divisor-divisor.result (flow_lists n s p) c.flow_divisor-divisor.ensures c.sizes-sizes.ensures.limited p.point.carries (c.if-not-is_fine.ensures.0 refl)
+    let p = c.if-not-is_prop_point.ensures.point.0 refl in
+    outs-fine n s.flows c.flow_divisor-divisor.result (flow_lists n s p) c.flow_divisor-divisor.ensures c.if-not-is_prop_point.ensures.limited p.point.carries (c.if-not-is_fine.ensures.0 refl)
 
 pub made-requires-clause-directs : goal.made-requires-clause-directs
 made-requires-clause-directs c =
     let n = net_of c.args.net.now in
     let s = c.prop_slices-lists.result in
-    let p = c.if-not-is_prop_point.ensures.0 refl in
-    directs-fine n s.flows c.flow_divisor-divisor.result (flow_lists n s p) c.flow_divisor-divisor.ensures c.sizes-sizes.ensures.limited p.point.carries (c.if-not-is_fine.ensures.0 refl)
+    let p = c.if-not-is_prop_point.ensures.point.0 refl in
+    directs-fine n s.flows c.flow_divisor-divisor.result (flow_lists n s p) c.flow_divisor-divisor.ensures c.if-not-is_prop_point.ensures.limited p.point.carries (c.if-not-is_fine.ensures.0 refl)
 
 pub returns-clause-plan : goal.returns-clause-plan
 returns-clause-plan c =
@@ -65,9 +65,9 @@ returns-clause-plan c =
     let q = c.args.point.now in
     let s = c.prop_slices-lists.result in
     let g = c.flow_divisor-divisor.result in
-    let p = c.if-not-is_prop_point.ensures.0 refl in
+    let p = c.if-not-is_prop_point.ensures.point.0 refl in
     ok-more c.made.result (λ (w : WrittenPlan). IsMade s.flows g s.prop_base s.props.now (shown_plan w)) (λ (w : WrittenPlan). IsPropPlan n q (shown_plan w))
-    (λ w made. made-keeps n q s g (shown_plan w) c.sizes-sizes.ensures.limited c.prop_slices-lists.ensures p c.flow_divisor-divisor.ensures made (c.if-not-is_fine.ensures.0 refl))
+    (λ w made. made-keeps n q s g (shown_plan w) c.if-not-is_prop_point.ensures.limited c.prop_slices-lists.ensures p c.flow_divisor-divisor.ensures made (c.if-not-is_fine.ensures.0 refl))
     (subst (λ (xs : List ℕ). IfOk c.made.result (λ w. IsMade s.flows g s.prop_base xs (shown_plan w))) c.in_ok-weights.ensures.items c.made.ensures.made)
 
 pub returns-clause-has_plan : goal.returns-clause-has_plan
@@ -76,7 +76,7 @@ returns-clause-has_plan c =
     let q = c.args.point.now in
     let s = c.prop_slices-lists.result in
     let g = c.flow_divisor-divisor.result in
-    let p = c.if-not-is_prop_point.ensures.0 refl in
+    let p = c.if-not-is_prop_point.ensures.point.0 refl in
     ok-any c.made.result (HasPlanOfQ n q) (
       point-held n q s c.prop_slices-lists.ensures p,
       λ fine. base-fine n s.flows g (flow_lists n s p) c.flow_divisor-divisor.ensures (c.if-not-is_fine.ensures.0 refl) (too_fine-seen n q s c.prop_slices-lists.ensures fine),

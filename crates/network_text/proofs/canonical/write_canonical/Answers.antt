@@ -4,13 +4,13 @@ use Rattle.network_text.proofs.canonical.write_canonical.Goals as goal
 
 pub returns-clause-text : goal.returns-clause-text
 returns-clause-text c =
-    text_is c.args.net.now c.counts-counts.ensures.made c.counts-counts.ensures.limited c.in_ok-to_vec.field-0.items (view c.in_ok-value.value) c.in_ok-value.ensures c.in_ok-to_vec.ensures.text
+    text_is c.args.net.now c.network_value.ensures.made c.network_value.ensures.limited c.in_ok-to_vec.field-0.items (view c.in_ok-value.value) c.in_ok-value.ensures.data c.in_ok-to_vec.ensures.text
 
 pub returns-clause-short : goal.returns-clause-short
 returns-clause-short c =
-    short_is c.args.net.now c.counts-counts.ensures.made c.counts-counts.ensures.limited c.in_ok-to_vec.field-0.items (view c.in_ok-value.value) c.in_ok-value.ensures c.in_ok-to_vec.ensures.text
+    short_is c.args.net.now c.network_value.ensures.made c.network_value.ensures.limited c.in_ok-to_vec.field-0.items (view c.in_ok-value.value) c.in_ok-value.ensures.data c.in_ok-to_vec.ensures.text
 
 pub returns-clause-read : goal.returns-clause-read
 returns-clause-read c =
-    read_is c.args.net.now c.counts-counts.ensures.made c.counts-counts.ensures.limited c.in_ok-to_vec.field-0.items (view c.in_ok-value.value) c.in_ok-value.ensures c.in_ok-to_vec.ensures.text
+    read_is c.args.net.now c.network_value.ensures.made c.network_value.ensures.limited c.in_ok-to_vec.field-0.items (view c.in_ok-value.value) c.in_ok-value.ensures.data c.in_ok-to_vec.ensures.text
     c.in_ok-to_vec.ensures.utf8 c.in_ok-to_vec.ensures.reads_back

@@ -16,7 +16,7 @@ this_feed c =
     let among : arc < n.feeds = subst (λ (xs : List ℕ). arc < get_or xs 4 0) c.counts.ensures.counts c.loop-feed-test.true in
     let wide : FitsSigned w128 c.from.result = search rules in
     let narrow : FitsSigned w64 c.source_quality.result = search rules in
-    let quality = c.from.ensures ∙ to_z-of_z w64 c.source_quality.result narrow ∙ c.source_quality.ensures ∙ ap (λ i. n.source_quality i c.args.quality) c.feed-source.ensures.source in
+    let quality = c.from.ensures ∙ to_z-of_z w64 c.source_quality.result narrow ∙ c.source_quality.ensures.value ∙ ap (λ i. n.source_quality i c.args.quality) c.feed-source.ensures.source in
     feed_part n (shown_plan c.args.plan.now) c.args.quality arc c.from-in-loop-feed.result c.from.result c.weighted.result c.counts.ensures.limited among c.requires.quality quality
     (c.from-in-loop-feed.ensures ∙ c.weight.ensures) (omega (arith, c.weight.ensures, c.weight.type_inv)) c.weighted.ensures.value
 

@@ -32,7 +32,7 @@ this_direct c =
     direct_part n (shown_plan c.args.plan.now) c.args.quality c.loop-direct.direct c.whole_direct.result c.from-in-loop-direct.result c.weighted-in-loop-direct.result limited c.requires.room among
     c.requires.quality
     (quality_is n c.args.quality c.loop-direct.direct c.direct-source.result.0 c.source_quality.result c.from-in-loop-direct.result narrow
-    c.direct-source.ensures.source c.source_quality.ensures c.from-in-loop-direct.ensures)
+    c.direct-source.ensures.source c.source_quality.ensures.value c.from-in-loop-direct.ensures)
     c.whole_direct.ensures.flow c.weighted-in-loop-direct.ensures.value
 
 pub overflow_add-sums : goal.overflow_add-sums
@@ -72,7 +72,7 @@ weighted-requires-in-loop-direct-clause-size c =
       direct_size n (shown_plan c.args.plan.now) c.args.quality c.loop-direct.direct c.whole_direct.result c.from-in-loop-direct.result
           c.counts.ensures.limited c.requires.room among c.requires.quality
           (quality_is n c.args.quality c.loop-direct.direct c.direct-source.result.0 c.source_quality.result c.from-in-loop-direct.result narrow
-          c.direct-source.ensures.source c.source_quality.ensures c.from-in-loop-direct.ensures)
+          c.direct-source.ensures.source c.source_quality.ensures.value c.from-in-loop-direct.ensures)
           c.whole_direct.ensures.flow,
     )
 

@@ -11,18 +11,18 @@ use Rattle.plan_flows.proofs.means.mean.Goals as goal
 
 pub reaching-quality-requires-clause-room : goal.reaching-quality-requires-clause-room
 reaching-quality-requires-clause-room c =
-    room-obeys (net_of c.args.net.now) (shown_plan c.args.plan.now) c.sizes-counts.ensures.limited c.requires.written c.requires.obeys
+    room-obeys (net_of c.args.net.now) (shown_plan c.args.plan.now) c.product_flow-inflow.ensures.limited c.requires.written c.requires.obeys
 
 pub returns : goal.returns
 returns c =
     let n = net_of c.args.net.now in
     let w = shown_plan c.args.plan.now in
     let m = pos (product_below (factor n (plan_of n w)) n.pools) in
-    let limited = c.sizes-counts.ensures.limited in
+    let limited = c.product_flow-inflow.ensures.limited in
     let fits : FitsSigned w128 c.reaching-quality.result = search rules in
-    let small : c.product_flow.result < 2 ^ 127 = omega (arith, c.product_flow.ensures.size) in
+    let small : c.product_flow-inflow.result < 2 ^ 127 = omega (arith, c.product_flow-inflow.ensures.size) in
     record {
       quality = ap (λ (z : ℤ). m *ℤ z) (to_z-of_z w128 c.reaching-quality.result fits ∙ c.reaching-quality.ensures)
           ∙ sym (inflow-plan_of n w c.args.j c.args.k limited.out_pools (omega (arith, c.requires.written.base)));
-      inflow = to_z_pos w128 c.product_flow.result small ∙ ap pos c.product_flow.ensures.flow;
+      inflow = to_z_pos w128 c.product_flow-inflow.result small ∙ ap pos c.product_flow-inflow.ensures.flow;
     }

@@ -13,7 +13,7 @@ returns-then-sent-eq0-clause-least c =
     let n = net_of c.args.net.now in
     let p = flows_plan c.args.flows.now in
     let sent : c.sum_at_node-sent.result ≡ outflow n p c.args.pool = c.sum_at_node-sent.ensures.sum in
-    empty-base n p c.args.pool c.sizes-sizes.ensures.limited c.requires.carries (omega (arith, sent, c.if-sent-eq0.true))
+    empty-base n p c.args.pool c.requires.limited c.requires.carries (omega (arith, sent, c.if-sent-eq0.true))
 
 pub nonzero_div-result : goal.nonzero_div-result
 nonzero_div-result c =

@@ -10,7 +10,7 @@ overflow_cast-result c =
     let n = net_of c.args.net.now in
     let p = flows_plan c.args.flows.now in
     let sent : c.sum_at_node-sent.result ≡ outflow n p (n.feed_pool c.args.feed) = c.sum_at_node-sent.ensures.sum ∙ ap (outflow n p) c.feed-pool.ensures.pool in
-    let within = part-within n p c.args.base c.from.result c.sum_at_node-sent.result c.args.feed c.sizes-sizes.ensures.limited c.requires.carries
+    let within = part-within n p c.args.base c.from.result c.sum_at_node-sent.result c.args.feed c.requires.limited c.requires.carries
     c.requires.feed c.requires.whole c.from.ensures sent c.if-sent-gt0.true in
     omega (arith, within, c.requires.small)
 

@@ -12,14 +12,14 @@ returns-clause-lists c =
       base = c.denominator.ensures;
       prop_base = refl;
       props = c.in_ok-props.ensures.items ∙ c.as_slice.ensures.value;
-      x = c.in_ok-x.ensures;
+      x = c.in_ok-x.ensures.flows;
       y = c.in_ok-y.ensures ∙ ap (λ (xs : List ℕ). map (λ (f : ℕ). plan.base * f) xs) c.as_slice-2.ensures.value ∙ times-table plan.base plan.outflows.items n.outs c.requires.written.outflows;
       z = c.in_ok-z.ensures ∙ ap (λ (xs : List ℕ). map (λ (f : ℕ). plan.base * f) xs) c.as_slice-3.ensures.value ∙ times-table plan.base plan.direct.items n.directs c.requires.written.direct;
       along = c.in_ok-w.ensures;
     }
 
 pub returns-clause-point : goal.returns-clause-point
-returns-clause-point c = props-held (net_of c.args.net.now) (shown_plan c.args.plan.now) _ c.sizes-sizes.ensures.limited c.requires.written c.requires.obeys (returns-clause-lists c)
+returns-clause-point c = props-held (net_of c.args.net.now) (shown_plan c.args.plan.now) _ c.feed_flows.ensures.limited c.requires.written c.requires.obeys (returns-clause-lists c)
 
 pub returns-clause-flows : goal.returns-clause-flows
 returns-clause-flows c = props-flows (net_of c.args.net.now) (shown_plan c.args.plan.now) _ (returns-clause-lists c)

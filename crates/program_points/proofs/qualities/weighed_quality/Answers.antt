@@ -21,7 +21,7 @@ loop-feed-preserved c =
     let few : i ≤ 512 = omega (arith, c.numbers_at-feed-items.ensures.few, c.loop-feed-test.true) in
     let exact = added s p (2 ^ 95 * i) c.loop-feed.invariant.1 (omega arith) (omega (arith, c.weighted-sum.ensures.small)) in
     let term = λ (f : ℕ). n.source_quality (n.feed_source f) c.args.quality *ℤ pos (get_or c.as_slice-weights.result.now f 0) in
-    let read = c.source_quality.ensures ∙ ap (λ (source : ℕ). n.source_quality source c.args.quality) c.feed-source.ensures.source in
+    let read = c.source_quality.ensures.value ∙ ap (λ (source : ℕ). n.source_quality source c.args.quality) c.feed-source.ensures.source in
     let part : p ≡ term e = (simp to_z-of_z at c.weighted-sum.ensures.value) ∙ ap (λ (z : ℤ). z *ℤ pos (get_or c.as_slice-weights.result.now e 0)) read in (
       exact ∙ term-more term items i s p c.loop-feed-test.true c.loop-feed.invariant.0 part,
       subst (λ (z : ℤ). unsigned_abs z ≤ 2 ^ 95 * (i + 1)) (sym exact) (added-small s p i c.loop-feed.invariant.1 c.weighted-sum.ensures.small),

@@ -7,4 +7,4 @@ use Rattle.quality_checks.proofs.checks.keeps_quality.Goals as goal
 pub quality_fed-taken-requires-clause-small : goal.quality_fed-taken-requires-clause-small
 quality_fed-taken-requires-clause-small c =
     let n = net_of c.args.net.now in
-    pool-small n (quality_flows (seen n c.args.point.now)) c.args.pool c.sizes-sizes.ensures.limited c.requires.carries c.requires.shape.bases.base_most c.requires.pool
+    pool-small n (quality_flows (seen n c.args.point.now)) c.args.pool c.requires.limited c.requires.carries c.requires.shape.bases.base_most c.requires.pool

@@ -11,11 +11,11 @@ weighted-requires-clause-size c =
     let n = net_of c.args.net.now in
     let source = c.feed-source.result.0 in
     let narrow : FitsSigned w64 c.source_quality.result = search rules in
-    let read = c.from.ensures ∙ to_z-of_z w64 c.source_quality.result narrow ∙ c.source_quality.ensures in
+    let read = c.from.ensures ∙ to_z-of_z w64 c.source_quality.result narrow ∙ c.source_quality.ensures.value in
     omega (
       arith,
       fed-size c.from.result (n.source_quality source c.args.quality) c.args.flow read
-          (c.sizes-sizes.ensures.limited.source_qualities source c.args.quality c.feed-source.ensures.known_source c.requires.quality),
+          (c.requires.limited.source_qualities source c.args.quality c.feed-source.ensures.known_source c.requires.quality),
       c.requires.small,
     )
 
@@ -24,7 +24,7 @@ returns-clause-small c =
     let n = net_of c.args.net.now in
     let source = c.feed-source.result.0 in
     let narrow : FitsSigned w64 c.source_quality.result = search rules in
-    let read = c.from.ensures ∙ to_z-of_z w64 c.source_quality.result narrow ∙ c.source_quality.ensures in
+    let read = c.from.ensures ∙ to_z-of_z w64 c.source_quality.result narrow ∙ c.source_quality.ensures.value in
     let most = fed-size c.from.result (n.source_quality source c.args.quality) c.args.flow read
-    (c.sizes-sizes.ensures.limited.source_qualities source c.args.quality c.feed-source.ensures.known_source c.requires.quality) in
+    (c.requires.limited.source_qualities source c.args.quality c.feed-source.ensures.known_source c.requires.quality) in
     read-small c.weighted.result (10 ^ 11 * c.args.flow) (omega (arith, c.weighted.ensures.size, most)) (omega (arith, c.requires.small))

@@ -1,9 +1,8 @@
-use Rattle.std.proofs.Common.{◌≡◌, ◌<◌, ◌≤◌, ℕ, List, length, get_or, All, sym, ap, subst, ◌∙◌, arith}
-use Rattle.integers.specs.Numbers.{numbers_at}
+use Rattle.std.proofs.Common.{◌<◌, ◌≤◌, ℕ, List, length, get_or, All, sym, ap, subst, ◌∙◌, arith}
 use Rattle.number_groups.proofs.Grouped.{group_there, group_at, numbers_at-below, numbers_at-few}
 use Rattle.pool_model.specs.Network.{Network, net_of, IsLimited}
 use Rattle.pool_model.specs.Paths.{paths_of}
-use Rattle.blend_network.specs.Keys.{key_of, nodes_of, count_of, groups_by, IsIndexOf}
+use Rattle.blend_network.specs.Keys.{key_of, nodes_of, count_of, IsIndexOf}
 use Rattle.blend_network.proofs.Indexed.{index_at, key_few}
 use Rattle.blend_network.proofs.network.Network.numbers_at.Goals as goal
 

@@ -16,8 +16,8 @@ pub coef_at-coef-requires-clause-among : goal.coef_at-coef-requires-clause-among
 coef_at-coef-requires-clause-among c =
     omega (arith, c.numbers_at-numbers.ensures.known c.loop-number.number-index 0 c.loop-number-test.true, c.requires.known.1)
 
-pub variable_number-requires-clause-among : goal.variable_number-requires-clause-among
-variable_number-requires-clause-among c =
+pub number_by-requires-clause-among : goal.number_by-requires-clause-among
+number_by-requires-clause-among c =
     omega (arith, c.numbers_at-numbers.ensures.known c.loop-number.number-index 0 c.loop-number-test.true, c.requires.known.1)
 
 pub add_term-requires : goal.add_term-requires
@@ -44,7 +44,7 @@ loop-number-preserved c =
       terms = more f c.args.self.now.terms c.loop-number.self.terms c.add_term.new.self.terms c.numbers_at-numbers.result.now
           c.loop-number.number-index 0 c.loop-number-test.true c.loop-number.invariant.terms
           ((simp to_z-of_z at c.add_term.ensures.terms)
-          ∙ ap (λ (v : ℕ). c.loop-number.self.terms ++ term_of v c.coef_at-coef.result) c.variable_number.ensures
+          ∙ ap (λ (v : ℕ). c.loop-number.self.terms ++ term_of v c.coef_at-coef.result) c.number_by.ensures
           ∙ ap (λ (z : ℤ). c.loop-number.self.terms ++ term_of (number_of n c.args.block i) z) c.coef_at-coef.ensures);
       constant = c.add_term.ensures.constant ∙ c.loop-number.invariant.constant;
     }

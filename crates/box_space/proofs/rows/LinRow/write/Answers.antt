@@ -25,7 +25,7 @@ add_terms-requires-clause-room c =
       arith,
       more-room (terms_of n) (most_of n) [] c.loop-terms.self.terms ts c.loop-terms.terms-index Nothing (omega arith)
           (λ i lt. short-terms n (get_or ts i Nothing) (known-at n ts i Nothing lt c.requires.known)) c.loop-terms.invariant.terms,
-      table-few n 0 ts c.sizes-sizes.ensures.limited c.sizes-sizes.ensures.paths c.requires.known c.requires.rising,
+      table-few n 0 ts c.sizes-counts.ensures.limited c.sizes-counts.ensures.paths c.requires.known c.requires.rising,
     )
 
 pub loop-terms-preserved : goal.loop-terms-preserved
