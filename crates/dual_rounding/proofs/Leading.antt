@@ -72,6 +72,13 @@ module _ (n : Net) (b : Box) (tried : List Proof) (fallback : Shown) (lead : Lea
   pub answer-some : lead.is_proved ≡ true → (p : Proof) → p ≡ best → IsRounded n b tried fallback (Some p)
   answer-some e p is = subst (λ (o : Option Proof). IsRounded n b tried fallback o) (ap (λ (t : Bool). if t then Some best else None) e ∙ ap Some (sym is)) h.rounded
 
+  -- what is known then, with no proof and with one
+  pub known-none : lead.is_proved ≡ false → shown_value lead.shown ≡ known_by n b fallback None
+  known-none e = h.known ∙ ap (λ (o : Option Proof). known_by n b fallback o) (ap (λ (t : Bool). if t then Some best else None) e)
+
+  pub known-some : lead.is_proved ≡ true → (p : Proof) → p ≡ best → shown_value lead.shown ≡ known_by n b fallback (Some p)
+  known-some e p is = h.known ∙ ap (λ (o : Option Proof). known_by n b fallback o) (ap (λ (t : Bool). if t then Some best else None) e ∙ ap Some (sym is))
+
 -- at least what the price proof shows is known
 pub price-known : (n : Net) (b : Box) (lp : Lp) (advice : Advice) (fallback : Shown) (o : Option Proof) → IsLimited n → IsProper n b
     → IsRounded n b (tried n lp advice) fallback o → IsAtMost (shown_by n b (price_proof n)) (known_by n b fallback o)

@@ -7,8 +7,8 @@
 //! multipliers of them, which are whole numbers, at four scales, and has `row_book` value each list of multipliers exactly: it
 //! answers the first of those that show the most of the box, where it is more than what was known. It tries the price proof
 //! too, which needs no advice: what flows through a pool costs at least what its cheapest feed costs. So whatever the advice,
-//! each box ends with at least that bound. [`Rounding`] keeps the memory of it. `price_law` says that the price proof is always
-//! in order.
+//! each box ends with at least that bound. [`Rounding`] keeps the memory of it, and what is known of the box that was rounded
+//! last. `price_law` says that the price proof is always in order.
 //!
 //! `specs/Programs.antt` says what a program is, `specs/Price.antt` and `specs/Tried.antt` which proofs are tried, and
 //! `specs/Answers.antt` what the answer is. How a program is solved is left to `lp_simplex`, which boxes are looked at to the

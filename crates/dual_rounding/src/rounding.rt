@@ -1,7 +1,7 @@
 //! The proof of a box, from an advice that nobody trusts.
 
 ghost use Rattle.std.specs.Prelude.{◌≡◌, ◌↔◌, ◌++◌, ◌∷◌, [], List, All, IfOk, OnOk, IfSome, IsTrue, option_map};
-ghost use Rattle.pool_model.specs.Network.{net_of};
+ghost use Rattle.pool_model.specs.Network.{IsLimited, net_of};
 ghost use Rattle.row_model.specs.Multipliers as multipliers;
 ghost use Rattle.row_model.specs.Multipliers.{shown_by};
 ghost use Rattle.box_space.specs.Views.{IsView, shown_box, shown_proof};
@@ -50,7 +50,8 @@ pub fn round(
     Rounding::new(alloc, net)?.round(net, v, lp, advice, fallback)
 }
 
-/// The memory in which proofs of a network's boxes are tried, and the network's price proof.
+/// The memory in which proofs of a network's boxes are tried, the network's price proof, and what is known of the box that was
+/// rounded last.
 #[derive(Drop)]
 pub struct Rounding {
     alloc: Global,
@@ -58,6 +59,7 @@ pub struct Rounding {
     pub(crate) price: Proof,
     tried: Proof,
     best: Proof,
+    pub(crate) known: Shown,
 }
 
 /// What is known of the box so far: what the best proof shows, or the fallback where there is no best proof yet.
@@ -78,6 +80,7 @@ impl Rounding {
             price: price_proof(alloc, net)?,
             tried: empty(alloc),
             best: empty(alloc),
+            known: Shown::Bound(i128::MIN),
         })
     }
 
@@ -98,16 +101,25 @@ impl Rounding {
             (known_by (net_of net.now) (shown_box v.now) (shown_value fallback) (option_map shown_proof o))) }
         ensures form { (form : forms.Form) → numbers lp.now ≡ form_rows (net_of net.now) form
             → IfOk result (λ o. IfSome o (λ p. All (λ q. IsTrue (has_row (net_of net.now) form q.row)) p.parts.items)) }
+        ensures known { IfOk result (λ o. shown_value self.new.known
+            ≡ known_by (net_of net.now) (shown_box v.now) (shown_value fallback) (option_map shown_proof o)) }
         ensures serves { Serves (net_of net.now) self.new }
     {
-        let _counts = net.counts();
         let lead = self.try_all(net, v, lp, advice, fallback)?;
+        self.known = lead.shown;
         if !lead.is_proved {
             return Ok(None);
         }
         let scale = self.best.scale;
         let parts = Vec::from_slice(self.alloc, self.best.parts.as_slice())?;
         Ok(Some(Proof { scale, parts }))
+    }
+
+    /// What is known of the box that was rounded last: what the answer shows of it, or the fallback where there was none.
+    pub fn known(&self) -> Shown
+        ensures { result ≡ self.now.known }
+    {
+        self.known
     }
 
     /// Tries all proofs, and says what is known then.
@@ -124,6 +136,7 @@ impl Rounding {
         ensures leads { IfOk result (λ lead. Leads (net_of net.now) (shown_box v.now)
             (tried (net_of net.now) lp.now advice.now) (shown_value fallback) lead (shown_proof self.new.best)) }
         ensures serves { Serves (net_of net.now) self.new }
+        ensures limited { OnOk result (IsLimited (net_of net.now)) }
     {
         let lead = Lead {
             shown: fallback,
@@ -149,6 +162,7 @@ impl Rounding {
             → Leads (net_of net.now) (shown_box v.now) tried fallback lead (shown_proof self.old.best)
             → Leads (net_of net.now) (shown_box v.now) (tried ++ shown_proof self.old.tried ∷ []) fallback result (shown_proof self.new.best) }
         ensures serves { Serves (net_of net.now) self.new }
+        ensures limited { IsLimited (net_of net.now) }
     {
         let Ok(shown) = value(net, v, &self.tried, &mut self.scratch) else {
             return lead;

@@ -14,5 +14,6 @@ pub mod WeightSums
 pub mod Parts
 pub mod Passing
 pub mod Least
+pub mod Costs
 pub mod AgreedFaults
 pub mod Narrowing

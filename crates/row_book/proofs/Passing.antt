@@ -2,10 +2,12 @@
 use Rattle.std.proofs.Common.{◌≡◌, ℕ, ◌+◌, ◌*◌, ◌^◌, ◌<◌, ◌≤◌, List, [], map, take, length, get_or, ℤ, pos, ◌+ℤ◌, ◌-ℤ◌, ◌*ℤ◌, unsigned_abs}
 use Rattle.std.proofs.Common.{Result, Ok, Err, IfOk, FitsSigned, arith, sym, ap, subst, ◌∙◌}
 use Rattle.std.specs.Int.{int_min}
+use Rattle.std.proofs.lemmas.Int.{unsigned_abs-mul}
 use Rattle.std.proofs.lemmas.List.{length-map, length-take-le}
 use mir.Syntax.{w128}
 use Rattle.exact_num.specs.declared.weight.Wide.{Wide}
 use Rattle.integers.specs.Sums.{int_sum_below, sum_below}
+use Rattle.integers.proofs.AtKey.{sum_below-same}
 use Rattle.integers.proofs.Ring.{additive}
 use Rattle.pool_model.specs.Network.{Net}
 use Rattle.row_model.specs.Multipliers as multipliers
@@ -16,15 +18,21 @@ use Rattle.box_space.specs.declared.multipliers.Part.{Part}
 use Rattle.row_book.specs.PartRows.{coef_at, constant_at}
 use Rattle.row_book.specs.PartSums.{number_of, weight_of}
 use Rattle.row_book.specs.Passing.{AreNarrow, AreSums, HasRoom, IsAdded}
-use Rattle.row_book.specs.Sizes.{cost_weight, end_size}
+use Rattle.row_book.specs.Sizes.{rests_weight, end_size}
 use Rattle.row_book.specs.declared.sums.Sums.{Sums}
 use Rattle.row_book.proofs.AllParts.{no_part}
 use Rattle.row_book.proofs.Parts.{ends-light, number-read, number-fits, constants_size, rest-more, constants-more, weight-more}
 use Rattle.row_book.proofs.WeightSums.{weight-parts}
 
--- the costs alone
-pub weight-none : (n : Net) (b : Box) (scale : ℕ) → cost_weight n b scale (variables n) ≡ weight_of n b record { scale = scale; parts = [] }
-weight-none n b scale = omega (arith, weight-parts (by_number n (costs n)) (end_size n b) (coef_at n b) (constant_at n b) (variables n) scale [])
+-- the scaled costs alone
+pub weight-none : (n : Net) (b : Box) (scale : ℕ) (rests : List ℤ) → ((v : ℕ) → v < variables n → get_or rests v (pos 0) ≡ pos scale *ℤ by_number n (costs n) v)
+    → rests_weight n b rests (variables n) ≡ weight_of n b record { scale = scale; parts = [] }
+weight-none n b scale rests costly = omega (
+  arith,
+  sum_below-same (λ v. unsigned_abs (get_or rests v (pos 0)) * end_size n b v) (λ v. scale * unsigned_abs (by_number n (costs n) v) * end_size n b v) (variables n)
+      (λ v lt. ap (λ z. unsigned_abs z * end_size n b v) (costly v lt) ∙ ap (λ z. z * end_size n b v) (unsigned_abs-mul (pos scale) (by_number n (costs n) v))),
+  weight-parts (by_number n (costs n)) (end_size n b) (coef_at n b) (constant_at n b) (variables n) scale [],
+)
 
 module _ (n : Net) (b : Box) (scale : ℕ) (parts : List Part) (k : ℕ) (lt : k < length parts) where
   count : length (take k (map shown_part parts)) ≡ k

@@ -1,10 +1,10 @@
 -- The weight of a proof, part by part and term by term, and the sums that its number is made of.
-use Rattle.std.specs.Prelude.{ℕ, ◌+◌, ◌*◌, max, List, ℤ, pos, unsigned_abs, ◌==◌, if◌then◌else◌}
+use Rattle.std.specs.Prelude.{ℕ, ◌+◌, ◌*◌, max, List, get_or, ℤ, pos, unsigned_abs, ◌==◌, if◌then◌else◌}
 use Rattle.std.specs.List.{sum_by}
 use Rattle.integers.specs.Sums.{int_sum_by, sum_below}
 use Rattle.pool_model.specs.Network.{Net}
 use Rattle.row_model.specs.Boxes.{Box}
-use Rattle.row_model.specs.Variables.{by_number, costs, lows, highs}
+use Rattle.row_model.specs.Variables.{by_number, lows, highs}
 use Rattle.box_space.specs.Lines.{Line}
 use Rattle.box_space.specs.declared.terms.Term.{Term}
 
@@ -12,9 +12,9 @@ use Rattle.box_space.specs.declared.terms.Term.{Term}
 abbrev pub end_size : Net → Box → ℕ → ℕ
 end_size n b v = max (unsigned_abs (by_number n (lows n b) v)) (unsigned_abs (by_number n (highs n b) v))
 
--- what the scaled costs of the first variables add to the weight
-abbrev pub cost_weight : Net → Box → ℕ → ℕ → ℕ
-cost_weight n b scale count = sum_below (λ v. scale * unsigned_abs (by_number n (costs n) v) * end_size n b v) count
+-- what the rests of the first variables weigh
+abbrev pub rests_weight : Net → Box → List ℤ → ℕ → ℕ
+rests_weight n b rests count = sum_below (λ v. unsigned_abs (get_or rests v (pos 0)) * end_size n b v) count
 
 -- what terms of a row add to the weight
 abbrev pub terms_weight : Net → Box → ℤ → List Term → ℕ

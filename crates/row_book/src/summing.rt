@@ -1,6 +1,6 @@
 //! The number of a proof, by one pass over its parts.
 
-ghost use Rattle.std.specs.Prelude.{◌≡◌, ◌^◌, ◌<◌, ◌≤◌, [], All, length, IfOk, IfErr, OnOk};
+ghost use Rattle.std.specs.Prelude.{◌≡◌, ℕ, ◌^◌, ◌<◌, ◌≤◌, [], All, length, get_or, pos, IfOk, IfErr, OnOk};
 ghost use Rattle.pool_model.specs.Network.{net_of};
 ghost use Rattle.row_model.specs.Catalogue as catalogue;
 ghost use Rattle.row_model.specs.Multipliers.{IsRising};
@@ -18,7 +18,7 @@ use crate::multiplying::{clear, fill_costs, more_product, sum_of_ends};
 use crate::ordered::{are_nonzero, may_stand};
 use crate::scratch::Scratch;
 use crate::sums::Sums;
-use crate::weighing::{add_row, weigh_costs};
+use crate::weighing::{add_row, weigh_rests};
 use blend_network::Network;
 use box_space::{BoxView, LinRow, Part, Proof};
 use exact_num::{Weight, Wide};
@@ -47,7 +47,7 @@ pub(crate) fn number(
     number
 }
 
-/// The same, by numbers and a row that are written over. Each of the proof's rows is written once.
+/// The same, by numbers that are 0 and a row, which are written over. Each of the proof's rows is written once.
 fn number_by(
     net: &Network,
     v: &BoxView,
@@ -57,6 +57,7 @@ fn number_by(
 ) -> Result<i128, ProofFault>
     requires view { IsView (net_of net.now) v.now }
     requires places { length rests.old ≡ variables (net_of net.now) }
+    requires zero { (i : ℕ) → i < variables (net_of net.now) → get_or rests.old i (pos 0) ≡ pos 0 }
     requires rising { IsRising (shown_proof proof.now).parts }
     requires known { All (λ q. q.row < catalogue.rows (net_of net.now)) (shown_proof proof.now).parts }
     requires few { length proof.now.parts.items ≤ 2 ^ 14 }
@@ -80,15 +81,16 @@ fn number_by(
     Ok(sum_of_ends(net, v, rests) - sums.constants)
 }
 
-/// Writes the scaled cost of each variable, and weighs them.
+/// Writes the scaled cost of each variable over zeros, and weighs them.
 fn sum_costs(net: &Network, v: &BoxView, scale: u64, rests: &mut [i128]) -> Result<Sums, Wide>
     requires view { IsView (net_of net.now) v.now }
     requires places { length rests.old ≡ variables (net_of net.now) }
+    requires zero { (i : ℕ) → i < variables (net_of net.now) → get_or rests.old i (pos 0) ≡ pos 0 }
     ensures { AreSums (net_of net.now) (shown_box v.now) scale [] rests.new result }
 {
     fill_costs(net, scale, rests);
     let mut weight = Weight::new();
-    weigh_costs(net, v, scale, &mut weight)?;
+    weigh_rests(net, v, rests, &mut weight)?;
     let constants = 0;
     Ok(Sums { weight, constants })
 }

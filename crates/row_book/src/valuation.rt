@@ -19,7 +19,8 @@ use blend_network::Network;
 use box_space::{BoxView, Proof};
 
 /// What the proof shows of the box, or its first fault. It takes no memory. It writes each of the proof's rows once, and goes once
-/// over its terms, for its kind, the weight and the number together; and it goes four times over the network's variables.
+/// over its terms, for its kind, the weight and the number together; and it goes three times over the network's variables, and
+/// asks for the ends of those alone that cost something, or of whose cost the rows leave something.
 pub fn value(
     net: &Network,
     v: &BoxView,
@@ -35,6 +36,7 @@ pub fn value(
         × (views.shown_value s ≡ multipliers.shown_by (net_of net.now) (shown_box v.now) (shown_proof proof.now))) }
     ensures fault { IfErr result (IsFirstFault (net_of net.now) (shown_box v.now) (shown_proof proof.now)) }
     ensures fits { Fits (net_of net.now) scratch.new }
+    ensures limited { IsLimited (net_of net.now) }
 {
     judged(net, v, proof, scratch)
 }

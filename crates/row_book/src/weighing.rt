@@ -8,27 +8,48 @@ ghost use Rattle.row_book.specs.Sizes as sizes;
 
 use crate::multiplying::less_product;
 use blend_network::Network;
-use box_space::{BoxView, LinRow, var_cost, var_ends, vars};
+use box_space::{BoxView, LinRow, var_ends, vars};
 use exact_num::{Weight, Wide};
 
-/// Adds the scaled costs, each times the larger end of its variable.
-pub(crate) fn weigh_costs(
+/// Adds the rests, each times the larger end of its variable.
+pub(crate) fn weigh_rests(
     net: &Network,
     v: &BoxView,
-    scale: u64,
+    rests: &[i128],
     weight: &mut Weight,
 ) -> Result<(), Wide>
     requires view { IsView (net_of net.now) v.now }
+    requires places { length rests.now ≡ variables (net_of net.now) }
     requires narrow { weight.old ≤ 2 ^ 126 }
-    ensures added { OnOk result (weight.new ≡ weight.old + sizes.cost_weight (net_of net.now) (shown_box v.now) scale (variables (net_of net.now))) }
+    ensures added { OnOk result (weight.new ≡ weight.old + sizes.rests_weight (net_of net.now) (shown_box v.now) rests.now (variables (net_of net.now))) }
     ensures narrow { OnOk result (weight.new ≤ 2 ^ 126) }
-    ensures wide { OnErr result (2 ^ 126 < weight.old + sizes.cost_weight (net_of net.now) (shown_box v.now) scale (variables (net_of net.now))) }
+    ensures wide { OnErr result (2 ^ 126 < weight.old + sizes.rests_weight (net_of net.now) (shown_box v.now) rests.now (variables (net_of net.now))) }
 {
     for var in 0..vars(net) {
-        let cost = scaled_size(scale, var_cost(net, var));
-        weight.add_product(cost, end_size(net, v, var))?;
+        add_end(net, v, var, rests[var as usize].unsigned_abs(), weight)?;
     }
     Ok(())
+}
+
+/// Adds a size times the larger end of a variable. A size of 0 adds nothing, wherever the ends are.
+fn add_end(
+    net: &Network,
+    v: &BoxView,
+    var: u32,
+    size: u128,
+    weight: &mut Weight,
+) -> Result<(), Wide>
+    requires view { IsView (net_of net.now) v.now }
+    requires known { var < variables (net_of net.now) }
+    requires narrow { weight.old ≤ 2 ^ 126 }
+    ensures added { OnOk result (weight.new ≡ weight.old + size * sizes.end_size (net_of net.now) (shown_box v.now) var) }
+    ensures narrow { OnOk result (weight.new ≤ 2 ^ 126) }
+    ensures wide { OnErr result (2 ^ 126 < weight.old + size * sizes.end_size (net_of net.now) (shown_box v.now) var) }
+{
+    if size == 0 {
+        return Ok(());
+    }
+    weight.add_product(size, end_size(net, v, var))
 }
 
 /// Adds a multiplied row to the weight, its constant and each coefficient times the larger end of its variable, and takes it off
@@ -72,13 +93,6 @@ fn end_size(net: &Network, v: &BoxView, var: u32) -> u128
 {
     let (low, high) = var_ends(net, v, var);
     low.unsigned_abs().max(high.unsigned_abs())
-}
-
-/// The size of a scaled cost.
-fn scaled_size(scale: u64, cost: i64) -> u128
-    ensures { result ≡ scale * unsigned_abs cost }
-{
-    u128::from(scale) * u128::from(cost.unsigned_abs())
 }
 
 /// The size of a multiplied coefficient.

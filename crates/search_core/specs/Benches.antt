@@ -3,12 +3,10 @@ use Rattle.std.specs.Prelude.{◌≡◌}
 use Rattle.pool_model.specs.Network.{Net}
 use Rattle.dual_rounding.specs.Programs.{IsOfNetwork, form_rows, numbers}
 use Rattle.dual_rounding.specs.Rooms.{Serves}
-use Rattle.row_book.specs.Fitting.{Fits}
 use Rattle.search_core.specs.declared.bench.Bench.{Bench}
 
--- the program is one of its form, and rounding and the scratch serve the network
+-- the program is one of its form, and rounding serves the network
 pub record IsBench (n : Net) (b : Bench) : Type 0 where
   pub network : IsOfNetwork n b.relaxation
   pub rows : numbers b.relaxation ≡ form_rows n b.form
   pub rounding : Serves n b.rounding
-  pub scratch : Fits n b.scratch

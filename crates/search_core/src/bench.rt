@@ -12,12 +12,11 @@ ghost use Rattle.search_core.specs.Benches.{IsBench};
 ghost use Rattle.search_core.specs.Given.{IsGiven};
 
 use blend_network::Network;
-use bounds::{raised, value_in};
 use box_space::{BoxEnds, Form, Proof};
 use dual_rounding::{Relaxation, Rounding};
 use edge_io::Memory;
 use lp_simplex::{Advice, Lp, advise, advise_from};
-use row_book::{Scratch, Shown};
+use row_book::Shown;
 use std::alloc::Global;
 
 /// A program of a form, which is written over for box after box, and the memory of rounding.
@@ -26,7 +25,6 @@ pub(crate) struct Bench {
     pub(crate) form: Form,
     pub(crate) relaxation: Relaxation,
     pub(crate) rounding: Rounding,
-    pub(crate) scratch: Scratch,
 }
 
 impl Bench {
@@ -47,7 +45,6 @@ impl Bench {
             form,
             relaxation: Relaxation::new(alloc, net, form, &view)?,
             rounding: Rounding::new(alloc, net)?,
-            scratch: Scratch::new(alloc, net)?,
         })
     }
 
@@ -117,25 +114,11 @@ impl Bench {
         self.round(net, ends, &advice, bound)
     }
 
-    /// What is known of a box then, in picos: what the proof shows, or the bound. None where it holds no plan.
-    pub(crate) fn worth(
-        &mut self,
-        net: &Network,
-        ends: &BoxEnds,
-        proof: &Option<Proof>,
-        bound: i128,
-    ) -> Option<i128>
-        requires ends { AreEnds (net_of net.now) ends.now }
-        requires bench { IsBench (net_of net.now) self.old }
-        ensures bench { IsBench (net_of net.now) self.new }
-        ensures form { self.new.form ≡ self.old.form }
-    {
-        match proof {
-            None => Some(bound),
-            Some(proof) => {
-                let shown = value_in(net, ends, proof, &mut self.scratch);
-                raised(Some(bound), shown.ok())
-            }
+    /// What is known of the box that was rounded last, in picos: what the proof shows, or the bound. None where it holds no plan.
+    pub(crate) fn worth(&self) -> Option<i128> {
+        match self.rounding.known() {
+            Shown::Bound(bound) => Some(bound),
+            Shown::NoPlan => None,
         }
     }
 }

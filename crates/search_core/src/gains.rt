@@ -2,6 +2,7 @@
 //! programming, 1971, read from the bounds of the nodes.
 
 use crate::search::Search;
+use crate::square_root::square_root;
 use lp_factors::fixed::clamped;
 use lp_factors::lookup::{at, put};
 use std::alloc::{AllocError, Global};
@@ -62,7 +63,7 @@ impl Gains {
     /// Adds a cut: the geometric mean of what its halves gained, and a tenth of the greater.
     fn add(&mut self, coord: u32, left: i64, right: i64) {
         let product = u128::from(left.unsigned_abs()).saturating_mul(right.unsigned_abs().into());
-        let mean = clamped(i128::try_from(product.isqrt()).unwrap_or(0));
+        let mean = clamped(square_root(product).into());
         let gained = i128::from(mean).saturating_add(i128::from(left.max(right) / 10));
         let place = coord as usize;
         let sum = at(&self.sums, place, 0).saturating_add(gained);

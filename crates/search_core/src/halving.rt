@@ -49,9 +49,9 @@ impl Bench {
         let (below, above) = halves(alloc, &leaf.ends, coord, cut)?;
         let basis = leaf.advice.basis.as_slice();
         let left = self.prove(alloc, net, &below, basis, pivots, leaf.bound)?;
-        let left_bound = self.worth(net, &below, &left, leaf.bound);
+        let left_bound = self.worth();
         let right = self.prove(alloc, net, &above, basis, pivots, leaf.bound)?;
-        let right_bound = self.worth(net, &above, &right, leaf.bound);
+        let right_bound = self.worth();
         Ok(Halving {
             coord,
             left,

@@ -43,6 +43,7 @@ mod repairing;
 mod score;
 mod search;
 mod splitting;
+mod square_root;
 #[cfg(test)]
 mod tests;
 mod violation;

@@ -12,6 +12,7 @@ use crate::bench::Bench;
 use crate::gains::Gains;
 use crate::leaf::{Leaf, ends_at, root_ends_at};
 use crate::search::Search;
+use crate::square_root::square_root;
 use crate::violation::{mixed_violations, path_violations};
 use blend_network::Network;
 use box_space::{BoxEnds, Coord, Form, can_cut, coord_at, coords, of_form};
@@ -85,5 +86,5 @@ fn width_left(width: i128, root_width: i128) -> i128 {
         .unbounded_shl(40)
         .checked_div(root_width.max(1))
         .unwrap_or(0);
-    i128::try_from(part.unsigned_abs().isqrt()).unwrap_or(0)
+    square_root(part.unsigned_abs()).into()
 }

@@ -1,9 +1,9 @@
 //! By how much the products of a program are violated at a point, by coordinate.
 
-ghost use Rattle.std.specs.Prelude.{◌<◌, length};
+ghost use Rattle.std.specs.Prelude.{◌<◌};
 ghost use Rattle.pool_model.specs.Network.{net_of};
-ghost use Rattle.pool_model.specs.Paths.{paths_of};
 
+use crate::square_root::square_root;
 use blend_network::Network;
 use box_space::{Block, coords, flow_coordinate, quality_coordinate, variable_number};
 use lp_factors::fixed::clamped;
@@ -62,8 +62,8 @@ pub(crate) fn mixed_violations(
 /// What the weights of paths are made of.
 #[derive(Drop)]
 struct Worths {
-    /// The mean of each quality in each pool, by pool and then quality, in parts of 2^20.
-    qualities: Vec<i128>,
+    /// How far the qualities of each feed are from the means of its pool, in thousandths, and 1 more.
+    feeds: Vec<u64>,
     /// What a unit along each path is worth by the duals of the rows without envelopes, in parts of 2^20.
     paths: Vec<i128>,
     /// The mean of the paths of each out.
@@ -71,7 +71,7 @@ struct Worths {
 }
 
 impl Worths {
-    /// The means and the values, of a point and its duals.
+    /// The distances and the values, of a point and its duals.
     fn new(
         alloc: Global,
         net: &Network,
@@ -80,10 +80,22 @@ impl Worths {
     ) -> Result<Worths, AllocError> {
         let paths = path_values(alloc, net, program, advice)?;
         Ok(Worths {
-            qualities: pool_qualities(alloc, net, advice)?,
+            feeds: feed_distances(alloc, net, advice)?,
             outs: out_values(alloc, net, advice, paths.as_slice())?,
             paths,
         })
+    }
+
+    /// The weight of a path of a feed and an out: f^(5/8) * v^(3/8), for f how far the feed's qualities are from the pool's means,
+    /// and v how far the path's value is from the mean of its out.
+    fn weight(&self, path: u32, feed: u32, out: u32) -> u64 {
+        let value = at(self.paths.as_slice(), path as usize, 0);
+        let mean = at(self.outs.as_slice(), out as usize, 0);
+        let apart = value.wrapping_sub(mean).wrapping_abs().unbounded_shr(20);
+        let apart = clamped(apart).max(0).unsigned_abs().saturating_add(1);
+        let far = at(self.feeds.as_slice(), feed as usize, 1);
+        let half = root(far, apart);
+        root(half, root(far, half)).saturating_add(1)
     }
 }
 
@@ -104,49 +116,49 @@ pub(crate) fn path_violations(
         let along = point_at(advice, variable_number(net, Block::Paths, path));
         let product = share.unbounded_shr(10).wrapping_mul(flow.unbounded_shr(10)) / GRAIN;
         let gap = along.wrapping_sub(product).wrapping_abs().unbounded_shr(10);
-        let gap = i128::from(clamped(gap).min(MOST_VIOLATION));
-        let weight = i128::from(weight_of(net, &worths, path).min(MOST_WEIGHT));
-        add(&mut sums, feed, gap.wrapping_mul(weight));
-        add(
-            &mut sums,
-            flow_coordinate(net, out),
-            gap.wrapping_mul(weight),
-        );
+        // most paths are not violated, and need no weight
+        if gap != 0 {
+            let gap = i128::from(clamped(gap).min(MOST_VIOLATION));
+            let weight = i128::from(worths.weight(path, feed, out).min(MOST_WEIGHT));
+            let weighed = gap.wrapping_mul(weight);
+            add(&mut sums, feed, weighed);
+            add(&mut sums, flow_coordinate(net, out), weighed);
+        }
     }
     Ok(sums)
 }
 
-/// The weight of a path: f^(5/8) * v^(3/8), for f how far the feed's qualities are from the pool's means, and v how far the path's
-/// value is from the mean of its out.
-fn weight_of(net: &Network, worths: &Worths, path: u32) -> u64
-    requires { path < length (paths_of (net_of net.now)) }
+/// The geometric mean of two numbers, rounded down.
+fn root(a: u64, b: u64) -> u64 {
+    square_root(u128::from(a).saturating_mul(u128::from(b)))
+}
+
+/// How far the qualities of each feed are from the means of its pool, in thousandths, and 1 more.
+fn feed_distances(alloc: Global, net: &Network, advice: &Advice) -> Result<Vec<u64>, AllocError> {
+    let means = pool_qualities(alloc, net, advice)?;
+    let mut distances = Vec::new(alloc);
+    for feed in 0..net.sizes().feeds {
+        distances.push(feed_distance(net, means.as_slice(), feed))?;
+    }
+    Ok(distances)
+}
+
+/// How far the qualities of a feed are from the means of its pool, in thousandths, and 1 more.
+fn feed_distance(net: &Network, means: &[i128], feed: u32) -> u64
+    requires { feed < (net_of net.now).feeds }
 {
     let counts = net.sizes();
-    let (feed, out) = net.path(path);
     let (source, pool) = net.feed(feed);
     let mut far = 1i128;
     for quality in 0..counts.qualities {
         let own = i128::from(net.source_quality(source, quality)).wrapping_mul(GRAIN);
-        let place = (pool * counts.qualities + quality) as usize;
-        let mean = at(worths.qualities.as_slice(), place, 0);
+        let mean = at(means, (pool * counts.qualities + quality) as usize, 0);
         far = far.saturating_add(own.wrapping_sub(mean).wrapping_abs().unbounded_shr(20));
     }
-    let value = at(worths.paths.as_slice(), path as usize, 0);
-    let mean = at(worths.outs.as_slice(), out as usize, 0);
-    let apart = value.wrapping_sub(mean).wrapping_abs().unbounded_shr(20);
-    let far = clamped(far / 1000).max(0).unsigned_abs().saturating_add(1);
-    let apart = clamped(apart).max(0).unsigned_abs().saturating_add(1);
-    let half = root(far, apart);
-    root(half, root(far, half)).saturating_add(1)
+    clamped(far / 1000).max(0).unsigned_abs().saturating_add(1)
 }
 
-/// The geometric mean of two numbers, rounded down.
-fn root(a: u64, b: u64) -> u64 {
-    let product = u128::from(a).saturating_mul(u128::from(b));
-    u64::try_from(product.isqrt()).unwrap_or(u64::MAX)
-}
-
-/// The mean of each quality in each pool, by its feeds' proportions.
+/// The mean of each quality in each pool, in parts of 2^20, by pool and then quality, by its feeds' proportions.
 fn pool_qualities(alloc: Global, net: &Network, advice: &Advice) -> Result<Vec<i128>, AllocError> {
     let counts = net.sizes();
     let mut means = vec![in alloc; 0i128; (counts.pools * counts.qualities) as usize]?;
