@@ -28,7 +28,8 @@ impl Tree {
     /// entry, and the tree is as it was.
     ///
     /// A split takes a step for each split above its leaf, up to the innermost one on its coordinate, some to put its halves among the
-    /// leaves, and memory for itself and two nodes. For each half that has a proof it also builds the half's box, from the leaf up to the root, and values the proof there.
+    /// leaves, and memory for itself and two nodes. For each half that has a proof it also builds the half's box, from the leaf up to the
+    /// root, and values the proof there.
     pub fn apply(&mut self, net: &Network, entry: Entry) -> Result<(), EntryFault>
         requires { IsOf (net_of net.now) self.old }
         ensures ok { IfOk result (λ _. searched_of self.new.kept ≡ after (searched_of self.old.kept) (shown_entry entry)) }
