@@ -1,24 +1,16 @@
 -- Proof lines: the proof of a node, and the lines that are read.
-use Rattle.std.proofs.Common.{◌≡◌, ◌≢◌, ℕ, zero, suc, ◌+◌, ◌-◌, ◌<◌, ◌≤◌, inl, inr, List, [], ◌∷◌, length, map, get_or, All, None, Some, arith, refl, sym, ap, subst, ◌∙◌}
-use Rattle.std.proofs.lemmas.List.{get_or-map}
+use Rattle.std.proofs.Common.{◌≡◌, ◌≢◌, ℕ, zero, suc, ◌+◌, ◌-◌, ◌<◌, ◌≤◌, inl, inr, List, [], ◌∷◌, length, get_or, All, None, Some, arith, refl, sym, subst, ◌∙◌}
 use Rattle.std.proofs.lemmas.List.Elements.{All-from_get_or, All-get_or}
 use Rattle.std.proofs.lemmas.Option.{none-some}
 use Rattle.std.proofs.lemmas.Bool.{cases_lt}
 use Rattle.integers.proofs.AtKey.{same_or_other, chosen, passed}
 use Rattle.row_model.specs.Multipliers.{Proof}
 use Rattle.row_model.specs.Trees.{Split, nodes}
-use Rattle.cert_format.specs.declared.certificate.NodeProof as declared
-use Rattle.cert_format.specs.Views.{shown_node_proof}
 use Rattle.cert_format.specs.Cert.{NodeProof}
 use Rattle.cert_format.specs.Valid.{proof_of, no_proof, IsRising}
 use Rattle.cert_checker.specs.Refusals.{node_at, IsPlaced}
 use Rattle.cert_checker.specs.Trees.{ArePlaced}
 use Rattle.cert_checker.specs.Judging.{IsNext}
-
--- a line that is read from a list
-pub line-is : (lines : List declared.NodeProof) (k : ℕ) (line : declared.NodeProof) → k < length lines → line ≡ get_or lines k line
-    → get_or (map shown_node_proof lines) k no_proof ≡ shown_node_proof line
-line-is lines k line h e = get_or-map shown_node_proof lines k line no_proof h ∙ ap shown_node_proof (sym e)
 
 rising_tail : (p : NodeProof) (lines : List NodeProof) → IsRising (p ∷ lines) → IsRising lines
 rising_tail p lines rising i j h k = rising (suc i) (suc j) (omega arith) (omega arith)
@@ -70,9 +62,6 @@ all-placed splits lines k placed h = record {
   known = All-get_or (λ p. p.node < nodes splits) lines k no_proof h placed.known;
   above = λ j e. placed.rising j k (omega arith) h;
 }
-
-pub none-placed : (splits : List Split) → ArePlaced splits []
-none-placed splits = placed-all splits [] (λ k h. absurd (omega arith))
 
 -- ---- lines that are read
 

@@ -1,6 +1,5 @@
 -- The first cause to refuse a certificate, and that there is none for a valid one.
 use Rattle.std.proofs.Common.{◌≡◌, ◌≢◌, ℕ, suc, ◌<◌, inl, inr, List, [], ◌∷◌, Option, None, Some, ℤ, arith, refl, sym, ap, subst, ◌∙◌}
-use Rattle.std.specs.Prelude.{Result, Ok, Err, IfOk, IfErr}
 use Rattle.std.proofs.lemmas.Option.{none-some, same_Some}
 use Rattle.integers.proofs.Ring.{additive}
 use Rattle.faults.specs.First.{IsBelow}
@@ -16,8 +15,6 @@ use Rattle.plan_core.specs.declared.fault.PlanFault.{PlanFault}
 use Rattle.plan_core.specs.declared.fault.PlanFault.TheVariants as faults
 use Rattle.cert_format.specs.Cert.{Cert, NodeProof}
 use Rattle.cert_format.specs.Valid.{tree_of, IsShown, IsValid}
-use Rattle.cert_checker.specs.declared.verdict.Verdict.{Verdict}
-use Rattle.cert_checker.specs.Answers.{verdict_of, Spells, IsRefused, IsTakenAs}
 use Rattle.cert_checker.specs.declared.refusal.Refusal.{Refusal}
 use Rattle.cert_checker.specs.declared.refusal.Refusal.TheVariants.{Text, Shape, Plan, Split as SplitAt, ProofPlace, Proof as ProofOf, WrongKind, WrongCost, WrongBound, WrongGap, Memory}
 use Rattle.cert_checker.specs.Refusals.{HasPlanFault, IsWrongKind, IsWrongCost, IsWrongBound, IsWrongGap, Refuses, number, about, IsFirstRefusal}
@@ -250,33 +247,15 @@ claim_gap n tree (with_gap plan cost base bound gap) is h = h is.gap_is
 claim_gap n tree (with_bound bound) is h = h
 claim_gap n tree no_plan is h = h
 
-valid_clear : (n : Net) (c : Cert) (r : Refusal) → IsValid n c → ¬ Refuses n c r
-valid_clear n c (Text f) is h = h
-valid_clear n c Shape is h = h is.shape
-valid_clear n c (Plan f) is h = claim_plan n (tree_of c) c.claim f is.claim h
-valid_clear n c (SplitAt t) is h = clear_splits n c record { few = is.tree.few; in_order = is.tree.splits } (SplitAt t) refl h
-valid_clear n c (ProofPlace k) is h = clear_places n c record { known = is.placed; rising = is.rising } (ProofPlace k) refl h
-valid_clear n c (ProofOf node f) is h = clear_proofs n c is.tree.proofs (ProofOf node f) refl h
-valid_clear n c WrongKind is h = claim_kind n (tree_of c) c.claim is.claim h
-valid_clear n c WrongCost is h = claim_cost n (tree_of c) c.claim is.claim h
-valid_clear n c WrongBound is h = claim_bound n (tree_of c) c.claim is.claim h
-valid_clear n c WrongGap is h = claim_gap n (tree_of c) c.claim is.claim h
-valid_clear n c Memory is h = h
-
-memory_or : (r : Refusal) (X : Type 0) → (r ≡ Memory → X) → ((r ≢ Memory) → X) → X
-memory_or Memory X h k = h refl
-memory_or _ X h k = k (λ e. cc)
-
--- the first cause that a certificate gives is that of its text
-pub text-refused : (n : Net) (bytes : List ℕ) (c : Cert) (r : Result Verdict Refusal) → Spells bytes c → IfErr r (λ e. e ≢ Memory → IsFirstRefusal n c e) → IfErr r (IsRefused n bytes)
-text-refused n bytes c (Ok v) spelled h = tt
-text-refused n bytes c (Err e) spelled h = cases e h
-  where
-    cases : (e : Refusal) → (e ≢ Memory → IsFirstRefusal n c e) → IsRefused n bytes e
-    cases (Text f) h = absurd (h (λ e. cc)).holds
-    cases Memory h = tt
-    cases _ h = record { cert = c; spelled = spelled; first = h (λ e. cc) }
-
-pub taken : (n : Net) (c : Cert) (r : Result Verdict Refusal) → IsValid n c → IfOk r (λ v. v ≡ verdict_of c.claim) → IfErr r (λ e. e ≢ Memory → IsFirstRefusal n c e) → IsTakenAs c.claim r
-taken n c (Ok v) is h k = h
-taken n c (Err e) is h k = memory_or e (e ≡ Memory) (λ x. x) (λ other. absurd (valid_clear n c e is (k other).holds))
+pub valid-clear : (n : Net) (c : Cert) (r : Refusal) → IsValid n c → ¬ Refuses n c r
+valid-clear n c (Text f) is h = h
+valid-clear n c Shape is h = h is.shape
+valid-clear n c (Plan f) is h = claim_plan n (tree_of c) c.claim f is.claim h
+valid-clear n c (SplitAt t) is h = clear_splits n c record { few = is.tree.few; in_order = is.tree.splits } (SplitAt t) refl h
+valid-clear n c (ProofPlace k) is h = clear_places n c record { known = is.placed; rising = is.rising } (ProofPlace k) refl h
+valid-clear n c (ProofOf node f) is h = clear_proofs n c is.tree.proofs (ProofOf node f) refl h
+valid-clear n c WrongKind is h = claim_kind n (tree_of c) c.claim is.claim h
+valid-clear n c WrongCost is h = claim_cost n (tree_of c) c.claim is.claim h
+valid-clear n c WrongBound is h = claim_bound n (tree_of c) c.claim is.claim h
+valid-clear n c WrongGap is h = claim_gap n (tree_of c) c.claim is.claim h
+valid-clear n c Memory is h = h

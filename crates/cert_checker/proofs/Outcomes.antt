@@ -5,17 +5,12 @@ use Rattle.row_model.specs.Trees.{Split, nodes, tree_bound}
 use Rattle.split_tree.specs.Splits.{Splits, IsOf}
 use Rattle.cert_format.specs.Cert.{NodeProof}
 use Rattle.cert_checker.specs.declared.refusal.Refusal.{Refusal}
-use Rattle.cert_checker.specs.declared.refusal.Refusal.TheVariants.{Split as SplitAt, Proof as ProofOf, Memory}
-use Rattle.cert_checker.specs.Trees.{AreSplits, ArePlaced, AreProved, IsBoundOf, IsSplitRefusal, IsProofRefusal, IsTreeRefusal, tree_with}
+use Rattle.cert_checker.specs.declared.refusal.Refusal.TheVariants.{Proof as ProofOf, Memory}
+use Rattle.cert_checker.specs.Trees.{AreSplits, ArePlaced, AreProved, IsBoundOf, IsProofRefusal, IsTreeRefusal, tree_with}
 use Rattle.cert_checker.proofs.Lines.{proof-known}
 
 pub splits-of : (n : Net) (t : Splits) → IsOf n t → AreSplits n t.list
 splits-of n t is = record { few = is.few; in_order = is.in_order }
-
-pub split-tree : (n : Net) (splits : List Split) (lines : List NodeProof) (r : Refusal) → IsSplitRefusal n splits r → IsTreeRefusal n splits lines r
-split-tree n splits lines (SplitAt t) h = h
-split-tree n splits lines Memory h = tt
-split-tree n splits lines _ h = absurd h
 
 pub proof-tree : (n : Net) (splits : List Split) (lines : List NodeProof) (r : Refusal) → AreSplits n splits → ArePlaced splits lines
     → IsProofRefusal n (tree_with splits lines) r → IsTreeRefusal n splits lines r

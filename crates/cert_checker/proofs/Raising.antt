@@ -1,13 +1,13 @@
 -- Bounds of nodes, one after another, and the least of them.
 use Rattle.std.proofs.Common.{◌≡◌, ℕ, zero, suc, ◌+◌, ◌-◌, ◌*◌, ◌/◌, ◌<◌, ◌≤◌, ◌⊎◌, inl, inr, if◌then◌else◌, [], ◌∷◌}
-use Rattle.std.proofs.Common.{◌++◌, List, length, get_or, Option, None, Some, ℤ, arith, refl, sym, ap, subst, ◌∙◌, add-one, length-append}
+use Rattle.std.proofs.Common.{◌++◌, List, length, get_or, Option, None, Some, ℤ, arith, refl, sym, ap, subst, ◌∙◌, length-append}
 use Rattle.std.specs.Option.{ForSome}
 use Rattle.std.proofs.lemmas.List.{get_or_append_left}
 use Rattle.std.proofs.Math.Seq.{get_or-append_seam}
 use Rattle.integers.proofs.AtKey.{same_or_other}
 use Rattle.pool_model.specs.Network.{Net}
 use Rattle.pool_model.proofs.Reach.{least_below-same}
-use Rattle.pool_model.specs.Starting.{lesser, least_below, reach_bound}
+use Rattle.pool_model.specs.Starting.{least_below, reach_bound}
 use Rattle.row_model.specs.Multipliers.{IsInOrder, Shown}
 use Rattle.row_model.specs.Trees.{Split, Tree, split_at, left_node, right_node, nodes, is_cut, raised, own, bound_after, node_bound, box_of, leaf_bound, tree_bound}
 use Rattle.row_model.proofs.TreeBound.{old_bound, new_left, new_right}
@@ -108,17 +108,6 @@ module _ (n : Net) (t : Splits) (lines : List NodeProof) (node : ℕ) (before af
       }
 
 -- ---- the least
-
--- a node that is cut adds nothing
-pub least-cut : (f : ℕ → Option ℤ) (i : ℕ) (least : Option ℤ) → least ≡ least_below f i → f i ≡ None → least ≡ least_below f (i + 1)
-least-cut f i least e none = e ∙ sym (ap (least_below f) (add-one i) ∙ ap (lesser (least_below f i)) none ∙ kept (least_below f i))
-  where
-    kept : (o : Option ℤ) → lesser o None ≡ o
-    kept None = refl
-    kept (Some z) = refl
-
-pub least-more : (f : ℕ → Option ℤ) (i : ℕ) (least x : Option ℤ) → least ≡ least_below f i → f i ≡ x → lesser least x ≡ least_below f (i + 1)
-least-more f i least x e here = ap (λ o. lesser o x) e ∙ sym (ap (least_below f) (add-one i) ∙ ap (lesser (least_below f i)) here)
 
 -- the least of the bounds of the nodes that are not cut is the tree's
 pub least-tree : (n : Net) (tree : Tree) (bounds : List (Option ℤ)) → AreBounds n tree bounds

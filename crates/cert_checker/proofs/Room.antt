@@ -1,5 +1,5 @@
 -- A bound over the base of a plan's cost has 128 bits: it is no greater than the cost, and no lower than the reach bound allows.
-use Rattle.std.proofs.Common.{◌≡◌, ℕ, suc, ◌*◌, ◌^◌, ◌≤◌, Some, None, Option, ℤ, pos, negsuc, neg_ℤ, ◌*ℤ◌, ◌≤ℤ◌, FitsSigned, unsigned_abs, arith, sym, ap, subst, ◌∙◌}
+use Rattle.std.proofs.Common.{◌≡◌, ℕ, suc, ◌*◌, ◌^◌, ◌≤◌, Some, None, Option, ℤ, pos, negsuc, neg_ℤ, ◌*ℤ◌, ◌≤ℤ◌, FitsSigned, unsigned_abs, arith, sym, subst, ◌∙◌}
 use Rattle.std.specs.Int.{w128}
 use Rattle.std.proofs.lemmas.Option.{none-some, same_Some}
 use Rattle.pool_model.specs.Claim.{Claimed, with_gap, with_bound, no_plan}

@@ -1,12 +1,9 @@
 -- Splits that are taken one after another.
-use Rattle.std.proofs.Common.{◌≡◌, ℕ, ◌+◌, ◌<◌, ◌≤◌, ◌⊎◌, inl, inr, List, [], ◌∷◌, ◌++◌, length, take, map, get_or, arith, sym, ap, subst, ◌∙◌, add-one}
-use Rattle.std.proofs.lemmas.List.{get_or-map}
+use Rattle.std.proofs.Common.{◌≡◌, ℕ, ◌+◌, ◌<◌, ◌≤◌, ◌⊎◌, inl, inr, List, [], ◌∷◌, ◌++◌, length, take, arith, sym, ap, subst, ◌∙◌, add-one}
 use Rattle.std.proofs.Math.Seq.{take-suc}
 use Rattle.pool_model.specs.Network.{Net}
 use Rattle.row_model.specs.Trees.{Split, no_split, split_at, most_splits, CutsLeaf, box_after, IsSplitInOrder}
 use Rattle.row_model.proofs.TreeLaw.{length_before}
-use Rattle.box_space.specs.declared.coordinates.Split as declared
-use Rattle.box_space.specs.Views.{shown_split}
 use Rattle.split_tree.specs.Faults.{Holds}
 use Rattle.split_tree.specs.declared.fault.SplitFault.{SplitFault}
 use Rattle.split_tree.specs.declared.fault.SplitFault.TheVariants.{NotALeaf, BadCoord, CutOutside, TooManySplits}
@@ -18,10 +15,6 @@ use Rattle.cert_checker.proofs.Within.{box_within, order-within}
 pub record AreTaken (n : Net) (splits : List Split) (t : ℕ) (tree : Splits) : Type 0 where
   pub list : tree.list ≡ take t splits
   pub is : IsOf n tree
-
--- a split that is read from a list
-pub split-is : (splits : List declared.Split) (t : ℕ) (d : declared.Split) → t < length splits → split_at (map shown_split splits) t ≡ shown_split (get_or splits t d)
-split-is splits t d h = get_or-map shown_split splits t d no_split h
 
 -- to come next after the first splits is to be in order
 next_is : (n : Net) (splits : List Split) (t : ℕ) → t ≤ length splits → MayCome n (take t splits) (split_at splits t) ≡ IsSplitInOrder n splits t

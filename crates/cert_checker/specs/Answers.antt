@@ -3,8 +3,6 @@ use Rattle.std.specs.Prelude.{◌≡◌, ℕ, List, Result, Ok, Err}
 use Rattle.pool_model.specs.Network.{Net}
 use Rattle.pool_model.specs.Claim.{Claimed, with_gap, with_bound, no_plan}
 use Rattle.cert_text.specs.Lines.{IsFaultyLine}
-use Rattle.cert_format.specs.declared.fault.ReadCert as reading
-use Rattle.cert_format.specs.declared.fault.ReadCert.TheVariants as readings
 use Rattle.cert_format.specs.Cert.{Cert, IsCert}
 use Rattle.cert_format.specs.Text.{text_of}
 use Rattle.cert_format.specs.Valid.{IsValid}
@@ -13,11 +11,6 @@ use Rattle.cert_checker.specs.declared.refusal.Refusal.TheVariants.{Text, Memory
 use Rattle.cert_checker.specs.declared.verdict.Verdict.{Verdict}
 use Rattle.cert_checker.specs.declared.verdict.Verdict.TheVariants as verdicts
 use Rattle.cert_checker.specs.Refusals.{IsFirstRefusal}
-
--- the refusal for what could not be read
-abbrev pub of_reading : reading.ReadCert → Refusal
-of_reading (readings.Text fault) = Text fault
-of_reading readings.Memory = Memory
 
 -- the numbers of a claim
 abbrev pub verdict_of : Claimed → Verdict

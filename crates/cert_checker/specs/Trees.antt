@@ -55,12 +55,6 @@ pub record AreBounds (n : Net) (tree : Tree) (bounds : List (Option ℤ)) : Type
 
 -- ---- the first cause to refuse a part of a tree; want of memory says nothing
 
--- the first wrong split
-abbrev pub IsSplitRefusal : Net → List Split → Refusal → Type 0
-IsSplitRefusal n splits (SplitAt t) = IsFirstSplit n splits t
-IsSplitRefusal n splits Memory = Unit {0}
-IsSplitRefusal n splits _ = ⊥
-
 -- the first node whose proof is not in order
 abbrev pub IsProofRefusal : Net → Tree → Refusal → Type 0
 IsProofRefusal n tree (ProofOf node fault) = IsWrongProof n tree node fault × AreProved n tree node

@@ -2,27 +2,14 @@
 
 ghost use Rattle.std.specs.Prelude.{◌≡◌, ◌≢◌, pos, ◌-ℤ◌, ◌*ℤ◌, FitsSigned, IfOk, IfErr};
 ghost use Rattle.std.specs.Int.{w128};
-ghost use Rattle.pool_model.specs.Network.{net_of};
 ghost use Rattle.cert_format.specs.Views.{shown_claim};
 ghost use Rattle.cert_checker.specs.Answers.{verdict_of};
-ghost use Rattle.cert_checker.specs.Claims.{IsClaimCost, IsPlanRefusal, IsClaimRefusal, IsBoundRefusal, AreClaimed, HasRoom};
+ghost use Rattle.cert_checker.specs.Claims.{IsClaimRefusal, IsBoundRefusal, AreClaimed, HasRoom};
 
 use crate::refusal::Refusal;
 use crate::verdict::Verdict;
-use blend_network::Network;
 use cert_format::Claim;
-use plan_core::{Cost, check_plan};
-
-/// What the plan that is claimed costs, where there is one; Plan, exactly where it breaks a rule.
-pub(crate) fn plan_cost(net: &Network, claim: &Claim) -> Result<Option<Cost>, Refusal>
-    ensures cost { IfOk result (IsClaimCost (net_of net.now) (shown_claim claim.now)) }
-    ensures fault { IfErr result (IsPlanRefusal (net_of net.now) (shown_claim claim.now)) }
-{
-    match claim {
-        Claim::Gap { plan, .. } => Ok(Some(check_plan(net, plan)?)),
-        Claim::Bound { .. } | Claim::NoPlan => Ok(None),
-    }
-}
+use plan_core::Cost;
 
 /// The numbers of the claim, or the first of them that is not what the plan costs and the tree shows.
 pub(crate) fn check_claim(

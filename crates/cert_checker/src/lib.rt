@@ -1,27 +1,34 @@
 //! The checker of certificates.
 //!
-//! [`check`] reads a certificate of a network and answers a [`Verdict`], exactly where some certificate has this text and is
-//! valid: its plan obeys and costs what is claimed, its tree of boxes holds every plan, each proof on a box is in order there,
-//! and the bound is what they show together. Else it answers the first [`Refusal`] of a fixed order. What a valid certificate
-//! claims follows for every plan of the network.
+//! [`check`] goes over the text of a certificate of a network and answers a [`Verdict`], exactly where some certificate has this
+//! text and is valid: its plan obeys and costs what is claimed, its tree of boxes holds every plan, each proof on a box is in order
+//! there, and the bound is what they show together. Else it answers the first [`Refusal`] of a fixed order. [`check_stream`]
+//! answers the same of a certificate in an opened file, which it reads once and in pieces as they come. It keeps the plan, the
+//! splits, a bound for each node and the parts of one proof, however long the file is, and a refusal that it finds early waits for
+//! the end of the file. What a valid certificate claims follows for every plan of the network.
 //!
 //! It rests on the text, on the rules of plans and on the rows of the relaxations, and on nothing of the search that made
-//! the certificate. `specs/Refusals.antt` says when each refusal comes, `specs/Answers.antt` what an answer says of the text.
+//! the certificate. `specs/Refusals.antt` says when each refusal comes, `specs/Answers.antt` what an answer says of a text, and
+//! `specs/Streams.antt` what one says of a file.
 #![tactic(auto)]
 
 mod checking;
 mod claim;
 mod judge;
 mod laws;
+mod line_judge;
 mod nodes;
-mod places;
+mod opening;
 mod refusal;
-mod tree;
+mod steps;
+mod stream;
 mod verdict;
+mod walk;
 
 pub use checking::check;
 pub use laws::valid_law;
 pub use refusal::Refusal;
+pub use stream::{StreamRefusal, check_stream};
 pub use verdict::Verdict;
 
 #[cfg(test)]

@@ -1,11 +1,10 @@
 //! Why a certificate is refused.
 
 ghost use Rattle.std.specs.Prelude.{◌≡◌, ◌∷◌};
-ghost use Rattle.cert_checker.specs.Answers.{of_reading};
 ghost use Rattle.cert_checker.specs.Refusals.{about, number};
 ghost use Rattle.cert_checker.specs.declared.refusal.Refusal.TheVariants as refusals;
 
-use cert_format::{ReadCert, TextFault};
+use cert_format::TextFault;
 use edge_io::Memory;
 use faults::Ranked;
 use plan_core::PlanFault;
@@ -42,25 +41,6 @@ pub enum Refusal {
 
 impl Ranked for Refusal {
     ghost rank = { λ r. number r ∷ about r };
-}
-
-impl From<ReadCert> for Refusal {
-    ghost from_gives = { λ e r. r ≡ of_reading e };
-
-    fn from(e: ReadCert) -> Refusal {
-        match e {
-            ReadCert::Text(fault) => Refusal::Text(fault),
-            ReadCert::Memory => Refusal::Memory,
-        }
-    }
-}
-
-impl From<PlanFault> for Refusal {
-    ghost from_gives = { λ f r. r ≡ refusals.Plan f };
-
-    fn from(f: PlanFault) -> Refusal {
-        Refusal::Plan(f)
-    }
 }
 
 impl From<Memory> for Refusal {

@@ -1,22 +1,32 @@
--- The certificate that was read is the only one with this text.
-use Rattle.std.proofs.Common.{◌≡◌, ◌≢◌, subst}
-use Rattle.std.specs.Prelude.{IfOk, IfErr}
+-- The check of a text is that of a file that holds it.
+use Rattle.std.proofs.Common.{◌≡◌, List, ℕ, Some, Ok, Err, length, ap, subst, arith}
 use Rattle.pool_model.specs.Network.{net_of}
-use Rattle.cert_format.specs.Views.{shown_cert}
-use Rattle.cert_checker.specs.declared.refusal.Refusal.TheVariants.{Memory}
-use Rattle.cert_checker.specs.Answers.{verdict_of}
-use Rattle.cert_checker.specs.Refusals.{IsFirstRefusal}
-use Rattle.cert_checker.proofs.Order.{taken, text-refused}
+use Rattle.cert_checker.specs.declared.stream.StreamRefusal.{StreamRefusal}
+use Rattle.cert_checker.specs.Streams.{IsAnswer, IsStreamedAs}
+use Rattle.cert_checker.proofs.Texts.{text-answer, never-refused}
 use Rattle.cert_checker.proofs.checking.check.Goals as goal
 
-pub returns-clause-valid : goal.returns-clause-valid
-returns-clause-valid c = λ cert spelled valid.
-    let same : shown_cert c.in_ok-cert.cert ≡ cert = c.in_ok-cert.ensures.only cert spelled.is spelled.text in
-    taken (net_of c.args.net.now) cert c.check_certificate.result valid
-    (subst (λ x. IfOk c.check_certificate.result (λ v. v ≡ verdict_of x.claim)) same c.check_certificate.ensures.verdict)
-    (subst (λ x. IfErr c.check_certificate.result (λ e. e ≢ Memory → IsFirstRefusal (net_of c.args.net.now) x e)) same c.check_certificate.ensures.refused)
+pub returns-in-Ok-clause-accepted : goal.returns-in-Ok-clause-accepted
+returns-in-Ok-clause-accepted c =
+    let told : Some c.new-shelf.result.rest.now ≡ Some c.args.bytes.now = ap (λ (x : List ℕ). Some x) c.new-shelf.ensures.rest in
+    (text-answer (net_of c.args.net.now) c.args.bytes.now (Some c.new-shelf.result.rest.now) (length c.args.bytes.now) (Ok c.in-Ok.verdict) told c.in-Ok.ensures.checked).0
 
-pub returns-clause-refused : goal.returns-clause-refused
-returns-clause-refused c =
-    let found = c.in_ok-cert.ensures.found in
-    text-refused (net_of c.args.net.now) c.args.bytes.now (shown_cert c.in_ok-cert.cert) c.check_certificate.result record { is = found.0; text = found.1 } c.check_certificate.ensures.refused
+pub returns-in-Ok-clause-follows : goal.returns-in-Ok-clause-follows
+returns-in-Ok-clause-follows c =
+    let told : Some c.new-shelf.result.rest.now ≡ Some c.args.bytes.now = ap (λ (x : List ℕ). Some x) c.new-shelf.ensures.rest in
+    (text-answer (net_of c.args.net.now) c.args.bytes.now (Some c.new-shelf.result.rest.now) (length c.args.bytes.now) (Ok c.in-Ok.verdict) told c.in-Ok.ensures.checked).1
+
+pub returns-in-Ok-clause-valid : goal.returns-in-Ok-clause-valid
+returns-in-Ok-clause-valid c = λ cert spelled valid.
+    c.in-Ok.ensures.valid c.args.bytes.now cert (ap (λ (x : List ℕ). Some x) c.new-shelf.ensures.rest) (omega arith) spelled valid
+
+pub returns-in-Err-Refused-clause-refused : goal.returns-in-Err-Refused-clause-refused
+returns-in-Err-Refused-clause-refused c =
+    let told : Some c.new-shelf.result.rest.now ≡ Some c.args.bytes.now = ap (λ (x : List ℕ). Some x) c.new-shelf.ensures.rest in
+    let answer = text-answer (net_of c.args.net.now) c.args.bytes.now (Some c.new-shelf.result.rest.now) (length c.args.bytes.now) (Err c.in-Err-Refused.field-0) told c.in-Err-Refused.ensures.checked in
+    (subst (λ (s : StreamRefusal). IsAnswer (net_of c.args.net.now) c.args.bytes.now (length c.args.bytes.now) (Err s)) c.in-Err-Refused.field-0-is answer).0
+
+pub returns-in-Err-Refused-clause-valid : goal.returns-in-Err-Refused-clause-valid
+returns-in-Err-Refused-clause-valid c = λ cert spelled valid.
+    absurd (never-refused cert.claim c.in-Err-Refused.refusal (subst (λ (s : StreamRefusal). IsStreamedAs cert.claim (Err s)) c.in-Err-Refused.field-0-is
+    (c.in-Err-Refused.ensures.valid c.args.bytes.now cert (ap (λ (x : List ℕ). Some x) c.new-shelf.ensures.rest) (omega arith) spelled valid)))

@@ -1,9 +1,0 @@
-use Rattle.std.proofs.Common.{map}
-use Rattle.pool_model.specs.Network.{net_of}
-use Rattle.box_space.specs.Views.{shown_split}
-use Rattle.cert_checker.proofs.Taking.{AreTaken}
-use Rattle.cert_checker.proofs.tree.take_splits.Given as goal
-
--- the splits so far are taken
-abbrev pub invariant-loop-t : goal.invariant-loop-t
-invariant-loop-t l = AreTaken (net_of l.net) (map shown_split l.splits) l.t l.tree

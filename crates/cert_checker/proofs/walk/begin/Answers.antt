@@ -1,0 +1,66 @@
+-- The kind, and the network's counts.
+use Rattle.std.proofs.Common.{◌≡◌, ◌≢◌, sym, subst, ◌∙◌, rules}
+use Rattle.std.proofs.lemmas.Result.{err_from_is_err_and}
+use Rattle.pool_model.specs.Network.{Net, net_of}
+use Rattle.cert_stream.specs.declared.items.State.{State}
+use Rattle.cert_stream.specs.declared.items.State.TheVariants as states
+use Rattle.cert_stream.specs.Items.{kind, shape, shaped_state}
+use Rattle.cert_checker.specs.Grammar.{kind_of, behind_item}
+use Rattle.cert_checker.specs.Parts.{IsRefusedFront}
+use Rattle.cert_checker.specs.Runs.{Moment, moment, IsReady}
+use Rattle.cert_checker.proofs.Coming.{kind-known}
+use Rattle.cert_checker.proofs.Running.{failed-halts, failed-then, run-then}
+use Rattle.cert_checker.proofs.Walking.{shape-halts, begun}
+use Rattle.cert_checker.proofs.walk.begin.Goals as goal
+
+pub returns-in_err-kind-clause-begun : goal.returns-in_err-kind-clause-begun
+returns-in_err-kind-clause-begun g c =
+    let n : Net = net_of c.args.net.now in
+    let m : Moment = (moment g.S.Shelf.files g.S.Shelf.admits g.S.Shelf.rest g.S.Shelf.taken g.S.Shelf.faults c.args.reader.now c.args.shelf.now) in
+    let h : Moment = (moment g.S.Shelf.files g.S.Shelf.admits g.S.Shelf.rest g.S.Shelf.taken g.S.Shelf.faults c.kind.new.reader c.kind.new.shelf) in
+    let p = err_from_is_err_and c.from_residual.result c.from_residual.ensures.1 in
+    rw (p.1, p.2) (failed-halts (IsRefusedFront n) m h c.in_err-kind.field-0.0 c.in_err-kind.ensures)
+
+pub shape-requires-clause-asks : goal.shape-requires-clause-asks
+shape-requires-clause-asks g c =
+    let h : Moment = (moment g.S.Shelf.files g.S.Shelf.admits g.S.Shelf.rest g.S.Shelf.taken g.S.Shelf.faults c.kind.new.reader c.kind.new.shelf) in
+    let number = c.in_ok-kind.kind in
+    let headed : IsReady h (states.Shape (kind_of number)) = subst (λ (s : State). IsReady h (behind_item s (kind number))) c.requires.ready.at c.in_ok-kind.ensures.1 in
+    (kind_of number, headed.at)
+
+pub returns-in_err-shape-clause-begun : goal.returns-in_err-shape-clause-begun
+returns-in_err-shape-clause-begun g c =
+    let n : Net = net_of c.args.net.now in
+    let m : Moment = (moment g.S.Shelf.files g.S.Shelf.admits g.S.Shelf.rest g.S.Shelf.taken g.S.Shelf.faults c.args.reader.now c.args.shelf.now) in
+    let h : Moment = (moment g.S.Shelf.files g.S.Shelf.admits g.S.Shelf.rest g.S.Shelf.taken g.S.Shelf.faults c.kind.new.reader c.kind.new.shelf) in
+    let j : Moment = (moment g.S.Shelf.files g.S.Shelf.admits g.S.Shelf.rest g.S.Shelf.taken g.S.Shelf.faults c.shape.new.reader c.shape.new.shelf) in
+    let p = err_from_is_err_and c.from_residual-in_err-shape.result c.from_residual-in_err-shape.ensures.1 in
+    rw (p.1, p.2) (failed-halts (IsRefusedFront n) m j c.in_err-shape.field-0.0 (failed-then m h j _ c.in_err-shape.field-0.0 c.in_ok-kind.ensures.0 c.in_err-shape.ensures))
+
+pub returns-then-ne-clause-begun : goal.returns-then-ne-clause-begun
+returns-then-ne-clause-begun g c =
+    let n : Net = net_of c.args.net.now in
+    let m : Moment = (moment g.S.Shelf.files g.S.Shelf.admits g.S.Shelf.rest g.S.Shelf.taken g.S.Shelf.faults c.args.reader.now c.args.shelf.now) in
+    let h : Moment = (moment g.S.Shelf.files g.S.Shelf.admits g.S.Shelf.rest g.S.Shelf.taken g.S.Shelf.faults c.kind.new.reader c.kind.new.shelf) in
+    let j : Moment = (moment g.S.Shelf.files g.S.Shelf.admits g.S.Shelf.rest g.S.Shelf.taken g.S.Shelf.faults c.shape.new.reader c.shape.new.shelf) in
+    let number = c.in_ok-kind.kind in
+    let headed : IsReady h (states.Shape (kind_of number)) = subst (λ (s : State). IsReady h (behind_item s (kind number))) c.requires.ready.at c.in_ok-kind.ensures.1 in
+    let counts = c.in_ok-shape.shape in
+    let run = run-then m h j _ _ c.in_ok-kind.ensures.0 c.in_ok-shape.ensures.0 in
+    let ready : IsReady j (shaped_state (kind_of number) counts) = subst (λ (s : State). IsReady j (behind_item s (shape counts))) headed.at c.in_ok-shape.ensures.1 in
+    let other : c.in_ok-shape.shape ≢ c.counts.result = search rules in
+    shape-halts n m j number counts run ready (λ same. other (same ∙ sym c.counts.ensures.counts))
+
+pub returns-clause-begun : goal.returns-clause-begun
+returns-clause-begun g c =
+    let n : Net = net_of c.args.net.now in
+    let m : Moment = (moment g.S.Shelf.files g.S.Shelf.admits g.S.Shelf.rest g.S.Shelf.taken g.S.Shelf.faults c.args.reader.now c.args.shelf.now) in
+    let h : Moment = (moment g.S.Shelf.files g.S.Shelf.admits g.S.Shelf.rest g.S.Shelf.taken g.S.Shelf.faults c.kind.new.reader c.kind.new.shelf) in
+    let j : Moment = (moment g.S.Shelf.files g.S.Shelf.admits g.S.Shelf.rest g.S.Shelf.taken g.S.Shelf.faults c.shape.new.reader c.shape.new.shelf) in
+    let number = c.in_ok-kind.kind in
+    let headed : IsReady h (states.Shape (kind_of number)) = subst (λ (s : State). IsReady h (behind_item s (kind number))) c.requires.ready.at c.in_ok-kind.ensures.1 in
+    let counts = c.in_ok-shape.shape in
+    let run = run-then m h j _ _ c.in_ok-kind.ensures.0 c.in_ok-shape.ensures.0 in
+    let ready : IsReady j (shaped_state (kind_of number) counts) = subst (λ (s : State). IsReady j (behind_item s (shape counts))) headed.at c.in_ok-shape.ensures.1 in
+    let same : c.in_ok-shape.shape ≡ c.counts.result = search rules in
+    begun n m j number counts run ready (kind-known m h number c.requires.ready.at c.in_ok-kind.ensures.0) (same ∙ c.counts.ensures.counts)

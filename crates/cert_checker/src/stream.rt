@@ -1,0 +1,161 @@
+//! The check of a certificate that is read as a stream: each part is judged as it comes.
+
+ghost use Rattle.std.specs.Prelude.{◌≡◌, ◌≢◌, ◌<◌, ◌≤◌, ◌^◌, ℕ, List, Some, Err, length};
+ghost use Rattle.std.specs.Option.{is_some};
+ghost use Rattle.edge_io.specs.Counts.{Grows, Rose};
+ghost use Rattle.pool_model.specs.Network.{Net, net_of};
+ghost use Rattle.cert_format.specs.Cert.{Cert};
+ghost use Rattle.cert_format.specs.Valid.{IsValid};
+ghost use Rattle.cert_stream.specs.Streams.{TookMore, fresh};
+ghost use Rattle.cert_checker.specs.Answers.{Spells};
+ghost use Rattle.cert_checker.specs.Parts.{IsRefusedFront};
+ghost use Rattle.cert_checker.specs.Runs.{Moment, moment, Halts, of_fault, of_refusal};
+ghost use Rattle.cert_checker.specs.Streams.{IsAnswered, IsChecked, IsStreamedAs};
+ghost use Rattle.cert_checker.specs.declared.refusal.Refusal.TheVariants as refusals;
+ghost use Rattle.cert_checker.specs.declared.stream.StreamRefusal.TheVariants as streams;
+
+use crate::claim::check_claim;
+use crate::refusal::Refusal;
+use crate::verdict::Verdict;
+use crate::walk::walk;
+use blend_network::Network;
+use cert_stream::{CertReader, ItemFault};
+use edge_io::{Memory, Shelf};
+use std::alloc::{AllocError, AllocFailed, Global};
+
+/// Why no certificate was accepted.
+#[derive(Clone, Copy, Debug, PartialEq, Eq)]
+pub enum StreamRefusal {
+    /// The shelf failed: its count of faults rose.
+    Read,
+    /// The file has more bytes than it may have.
+    TooLong,
+    /// The certificate is refused. Want of memory is not told by this.
+    Refused(Refusal),
+    /// There was no memory.
+    Memory,
+}
+
+impl From<ItemFault> for StreamRefusal {
+    ghost from_gives = { λ e r. r ≡ of_fault e };
+
+    fn from(fault: ItemFault) -> StreamRefusal {
+        match fault {
+            ItemFault::Read => StreamRefusal::Read,
+            ItemFault::TooLong => StreamRefusal::TooLong,
+            ItemFault::Text(fault) => StreamRefusal::Refused(Refusal::Text(fault)),
+        }
+    }
+}
+
+impl From<Refusal> for StreamRefusal {
+    ghost from_gives = { λ e r. r ≡ of_refusal e };
+
+    fn from(refusal: Refusal) -> StreamRefusal {
+        match refusal {
+            Refusal::Memory => StreamRefusal::Memory,
+            refusal => StreamRefusal::Refused(refusal),
+        }
+    }
+}
+
+impl From<Memory> for StreamRefusal {
+    ghost from_gives = { λ _ r. r ≡ streams.Memory };
+
+    fn from(_e: Memory) -> StreamRefusal {
+        StreamRefusal::Memory
+    }
+}
+
+impl From<AllocError> for StreamRefusal {
+    ghost from_gives = { λ _ r. r ≡ streams.Memory };
+
+    fn from(_e: AllocError) -> StreamRefusal {
+        StreamRefusal::Memory
+    }
+}
+
+impl<T: Drop> From<AllocFailed<T>> for StreamRefusal {
+    ghost from_gives = { λ _ r. r ≡ streams.Memory };
+
+    fn from(_e: AllocFailed<T>) -> StreamRefusal {
+        StreamRefusal::Memory
+    }
+}
+
+/// What the certificate in the opened file says of the network, or the first cause to refuse it.
+///
+/// The file may have at most so many bytes. It is read once, in memory that depends on the network and on the number of
+/// splits alone: a proof is judged as its line is read, and nothing of it is kept. A refusal waits for the end of the file,
+/// since a fault of the text, a file that is too long and a failed read go before it.
+pub fn check_stream<S: Shelf>(
+    alloc: Global,
+    net: &Network,
+    shelf: &mut S,
+    most: u64,
+) -> Result<Verdict, StreamRefusal>
+    requires { most < 2 ^ 63 }
+    // Some bytes, which are the rest of the file where it is told, are accepted or refused as a text is and are at most so many; or
+    // they are more. What the certificate of these bytes claims follows for every plan.
+    ensures checked { IsChecked (net_of net.now) (S.rest shelf.old) most result }
+    // The text of a valid certificate that is not too long is accepted, unless a read fails or memory runs out.
+    ensures valid { (bytes : List ℕ) (c : Cert) → S.rest shelf.old ≡ Some bytes → length bytes ≤ most → Spells bytes c → IsValid (net_of net.now) c → IsStreamedAs c.claim result }
+    // Of a file that is too long more was taken than it may have; a read failed only where the count of faults rose.
+    ensures too_long { result ≡ Err streams.TooLong → TookMore most (S.taken shelf.old) (S.taken shelf.new) }
+    ensures read { result ≡ Err streams.Read → Rose (S.faults shelf.old) (S.faults shelf.new) }
+    ensures no_memory_refusal { result ≢ Err (streams.Refused refusals.Memory) }
+    ensures same_files { S.files shelf.new ≡ S.files shelf.old }
+    ensures same_names { S.admits shelf.new ≡ S.admits shelf.old }
+    ensures same_telling { is_some (S.rest shelf.new) ≡ is_some (S.rest shelf.old) }
+    ensures taken_grows { Grows (S.taken shelf.old) (S.taken shelf.new) }
+    ensures faults_grow { Grows (S.faults shelf.old) (S.faults shelf.new) }
+{
+    let mut reader = CertReader::start(alloc, most)?;
+    answer(alloc, net, &mut reader, shelf)
+}
+
+/// The answer on a file of which nothing was read before.
+fn answer<S: Shelf>(
+    alloc: Global,
+    net: &Network,
+    reader: &mut CertReader,
+    shelf: &mut S,
+) -> Result<Verdict, StreamRefusal>
+    requires { (most : ℕ) × (reader.old ≡ fresh most) }
+    ensures { (most : ℕ) → reader.old ≡ fresh most → IsAnswered (net_of net.now) most (moment S.files S.admits S.rest S.taken S.faults reader.old shelf.old) (moment S.files S.admits S.rest S.taken S.faults reader.new shelf.new) result }
+{
+    match walk(alloc, net, reader, shelf) {
+        Ok(found) => Ok(check_claim(&found.claim, found.cost, found.bound)?),
+        Err(refusal) => Err(at_the_end(refusal, reader, shelf)),
+    }
+}
+
+/// What is answered where a certificate is refused before its end: a cause that it gives waits for the end of the file.
+fn at_the_end<S: Shelf>(
+    refusal: StreamRefusal,
+    reader: &mut CertReader,
+    shelf: &mut S,
+) -> StreamRefusal
+    requires { (n : Net) × (m : Moment) × Halts (IsRefusedFront n) m (moment S.files S.admits S.rest S.taken S.faults reader.old shelf.old) refusal }
+    ensures { (n : Net) (m : Moment) (most : ℕ) → m.reader ≡ fresh most → Halts (IsRefusedFront n) m (moment S.files S.admits S.rest S.taken S.faults reader.old shelf.old) refusal → IsAnswered n most m (moment S.files S.admits S.rest S.taken S.faults reader.new shelf.new) (Err result) }
+{
+    match refusal {
+        StreamRefusal::Refused(cause) => wait_for_end(cause, reader, shelf),
+        _ => refusal,
+    }
+}
+
+/// What is answered where a certificate is refused: at the end of the file already for a fault of the text, and else once it is
+/// read to its end.
+fn wait_for_end<S: Shelf>(cause: Refusal, reader: &mut CertReader, shelf: &mut S) -> StreamRefusal
+    requires { (n : Net) × (m : Moment) × Halts (IsRefusedFront n) m (moment S.files S.admits S.rest S.taken S.faults reader.old shelf.old) (streams.Refused cause) }
+    ensures { (n : Net) (m : Moment) (most : ℕ) → m.reader ≡ fresh most → Halts (IsRefusedFront n) m (moment S.files S.admits S.rest S.taken S.faults reader.old shelf.old) (streams.Refused cause) → IsAnswered n most m (moment S.files S.admits S.rest S.taken S.faults reader.new shelf.new) (Err result) }
+{
+    if let Refusal::Text(_) = cause {
+        return StreamRefusal::Refused(cause);
+    }
+    match reader.finish(shelf) {
+        Ok(()) => StreamRefusal::Refused(cause),
+        Err(fault) => StreamRefusal::from(fault),
+    }
+}
