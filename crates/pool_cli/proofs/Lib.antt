@@ -7,3 +7,4 @@ mod Resuming
 mod Solutions
 mod Trials
 mod Reported
+mod Streamed

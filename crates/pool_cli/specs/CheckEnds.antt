@@ -1,8 +1,6 @@
 -- How `check` ends.
 use Rattle.std.specs.Prelude.{◌≡◌, ◌≢◌, ◌⊎◌, ℕ, ◌≤◌, List, length, Option, Some}
 use Rattle.edge_io.specs.Files.{HasFile, IsTooLong}
-use Rattle.edge_io.specs.declared.fault.ShelfFault.{ShelfFault}
-use Rattle.edge_io.specs.declared.fault.ShelfFault.TheVariants as faults
 use Rattle.pool_model.specs.Network.{Network, Net, net_of}
 use Rattle.pool_model.specs.Claim.{Follows}
 use Rattle.cert_format.specs.Cert.{Cert}
@@ -23,18 +21,13 @@ use Rattle.pool_cli.specs.declared.status.Status.TheVariants as statuses
 abbrev pub most_bytes : ℕ
 most_bytes = 1073741824
 
--- the status of a run that read no certificate
-abbrev pub unread_certificate : ShelfFault → Status
-unread_certificate faults.Failed = statuses.ReadFault
-unread_certificate faults.TooLong = statuses.CertTooLong
-unread_certificate faults.Memory = statuses.OutOfMemory
-
 -- the status that it ends with
 abbrev pub check_status : CheckOutcome → Status
 check_status outcomes.Accepted = statuses.Accepted
 check_status (outcomes.Refused refusal) = statuses.Refused refusal
 check_status (outcomes.Unread why) = unread_status why
-check_status (outcomes.CertificateUnread fault) = unread_certificate fault
+check_status outcomes.ReadFault = statuses.ReadFault
+check_status outcomes.TooLong = statuses.CertTooLong
 check_status outcomes.Memory = statuses.OutOfMemory
 check_status outcomes.WriteFault = statuses.WriteFault
 

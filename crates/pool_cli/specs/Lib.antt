@@ -5,6 +5,7 @@ pub mod Gaps
 pub mod Journaled
 pub mod MakeEnds
 pub mod Messages
+pub mod OpenedEnds
 pub mod Reads
 pub mod Recorded
 pub mod ReportEnds

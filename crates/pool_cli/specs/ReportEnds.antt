@@ -1,5 +1,7 @@
 -- How `report` ends: as `check` does, with the report in place of the line of an accepted certificate.
 use Rattle.std.specs.Prelude.{◌≡◌, ℕ, List, Option}
+use Rattle.edge_io.specs.declared.fault.ShelfFault.{ShelfFault}
+use Rattle.edge_io.specs.declared.fault.ShelfFault.TheVariants as faults
 use Rattle.pool_model.specs.Network.{Network, Net, net_of}
 use Rattle.pool_model.specs.Claim.{Follows}
 use Rattle.cert_format.specs.Cert.{Cert}
@@ -7,12 +9,18 @@ use Rattle.cert_format.specs.Valid.{IsValid}
 use Rattle.cert_checker.specs.Answers.{Spells}
 use Rattle.pool_report.specs.Report.{report_text}
 use Rattle.pool_cli.specs.Reads.{Files}
-use Rattle.pool_cli.specs.CheckEnds.{AreRead, CheckDecided, CheckEnds, Refuses, unread_certificate}
+use Rattle.pool_cli.specs.CheckEnds.{AreRead, CheckDecided, CheckEnds, Refuses}
 use Rattle.pool_cli.specs.Took.{unread_status}
 use Rattle.pool_cli.specs.declared.report.ReportOutcome.{ReportOutcome}
 use Rattle.pool_cli.specs.declared.report.ReportOutcome.TheVariants as outcomes
 use Rattle.pool_cli.specs.declared.status.Status.{Status}
 use Rattle.pool_cli.specs.declared.status.Status.TheVariants as statuses
+
+-- the status of a run that read no certificate
+abbrev pub unread_certificate : ShelfFault → Status
+unread_certificate faults.Failed = statuses.ReadFault
+unread_certificate faults.TooLong = statuses.CertTooLong
+unread_certificate faults.Memory = statuses.OutOfMemory
 
 -- the status that it ends with
 abbrev pub report_status : ReportOutcome → Status

@@ -1,9 +1,10 @@
 //! The command `check`.
 
-ghost use Rattle.std.specs.Prelude.{◌≡◌, ◌≢◌, ◌≤◌, ℕ, List, length, IsTrue};
+ghost use Rattle.std.specs.Prelude.{◌≡◌, ◌≤◌, ℕ, List, IsTrue};
 ghost use Rattle.edge_io.specs.Counts.{Grows, Rose};
 ghost use Rattle.pool_model.specs.Network.{Network as ANetwork, net_of};
-ghost use Rattle.pool_cli.specs.CheckEnds.{CheckEnds, ChecksAs, IsJudged, LineOn, check_status};
+ghost use Rattle.pool_cli.specs.CheckEnds.{CheckEnds, ChecksAs, check_status};
+ghost use Rattle.pool_cli.specs.OpenedEnds.{LineOnRest, OpenedEnds};
 ghost use Rattle.pool_cli.specs.Reads.{ReadsUnder};
 ghost use Rattle.pool_cli.specs.Took.{Took};
 
@@ -11,8 +12,8 @@ use crate::reading::{Unread, network_under};
 use crate::status::Status;
 use crate::verdict::{write_refused, write_verdict};
 use blend_network::Network;
-use cert_checker::Refusal;
-use edge_io::{Shelf, ShelfFault, Sink};
+use cert_checker::{Refusal, StreamRefusal, check_stream};
+use edge_io::{OpenFault, Shelf, Sink};
 use std::alloc::Global;
 
 /// How many bytes a certificate may have.
@@ -27,8 +28,10 @@ pub(crate) enum CheckOutcome {
     Refused(Refusal),
     /// No network was read.
     Unread(Unread),
-    /// No certificate was read.
-    CertificateUnread(ShelfFault),
+    /// The shelf failed where the certificate was opened or read.
+    ReadFault,
+    /// The certificate is longer than may be.
+    TooLong,
     /// Memory ran out.
     Memory,
     /// The sink failed.
@@ -43,9 +46,8 @@ impl From<CheckOutcome> for Status {
             CheckOutcome::Accepted => Status::Accepted,
             CheckOutcome::Refused(refusal) => Status::Refused(refusal),
             CheckOutcome::Unread(why) => Status::from(why),
-            CheckOutcome::CertificateUnread(ShelfFault::Failed) => Status::ReadFault,
-            CheckOutcome::CertificateUnread(ShelfFault::TooLong) => Status::CertTooLong,
-            CheckOutcome::CertificateUnread(ShelfFault::Memory) => Status::OutOfMemory,
+            CheckOutcome::ReadFault => Status::ReadFault,
+            CheckOutcome::TooLong => Status::CertTooLong,
             CheckOutcome::Memory => Status::OutOfMemory,
             CheckOutcome::WriteFault => Status::WriteFault,
         }
@@ -54,7 +56,7 @@ impl From<CheckOutcome> for Status {
 
 /// Checks the certificate in the file of the second name for the network in the file of the first.
 ///
-/// The shelf is asked for the certificate only where a network was read.
+/// The shelf is asked for the certificate only where a network was read. It is read once, piece by piece, and its text is not kept.
 pub(crate) fn check<S: Shelf, K: Sink>(
     alloc: Global,
     net: &str,
@@ -90,27 +92,36 @@ fn check_file<S: Shelf, K: Sink>(
     ensures read_fault { check_status result ≡ Status.ReadFault → Rose (S.faults shelf.old) (S.faults shelf.new) }
     ensures write_fault { check_status result ≡ Status.WriteFault → Rose (K.faults out.old) (K.faults out.new) }
 {
-    match shelf.read_all(alloc, cert, MOST_BYTES) {
-        Ok(bytes) => check_bytes(alloc, network, &bytes, out),
-        Err(fault) => CheckOutcome::CertificateUnread(fault),
+    match shelf.open_read(alloc, cert) {
+        Ok(()) => check_opened(alloc, network, shelf, out),
+        Err(OpenFault::Failed) => CheckOutcome::ReadFault,
+        Err(OpenFault::Memory) => CheckOutcome::Memory,
     }
 }
 
-/// Checks the bytes of a certificate, and writes the line on them.
-fn check_bytes<K: Sink>(alloc: Global, network: &Network, bytes: &[u8], out: &mut K) -> CheckOutcome
-    ensures took { Took (LineOn (net_of network.now) bytes.now) (check_status result) (K.taken out.old) (K.taken out.new) }
-    ensures judged { IsJudged (net_of network.now) bytes.now (check_status result) }
+/// Checks the certificate in the opened file, and writes the line on it.
+fn check_opened<S: Shelf, K: Sink>(
+    alloc: Global,
+    network: &Network,
+    shelf: &mut S,
+    out: &mut K,
+) -> CheckOutcome
+    ensures took { Took (LineOnRest (net_of network.now) (S.rest shelf.old)) (check_status result) (K.taken out.old) (K.taken out.new) }
+    ensures ends { OpenedEnds (net_of network.now) (S.rest shelf.old) (S.taken shelf.old) (S.taken shelf.new) (check_status result) }
+    ensures read_fault { check_status result ≡ Status.ReadFault → Rose (S.faults shelf.old) (S.faults shelf.new) }
     ensures write_fault { check_status result ≡ Status.WriteFault → Rose (K.faults out.old) (K.faults out.new) }
 {
-    match cert_checker::check(alloc, network, bytes) {
+    match check_stream(alloc, network, shelf, MOST_BYTES as u64) {
         Ok(verdict) => match write_verdict(&verdict, out) {
             Ok(()) => CheckOutcome::Accepted,
             Err(_) => CheckOutcome::WriteFault,
         },
-        Err(Refusal::Memory) => CheckOutcome::Memory,
-        Err(refusal) => match write_refused(&refusal, out) {
+        Err(StreamRefusal::Refused(refusal)) => match write_refused(&refusal, out) {
             Ok(()) => CheckOutcome::Refused(refusal),
             Err(_) => CheckOutcome::WriteFault,
         },
+        Err(StreamRefusal::Read) => CheckOutcome::ReadFault,
+        Err(StreamRefusal::TooLong) => CheckOutcome::TooLong,
+        Err(StreamRefusal::Memory) => CheckOutcome::Memory,
     }
 }

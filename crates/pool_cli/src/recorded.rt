@@ -38,7 +38,6 @@ pub(crate) fn recorded_solution<D: Disk>(
         (LeavesOnly D.moment D.left_since disk.old disk.new) (D.may_leave disk.old) (D.reads disk.new) (D.may_leave disk.new) result }
     ensures failed { IsErrOf result (RunFault.Journal journal_faults.Disk) → Rose (D.faults disk.old) (D.faults disk.new) }
 {
-    let _limited = net.sizes();
     let text = write_canonical(alloc, net)?;
     disk.attach(journal)?;
     let outcome = run_recorded(alloc, net, &text, orders, disk)?;

@@ -29,7 +29,6 @@ pub(crate) fn solution_of(alloc: Global, net: &Network, orders: Orders) -> Resul
     ensures solved { IfOk result (λ s. IsSolution (net_of net.now) orders (status_of s.ended) (shown_cert s.certificate)) }
     ensures certificate { IfOk result (λ s. IsCert (shown_cert s.certificate)) }
 {
-    let _limited = net.sizes();
     let root = Tree::start(alloc, net)?;
     let outcome = run_search(alloc, net, orders, root)?;
     let ended = outcome.ended;

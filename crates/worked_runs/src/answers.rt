@@ -256,18 +256,23 @@ fn changed(alloc: Global, certificate: &str) -> Result<String, AllocError> {
     text_under(name).replace(alloc, old.as_str(), new.as_str())
 }
 
-/// The code of `check net cert` over these two files, where the shelf's call of the number `failing` fails.
+/// What `check net cert` answers over these two files, the certificate in pieces of so many bytes: its code and, behind a space,
+/// what it writes. The shelf's call of the number `failing` fails, and so does a second write.
 fn checked(
     alloc: Global,
     network: &str,
     certificate: &str,
+    piece: usize,
     failing: u64,
-    sink: &mut MemSink,
-) -> Result<u8, AllocError> {
+) -> Result<String, AllocError> {
     let words = words_of(alloc, "check net cert")?;
     let mut shelf = shelf_failing(alloc, &[("net", network), ("cert", certificate)], failing)?;
+    shelf.pieces(piece.max(1));
+    let mut sink = MemSink::new(alloc, [1].to_vec(alloc)?);
     let mut disk = MemDisk::new(alloc, Vec::new(alloc));
-    Ok(run(alloc, &words, &mut shelf, sink, &mut disk).code())
+    let code = run(alloc, &words, &mut shelf, &mut sink, &mut disk).code();
+    let written = str::from_utf8(sink.taken()).unwrap_or("no text");
+    format!(in alloc; "{code} {written}")
 }
 
 #[test]
@@ -276,32 +281,49 @@ fn accepts_or_names_the_first_cause(rt: HostRuntime) -> Result<(), Fail> {
     for line in CHECKED.lines() {
         let (asked, told) = line.split_once(" = ").ok_or("an answer")?;
         let (network, certificate) = asked.split_once(' ').ok_or("a certificate")?;
+        let network = text_under(network);
         let certificate = changed(alloc, certificate)?;
-        // A second write would fail, and so would a third read.
-        let mut sink = MemSink::new(alloc, [1].to_vec(alloc)?);
-        let code = checked(
-            alloc,
-            text_under(network),
-            certificate.as_str(),
-            2,
-            &mut sink,
-        )?;
-        assert_eq!(rt;
-            str::from_utf8(sink.taken())?.strip_suffix('\n'),
-            Some(told)
-        );
-        assert_eq!(rt; code, u8::from(told.starts_with("refused")));
+        // The calls are: the network, to open the certificate, all of it, and its end. A fifth call would fail.
+        let at_once = checked(alloc, network, certificate.as_str(), 65_536, 4)?;
+        let by_bytes = checked(alloc, network, certificate.as_str(), 1, u64::MAX)?;
+        let code = u8::from(told.starts_with("refused"));
+        let expected = format!(in alloc; "{code} {told}\n{code} {told}\n")?;
+        let told = format!(in alloc; "{at_once}{by_bytes}")?;
+        assert_eq!(rt; told.as_str(), expected.as_str());
     }
     Ok(())
 }
 
 #[test]
-fn a_failed_read_of_the_certificate_is_a_read_fault(rt: HostRuntime) -> Result<(), Fail> {
+fn a_certificate_that_is_not_opened_is_a_read_fault(rt: HostRuntime) -> Result<(), Fail> {
     let alloc = rt.alloc();
-    let mut sink = MemSink::new(alloc, Vec::new(alloc));
-    assert_eq!(rt; checked(alloc, ONE_DIRECT, "", 1, &mut sink)?, 20);
-    assert_eq!(rt; sink.taken(), b"".as_slice());
+    assert_eq!(rt; checked(alloc, ONE_DIRECT, "", 7, 1)?.as_str(), "20 ");
     // Where the network is refused, the certificate is not asked for.
-    assert_eq!(rt; checked(alloc, "no network", "", 1, &mut sink)?, 3);
+    assert_eq!(rt; checked(alloc, "no network", "", 7, 1)?.as_str(), "3 ");
+    Ok(())
+}
+
+/// What is answered on a certificate of 160 bytes in pieces of 7, where each call fails in its turn: the network, the opening, 23
+/// pieces and the end are 26 calls.
+fn failing_calls(alloc: Global, certificate: &str) -> Result<String, AllocError> {
+    let mut told = String::new(alloc);
+    for failing in 0..26 {
+        told.push_str(checked(alloc, ONE_DIRECT, certificate, 7, failing)?.as_str())?;
+    }
+    Ok(told)
+}
+
+/// Whichever call fails, nothing is written, also where a cause to refuse the certificate was found before.
+#[test]
+fn a_read_that_fails_before_the_end_is_a_read_fault(rt: HostRuntime) -> Result<(), Fail> {
+    let alloc = rt.alloc();
+    let shapeless = changed(alloc, "full, shape 1 0 1 1 0 0 1 to shape 1 0 1 2 0 0 1")?;
+    let failed = "20 ".repeat(alloc, 26)?;
+    assert_eq!(rt; FULL.len(), 160);
+    assert_eq!(rt; failing_calls(alloc, FULL)?.as_str(), failed.as_str());
+    assert_eq!(rt;
+        failing_calls(alloc, shapeless.as_str())?.as_str(),
+        failed.as_str()
+    );
     Ok(())
 }

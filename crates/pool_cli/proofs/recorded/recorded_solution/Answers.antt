@@ -29,7 +29,7 @@ returns-clause-solved g c =
       in_order = run.in_order;
       alone = λ e. absurd (none-some c.args.journal.now (sym e));
       solution = solved-from (net_of c.args.net.now) c.args.orders (made_by run.first) (searched_of c.in_ok-outcome.outcome.tree.kept) c.in_ok-outcome.outcome.ended
-          (shown_cert c.in_ok-certificate.certificate) c.sizes-limited.ensures.limited run.run run.search c.in_ok-certificate.ensures.found c.in_ok-certificate.ensures.valid;
+          (shown_cert c.in_ok-certificate.certificate) c.certificate_of.ensures.limited run.run run.search c.in_ok-certificate.ensures.found c.in_ok-certificate.ensures.valid;
     }
 
 pub returns-clause-journal : goal.returns-clause-journal
@@ -44,7 +44,7 @@ returns-clause-journal g c = λ tells.
     subst (λ (text : List ℕ). IsOpened n text c.args.orders (LeavesOnly g.D.Disk.moment g.D.Disk.left_since old new) (g.D.Disk.may_leave old) (g.D.Disk.reads new) (g.D.Disk.may_leave new)
     (Ok (record { certificate = c.in_ok-certificate.certificate; ended = c.in_ok-outcome.outcome.ended }))) (c.deref.ensures.value ∙ c.in_ok-text.ensures.text)
     (inr (attached-solved g.D.Disk.moment g.D.Disk.left_since g.D.Disk.reads g.D.Disk.may_leave g.met.D.Disk.counts_now n c.deref.result.now c.args.orders at.0 old mid new at.2 attach
-    c.sizes-limited.ensures.limited found c.in_ok-outcome.outcome.ended (λ k. shown_cert c.in_ok-certificate.certificate ≡ k) at.1
+    c.certificate_of.ensures.limited found c.in_ok-outcome.outcome.ended (λ k. shown_cert c.in_ok-certificate.certificate ≡ k) at.1
     (λ cause has. c.in_ok-outcome.ensures.decided at.0 cause at.1 has) c.in_ok-outcome.ensures.run
     (subst (IsValid n) c.in_ok-certificate.ensures.found c.in_ok-certificate.ensures.valid) c.in_ok-certificate.ensures.found (λ first own. c.in_ok-outcome.ensures.any_moment at.0 first at.1 own)))
 
