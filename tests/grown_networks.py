@@ -35,6 +35,7 @@ def network(seed):
 
 def write(folder, seed):
     """The file of a seed's network."""
+    Path(folder).mkdir(parents=True, exist_ok=True)
     path = Path(folder) / f"grown-{seed}.json"
     path.write_text(json.dumps(network(seed)))
     return path

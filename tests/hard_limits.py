@@ -29,6 +29,7 @@ PAGE = resource.getpagesize()
 SIZES = 40
 SMALL_STACK = 128 * 1024
 PIPE_SIZE = 1031  # F_SETPIPE_SZ, of Linux
+PIECE = 65536  # what a check reads at a time
 USAGE = "pool: usage: solve NET, check NET CERT, report NET CERT, formulate NET, make N or trial N\n"
 OUT_OF_MEMORY = Done(23, "", "pool: out of memory\n")
 WRITE_FAULT = "pool: write fault\n"
@@ -207,6 +208,36 @@ def failed_calls(trial, case):
                 yield from differs(f"{label}: entries", found, case.entries()[: len(found)])
                 yield from ends_as(trial, case, label)
                 trial.tried["calls that fail"] += 1
+
+
+def traced(trial, words, *options):
+    """Runs the program on words under strace."""
+    done = subprocess.run(["strace", "-f", *map(str, options), trial.pool, *map(str, words)], capture_output=True, text=True)
+    trial.tried["runs"] += 1
+    return Done(done.returncode, done.stdout, done.stderr)
+
+
+def failed_reads(trial):
+    """Each read of a check fails in turn, of a certificate in pieces: 20, nothing printed; one that is broken off is tried again."""
+    certificate, trace = trial.folder / "chain.cert", trial.folder / "trace"
+    certificate.write_text(chain(20000))
+    words = ["check", EXAMPLES / "two_feeds.json", certificate]
+    wanted = run(trial, words)
+    if not shutil.which("strace") or traced(trial, words, "-o", trace, "-e", "trace=read") != wanted:
+        trial.tried["reads that fail (no strace here)"] += 0
+        return
+    told = 0
+    for number in range(1, len(re.findall(r"(?m)^\d+ +read\(", trace.read_text())) + 1):
+        for fault, answer in (("EIO", READ_FAULT), ("EINTR", wanted)):
+            done = traced(trial, words, "-o", "/dev/null", "-e", "trace=read", "-e", f"inject=read:error={fault}:when={number}")
+            loader = done.status == 127 and "loading shared libraries" in done.error
+            if done != answer and not loader:
+                yield f"check: read {number} with {fault}: {done}"
+            told += done == READ_FAULT
+            trial.tried["reads that fail"] += 1
+    pieces = -(-certificate.stat().st_size // PIECE)
+    if told < 2 + pieces + 1:
+        yield f"check: {told} reads failed, of a network and of {pieces} pieces and an end"
 
 
 # ---- disks that fill
@@ -390,6 +421,7 @@ def parts(trial, long):
     yield from few_files(trial, row1)
     yield from odd_files(trial)
     yield from failed_calls(trial, row1)
+    yield from failed_reads(trial)
     yield from each_size(trial, row1)
     yield from ended_by_size(trial, row1)
     yield from filling_disk(trial, many)
