@@ -9,7 +9,8 @@ ghost use Rattle.edge_io.specs.Writing.{Wrote};
 ghost use Rattle.plan_core.specs.Views.{shown_plan};
 ghost use Rattle.cert_format.specs.Cert.{IsShaped};
 ghost use Rattle.cert_format.specs.Views.{shown_claim, shown_node_proof, shown_cert};
-ghost use Rattle.cert_format.specs.Text.{field, line, kind_of, head_lines, plan_lines, claimed_plan_lines, part_fields, split_line, split_lines, proof_line, proof_lines, gap_lines, number_lines, rest_lines, text_of};
+ghost use Rattle.cert_format.specs.Text.{field, line, kind_of, head_lines, plan_lines, claimed_plan_lines, part_fields, split_line, split_lines, proof_line};
+ghost use Rattle.cert_format.specs.Text.{proof_lines, gap_lines, number_lines, rest_lines, text_of};
 
 use crate::certificate::{Certificate, Claim, NodeProof};
 use box_space::{Part, Split};
@@ -115,7 +116,7 @@ fn put_line<K: Sink, N: Integer>(out: &mut K, word: &[u8], numbers: &[N]) -> Res
     ensures faults_grow { Grows (K.faults out.old) (K.faults out.new) }
 {
     write_whole(out, word)?;
-    write_fields(out, numbers)?;
+    put_fields(out, numbers)?;
     write_whole(out, b"\n")
 }
 
@@ -284,7 +285,23 @@ fn put_parts<K: Sink>(out: &mut K, parts: &[Part]) -> Result<(), WriteFault>
     Ok(())
 }
 
-/// The line of a proof.
+/// The line of a proof, number by number.
+fn put_proof<K: Sink>(out: &mut K, proof: &NodeProof) -> Result<(), WriteFault>
+    ensures wrote { Wrote result (K.taken out.old) (proof_line (shown_node_proof proof.now)) (K.taken out.new) }
+    ensures failed { OnErr result (Rose (K.faults out.old) (K.faults out.new)) }
+    ensures faults_grow { Grows (K.faults out.old) (K.faults out.new) }
+{
+    let parts = proof.proof.parts.as_slice();
+    write_whole(out, b"proof")?;
+    put_fields(
+        out,
+        &[u64::from(proof.node), proof.proof.scale, parts.len() as u64],
+    )?;
+    put_parts(out, parts)?;
+    write_whole(out, b"\n")
+}
+
+/// The line of a proof that is too long for one piece.
 fn write_proof<K: Sink>(out: &mut K, proof: &NodeProof) -> Result<(), WriteFault>
     ensures wrote { Wrote result (K.taken out.old) (proof_line (shown_node_proof proof.now)) (K.taken out.new) }
     ensures failed { OnErr result (Rose (K.faults out.old) (K.faults out.new)) }
@@ -309,15 +326,18 @@ fn write_proof_list<K: Sink>(out: &mut K, proofs: &[NodeProof]) -> Result<(), Wr
     if let Some(written) = short_proof_list(out, proofs) {
         return written;
     }
-    if proofs.len() < 2 {
-        return put_proof_list(out, proofs);
+    if proofs.is_empty() {
+        return Ok(());
+    }
+    if proofs.len() == 1 {
+        return write_proof(out, &proofs[0]);
     }
     let (first, second) = proofs.split_at(proofs.len() / 2);
     write_proof_list(out, first)?;
     write_proof_list(out, second)
 }
 
-/// The lines of proofs, as one piece, or nothing where that is too long.
+/// The lines of proofs, as one piece, or nothing where that is too long, or where they have so many parts that it hardly fits.
 #[inline(never)]
 fn short_proof_list<K: Sink>(out: &mut K, proofs: &[NodeProof]) -> Option<Result<(), WriteFault>>
     ensures wrote { ForSome result (λ r. Wrote r (K.taken out.old) (flat_map proof_line (map shown_node_proof proofs.now)) (K.taken out.new)) }
@@ -325,11 +345,26 @@ fn short_proof_list<K: Sink>(out: &mut K, proofs: &[NodeProof]) -> Option<Result
     ensures failed { ForSome result (λ r. OnErr r (Rose (K.faults out.old) (K.faults out.new))) }
     ensures faults_grow { Grows (K.faults out.old) (K.faults out.new) }
 {
+    if proofs.len() > 1 && have_many_parts(proofs) {
+        return None;
+    }
     let mut text = TextBuffer::new();
     match put_proof_list(&mut text, proofs) {
         Ok(()) => Some(write_whole(out, text.text())),
         Err(_) => None,
     }
+}
+
+/// How many parts fit one piece, as a rule.
+const PIECE_PARTS: usize = 700;
+
+/// Whether the lines of proofs would hardly fit one piece, so that to try it costs time alone.
+fn have_many_parts(proofs: &[NodeProof]) -> bool {
+    let mut count: usize = 0;
+    for proof in proofs {
+        count = count.saturating_add(proof.proof.parts.len());
+    }
+    count > PIECE_PARTS
 }
 
 /// The lines of proofs, one after another.
@@ -339,7 +374,7 @@ fn put_proof_list<K: Sink>(out: &mut K, proofs: &[NodeProof]) -> Result<(), Writ
     ensures faults_grow { Grows (K.faults out.old) (K.faults out.new) }
 {
     for proof in proofs {
-        write_proof(out, proof)?;
+        put_proof(out, proof)?;
     }
     Ok(())
 }
