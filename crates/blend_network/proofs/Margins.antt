@@ -1,14 +1,15 @@
 -- How large a margin is, and the costs that it is taken over.
-use Rattle.std.proofs.Common.{◌≡◌, ℕ, ◌<◌, ◌^◌, ◌*◌, ◌*ℤ◌, Option, Some, None, ℤ, pos, ◌≤ℤ◌, ◌-ℤ◌, ◌==◌, if◌then◌else◌, zero, suc, Bool, true, false, refl, FitsSigned, w64, arith}
+use Rattle.std.proofs.Common.{◌≡◌, ℕ, ◌<◌, ◌≤◌, unsigned_abs, ◌^◌, ◌*◌, ◌*ℤ◌, Option, Some, None, ℤ, pos, ◌≤ℤ◌, ◌-ℤ◌, ◌==◌, if◌then◌else◌, zero, suc, Bool, true, false, refl, FitsSigned, w64, arith}
 use Rattle.std.specs.Option.{ForSome}
 use Rattle.std.specs.Int.{int_min, int_max}
 use Rattle.std.proofs.lemmas.Int.{ints, clamps}
 use Rattle.pool_model.specs.Network.{Net, IsWithin, IsLimited}
 use Rattle.std.proofs.Math.Nat.{mul_comm}
 use Rattle.integers.proofs.Ring.{mul_comm_ℤ}
-use Rattle.integers.proofs.Order.{nonneg-mul, le-mul, le_trans_ℤ}
+use Rattle.integers.specs.Sums.{int_sum_below}
+use Rattle.integers.proofs.Order.{abs-mul-le, nonneg-mul, le-mul, le_trans_ℤ}
 use Rattle.network_parts.specs.Faults.{IsUpTo}
-use Rattle.pool_model.specs.Starting.{lesser, least_below, pool_cost, reach_cost}
+use Rattle.pool_model.specs.Starting.{lesser, least_below, margin, pool_cost, reach_bound, reach_cost}
 
 pub margin_above : (cost price : ℤ) → cost ≤ℤ price → int_max (pos 0) (price -ℤ cost) ≡ price -ℤ cost
 margin_above cost price h = omega (arith, ints, clamps)
@@ -65,3 +66,25 @@ product-up_to m n a b ha hb = (
   le_trans_ℤ (a *ℤ b) (a *ℤ pos n) (pos (m * n)) (le-mul a b (pos n) ha.0 hb.1)
       (rw (mul_comm_ℤ a (pos n)) (rw (mul_comm m n) (le-mul (pos n) a (pos m) (omega (arith, ints)) ha.1))),
 )
+
+-- ---- the bound that margins alone give
+
+margin-small : (o : Option ℤ) (price : ℤ) → ForSome o (IsWithin (10 ^ 12)) → IsWithin (10 ^ 12) price → unsigned_abs (margin o price) ≤ 2 * 10 ^ 12
+margin-small None price cost is = omega arith
+margin-small (Some z) price cost is = let within = cost z refl in omega (arith, ints, clamps, within.0, within.1, is.0, is.1)
+
+sum-small : (f : ℕ → ℤ) (m n : ℕ) → ((i : ℕ) → i < n → unsigned_abs (f i) ≤ m) → unsigned_abs (int_sum_below f n) ≤ n * m
+sum-small f m zero h = omega arith
+sum-small f m (suc n) h = omega (arith, ints, h n (omega arith), sum-small f m n (λ i lt. h i (omega arith)))
+
+-- no network's is greater
+pub reach-small : (n : Net) → IsLimited n → unsigned_abs (reach_bound n) ≤ 128 * 10 ^ 24
+reach-small n limited =
+    let each = λ (j : ℕ) (lt : j < n.products). abs-mul-le (pos (n.product_max j)) (margin (reach_cost n j) (n.price j)) (10 ^ 12) (2 * 10 ^ 12)
+    (limited.product_maxima j lt) (margin-small (reach_cost n j) (n.price j) (reach_cost-within n j limited) (limited.prices j lt)) in
+    omega (
+      arith,
+      ints,
+      limited.products,
+      sum-small (λ j. pos (n.product_max j) *ℤ margin (reach_cost n j) (n.price j)) (10 ^ 12 * (2 * 10 ^ 12)) n.products each,
+    )

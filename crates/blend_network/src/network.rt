@@ -100,6 +100,7 @@ impl Network {
     pub fn counts(&self) -> [u32; 7]
         ensures counts { result ≡ counts_of (net_of self.now) }
         ensures limited { IsLimited (net_of self.now) }
+        ensures paths { length (paths_of (net_of self.now)) ≤ 512 }
         ensures made { IsMade self.now }
     {
         [

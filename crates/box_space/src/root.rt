@@ -1,7 +1,7 @@
 //! The root box.
 
 ghost use Rattle.std.specs.Prelude.{◌≡◌, ◌<◌, IfOk, pos, unwrap_or};
-ghost use Rattle.pool_model.specs.Network.{net_of};
+ghost use Rattle.pool_model.specs.Network.{IsLimited, net_of};
 ghost use Rattle.pool_model.specs.Starting as starting;
 ghost use Rattle.pool_model.specs.Starting.{least_below};
 ghost use Rattle.row_model.specs.Boxes as boxes;
@@ -22,6 +22,7 @@ const GRAIN: i64 = 1_048_576;
 pub fn root_box(alloc: Global, net: &Network) -> Result<BoxEnds, Memory>
     ensures root { IfOk result (λ b. AreRoot (net_of net.now) b) }
     ensures proper { IfOk result (λ b. AreEnds (net_of net.now) b) }
+    ensures limited { IsLimited (net_of net.now) }
 {
     let mut low = Vec::new(alloc);
     let mut high = Vec::new(alloc);

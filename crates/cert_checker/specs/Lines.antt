@@ -1,7 +1,7 @@
 -- Proof lines that come one after another, each judged as it comes.
 use Rattle.std.specs.Prelude.{◌≡◌, ℕ, ◌+◌, ◌-◌, ◌/◌, ◌<◌, ◌≤◌, List, [], ◌∷◌, ◌++◌, length, map, get_or, vec_capacity, Option, None, Some, Result, Ok, Err, option_map, ℤ}
 use Rattle.std.specs.List.{flat_map}
-use Rattle.pool_model.specs.Network.{Net}
+use Rattle.pool_model.specs.Network.{IsLimited, Net}
 use Rattle.row_model.specs.Boxes.{Box, coords}
 use Rattle.row_model.specs.Catalogue.{rows}
 use Rattle.row_model.specs.Multipliers.{Part, Proof, IsInOrder, shown_by}
@@ -70,8 +70,10 @@ SkipsParts count next m k (Err fault) = Failed m k fault
 
 -- ---- the room of a judge
 
--- the ends of the root box are there, room for the ends of any box, and room for as many parts as the network has rows
+-- The network keeps within its limits, and the ends of the root box are there, room for the ends of any box, and room for as many
+-- parts as the network has rows.
 pub record HasRoom (n : Net) (j : LineJudge) : Type 0 where
+  pub limited : IsLimited n
   pub root : AreRoot n j.root
   pub lows : length j.ends.low.items ≡ coords n
   pub highs : length j.ends.high.items ≡ coords n

@@ -3,7 +3,8 @@
 ghost use Rattle.std.specs.Prelude.{◌≡◌, ℕ, ◌<◌, ◌≤◌, ◌^◌, ◌*◌, ◌↔◌, pos, ◌-ℤ◌, ◌*ℤ◌, IfOk, IfSome, IfNone, IsTrue, if◌then◌else◌, ◌==◌, unsigned_abs};
 ghost use Rattle.pool_model.specs.Network.{net_of, IsLimited};
 ghost use Rattle.pool_model.specs.Plan.{Obeys, Written, cost_of, plan_of};
-ghost use Rattle.pool_model.specs.Starting.{IsCheapestStart, IsStarting, MeetsMinima, StartObeys, simple_plan as simple_written, start_at, start_cost as start_cost_of, starts, way_flow as way_flow_of, way_product, way_source};
+ghost use Rattle.pool_model.specs.Starting.{IsCheapestStart, IsStarting, MeetsMinima, StartObeys, simple_plan as simple_written, start_at};
+ghost use Rattle.pool_model.specs.Starting.{start_cost as start_cost_of, starts, way_flow as way_flow_of, way_product, way_source};
 ghost use Rattle.plan_core.specs.Checks.{IsCostOf};
 ghost use Rattle.plan_core.specs.Views.{shown_plan, shown_way, IsInRange};
 ghost use Rattle.plan_core.specs.Cheapest.{IsFirstLeast, IsStartWay, better as better_of, is_cheaper as is_cheaper_than};
@@ -35,6 +36,7 @@ pub fn cheapest_start(alloc: Global, net: &Network) -> Result<Option<Start>, Mem
     ensures cheapest { IfOk result (λ o. IfSome o (λ s. IsCheapestStart (net_of net.now) (shown_plan s.plan))) }
     ensures size { IfOk result (λ o. IfSome o (λ s. unsigned_abs s.cost.num ≤ 2 * 10 ^ 24)) }
     ensures none { IfOk result (λ o. IfNone o ((w : Written) → IsStarting (net_of net.now) w → ¬ Obeys (net_of net.now) (plan_of (net_of net.now) w))) }
+    ensures limited { IsLimited (net_of net.now) }
 {
     match cheapest(net) {
         None => Ok(None),

@@ -2,6 +2,7 @@
 pub mod Families
 pub mod RowSizes
 pub mod Placing
+pub mod RowCount
 pub mod NetworkRows
 pub mod Subtracting
 pub mod Terms

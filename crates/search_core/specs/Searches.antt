@@ -1,6 +1,6 @@
 -- What a search holds, and when it is a network's.
 use Rattle.std.specs.Prelude.{◌≤◌, ◌^◌, Bool, Option, Some, None, pos, ◌≤ℤ◌}
-use Rattle.pool_model.specs.Network.{Net}
+use Rattle.pool_model.specs.Network.{IsLimited, Net}
 use Rattle.pool_model.specs.Plan.{Written, plan_of, Obeys}
 use Rattle.pool_model.specs.Starting.{IsStarting, IsCheapestStart}
 use Rattle.plan_core.specs.Checks.{IsCostOf}
@@ -43,7 +43,8 @@ abbrev pub IsStartOf : Net → Option Costed → Type 0
 IsStartOf n None = (w : Written) → IsStarting n w → ¬ Obeys n (plan_of n w)
 IsStartOf n (Some s) = IsCheapestStart n s.plan × IsCostOf n s.plan s.cost
 
--- the search is the network's
+-- the search is the network's, which keeps within its limits
 pub record IsSearchOf (n : Net) (s : Searching) : Type 0 where
+  pub limited : IsLimited n
   pub tree : IsOf n s.tree
   pub start : IsStartOf n s.start

@@ -1,7 +1,7 @@
 //! The memory that boxes are proved in.
 
 ghost use Rattle.std.specs.Prelude.{◌≡◌, IfOk, option_map, vec_len};
-ghost use Rattle.pool_model.specs.Network.{net_of};
+ghost use Rattle.pool_model.specs.Network.{IsLimited, net_of};
 ghost use Rattle.row_model.specs.Boxes.{Box};
 ghost use Rattle.row_model.specs.Multipliers.{bound as shows};
 ghost use Rattle.box_space.specs.Views.{shown_box_ends, shown_proof, AreEnds, AreEndsOf};
@@ -82,6 +82,7 @@ impl Bench {
         advice: &Advice,
         bound: i128,
     ) -> Result<Option<Proof>, Memory>
+        requires limited { IsLimited (net_of net.now) }
         requires ends { AreEnds (net_of net.now) ends.now }
         requires bench { IsBench (net_of net.now) self.old }
         ensures bench { IsBench (net_of net.now) self.new }
@@ -103,6 +104,7 @@ impl Bench {
         pivots: u32,
         bound: i128,
     ) -> Result<Option<Proof>, Memory>
+        requires limited { IsLimited (net_of net.now) }
         requires ends { AreEnds (net_of net.now) ends.now }
         requires bench { IsBench (net_of net.now) self.old }
         ensures bench { IsBench (net_of net.now) self.new }
@@ -132,13 +134,13 @@ fn round_on(
     advice: &Advice,
     bound: i128,
 ) -> Result<Option<Proof>, Memory>
+    requires limited { IsLimited (net_of net.now) }
     requires ends { AreEnds (net_of net.now) ends.now }
     requires serves { Serves (net_of net.now) rounding.old }
     ensures serves { Serves (net_of net.now) rounding.new }
     ensures given { (form : forms.Form) (b : Box) → IsProgramOf (net_of net.now) form (shown_box_ends ends.now) relaxation.now
         → AreEndsOf (net_of net.now) b ends.now → IfOk result (λ o. IsGiven (net_of net.now) form b (shows bound) (option_map shown_proof o)) }
 {
-    let _counts = net.counts();
     let view = ends.view();
     let program = relaxation.program();
     rounding.round(net, &view, program, advice, Shown::Bound(bound))

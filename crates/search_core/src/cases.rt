@@ -26,7 +26,6 @@ impl Search {
         ensures some { IfSome result (λ w. IsBetterStart (net_of net.now) (searched self.now) (shown_plan w.now)) }
         ensures none { IfNone result (HasNoBetterStart (net_of net.now) (searched self.now)) }
     {
-        let _counts = net.counts();
         match &self.start {
             None => None,
             Some(start) => {

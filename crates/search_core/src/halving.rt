@@ -2,7 +2,7 @@
 
 ghost use Rattle.std.specs.Prelude.{◌≡◌, ◌<◌, All, IfOk, IfSome, ℤ, pos, ◌+ℤ◌, ◌-ℤ◌, ◌≤ℤ◌, ◌≤◌, ◌^◌, unsigned_abs, get_or};
 ghost use Rattle.std.specs.Int.RustNames.{int_div};
-ghost use Rattle.pool_model.specs.Network.{net_of, Net};
+ghost use Rattle.pool_model.specs.Network.{IsLimited, net_of, Net};
 ghost use Rattle.row_model.specs.Boxes.{coords, Box};
 ghost use Rattle.box_space.specs.Views.{shown_box_ends, AreEnds, AreEndsOf};
 ghost use Rattle.box_space.specs.declared.coordinates.Form as forms;
@@ -36,6 +36,7 @@ impl Bench {
         coord: u32,
         pivots: u32,
     ) -> Result<Halving, Memory>
+        requires limited { IsLimited (net_of net.now) }
         requires ends { AreEnds (net_of net.now) leaf.now.ends }
         requires bench { IsBench (net_of net.now) self.old }
         requires known { coord < coords (net_of net.now) }
@@ -72,6 +73,7 @@ impl Bench {
         coord: u32,
         pivots: u32,
     ) -> Result<Halving, Memory>
+        requires limited { IsLimited (net_of net.now) }
         requires ends { AreEnds (net_of net.now) leaf.now.ends }
         requires bench { IsBench (net_of net.now) self.old }
         requires known { coord < coords (net_of net.now) }
@@ -89,6 +91,7 @@ impl Bench {
 
 /// The middle of a box's ends at a coordinate, rounded down.
 fn middle(net: &Network, ends: &BoxEnds, coord: u32) -> i64
+    requires limited { IsLimited (net_of net.now) }
     requires ends { AreEnds (net_of net.now) ends.now }
     requires known { coord < coords (net_of net.now) }
     ensures { result ≡ middle_at (shown_box_ends ends.now) coord }

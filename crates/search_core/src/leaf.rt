@@ -1,7 +1,7 @@
 //! The least leaf: where its program starts, and how a cut rule sees it.
 
 ghost use Rattle.std.specs.Prelude.{◌≡◌, ◌<◌, ◌≤ℤ◌, Some, IfOk, vec_len};
-ghost use Rattle.pool_model.specs.Network.{net_of};
+ghost use Rattle.pool_model.specs.Network.{IsLimited, net_of};
 ghost use Rattle.row_model.specs.Boxes.{coords, root, Box};
 ghost use Rattle.row_model.specs.Trees.{tree_bound};
 ghost use Rattle.box_space.specs.Views.{shown_box_ends, AreEnds, AreEndsOf};
@@ -50,7 +50,6 @@ impl Search {
         ensures bench { IfOk result (λ l. IsBench (net_of net.now) l.1) }
         ensures form { IfOk result (λ l. l.1.form ≡ self.now.options.form) }
     {
-        let _counts = net.counts();
         let Some(node) = self.tree.least_leaf() else {
             unreachable!()
         };
@@ -116,7 +115,8 @@ pub(crate) fn leaf_view(
     ends: &BoxEnds,
     misses: &[u64],
 ) -> Result<LeafView, Memory>
-    requires { AreEnds (net_of net.now) ends.now }
+    requires limited { IsLimited (net_of net.now) }
+    requires ends { AreEnds (net_of net.now) ends.now }
     ensures { (b : Box) → AreEndsOf (net_of net.now) b ends.now → IfOk result (IsViewOf (net_of net.now) form b node) }
 {
     let mut rows = Vec::new(alloc);
@@ -130,6 +130,7 @@ pub(crate) fn leaf_view(
 
 /// The row of a coordinate.
 fn row_of(net: &Network, ends: &BoxEnds, coord: u32, miss: u64) -> CoordRow
+    requires limited { IsLimited (net_of net.now) }
     requires ends { AreEnds (net_of net.now) ends.now }
     requires known { coord < coords (net_of net.now) }
     ensures row { IsRow result }
@@ -149,6 +150,7 @@ fn row_of(net: &Network, ends: &BoxEnds, coord: u32, miss: u64) -> CoordRow
 
 /// The ends of a box at a coordinate.
 pub(crate) fn ends_at(net: &Network, ends: &BoxEnds, coord: u32) -> (i64, i64)
+    requires limited { IsLimited (net_of net.now) }
     requires ends { AreEnds (net_of net.now) ends.now }
     requires known { coord < coords (net_of net.now) }
     ensures low { result.0 ≡ (shown_box_ends ends.now).low coord }
@@ -157,18 +159,17 @@ pub(crate) fn ends_at(net: &Network, ends: &BoxEnds, coord: u32) -> (i64, i64)
     ensures near { AreNear result.0 result.1 }
     ensures inside { ((root (net_of net.now)).low coord ≤ℤ result.0) × (result.1 ≤ℤ (root (net_of net.now)).high coord) }
 {
-    let _counts = net.counts();
     let view = ends.view();
     (view.low_at(coord), view.high_at(coord))
 }
 
 /// The ends of the root box at a coordinate.
 pub(crate) fn root_ends_at(net: &Network, coord: u32) -> (i64, i64)
-    requires { coord < coords (net_of net.now) }
+    requires limited { IsLimited (net_of net.now) }
+    requires known { coord < coords (net_of net.now) }
     ensures low { result.0 ≡ (root (net_of net.now)).low coord }
     ensures high { result.1 ≡ (root (net_of net.now)).high coord }
     ensures near { AreNear result.0 result.1 }
 {
-    let _counts = net.counts();
     root_ends(net, coord_at(net, coord))
 }

@@ -1,7 +1,7 @@
 //! The look at the best coordinates of a leaf: both halves of each are proved before one is cut.
 
 ghost use Rattle.std.specs.Prelude.{◌≡◌, All, IfOk};
-ghost use Rattle.pool_model.specs.Network.{net_of};
+ghost use Rattle.pool_model.specs.Network.{IsLimited, net_of};
 ghost use Rattle.row_model.specs.Boxes.{Box};
 ghost use Rattle.box_space.specs.Views.{AreEnds, AreEndsOf};
 ghost use Rattle.search_core.specs.Benches.{IsBench};
@@ -35,6 +35,7 @@ impl Search {
         leaf: &Leaf,
         bench: &mut Bench,
     ) -> Result<Looked, Memory>
+        requires limited { IsLimited (net_of net.now) }
         requires ends { AreEnds (net_of net.now) leaf.now.ends }
         requires bench { IsBench (net_of net.now) bench.old }
         ensures bench { IsBench (net_of net.now) bench.new }

@@ -47,7 +47,6 @@ impl Search {
             (⟦<branching::RuleClosure as Fn(&branching::LeafView) -> usize>⟧.post rule.now.closure)) }
         ensures in_order { IfOk result (IsDo (λ entry. IsEntryInOrder (net_of net.now) (searched self.now) (shown_entry entry))) }
     {
-        let _counts = net.counts();
         if let Some(plan) = self.better_start(net) {
             let plan = copy(alloc, plan)?;
             return Ok(Next::Do(Entry::Improve(plan)));

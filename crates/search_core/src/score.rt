@@ -4,7 +4,7 @@
 //! what its earlier cuts gained. Proportions count half as much again. All in whole numbers.
 
 ghost use Rattle.std.specs.Prelude.{◌<◌};
-ghost use Rattle.pool_model.specs.Network.{net_of};
+ghost use Rattle.pool_model.specs.Network.{IsLimited, net_of};
 ghost use Rattle.row_model.specs.Boxes as boxes;
 ghost use Rattle.box_space.specs.Views.{AreEnds};
 
@@ -57,6 +57,7 @@ fn miss(
     violation: i128,
     gains: &Gains,
 ) -> u64
+    requires limited { IsLimited (net_of net.now) }
     requires ends { AreEnds (net_of net.now) ends.now }
     requires known { coord < boxes.coords (net_of net.now) }
 {

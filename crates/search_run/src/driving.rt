@@ -38,7 +38,6 @@ pub fn run_search(
     ensures run { IfOk result (λ r. IsRun (net_of net.now) orders (searched_of tree.kept) (searched_of r.tree.kept) r.ended) }
     ensures found { IfOk result (λ r. IsFound (net_of net.now) orders (searched_of tree.kept) (searched_of r.tree.kept) r.ended) }
 {
-    let _limited = net.sizes();
     let mut search = Search::start(alloc, net, orders.options(), tree)?;
     let ended = drive(alloc, net, orders, &mut search)?;
     let tree = search.into_tree();

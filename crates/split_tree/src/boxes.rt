@@ -2,7 +2,7 @@
 
 ghost use Rattle.std.specs.Prelude.{◌≡◌, ◌<◌, IfOk, get_or, pos, length};
 ghost use Rattle.std.specs.Int.{int_min, int_max};
-ghost use Rattle.pool_model.specs.Network.{net_of};
+ghost use Rattle.pool_model.specs.Network.{IsLimited, net_of};
 ghost use Rattle.row_model.specs.Boxes.{coords};
 ghost use Rattle.row_model.specs.Trees as trees;
 ghost use Rattle.split_tree.specs.Splits.{IsOf, MayCome};
@@ -29,12 +29,12 @@ impl SplitTree {
 
     /// The same where the ends are held already: those of the root box become those of the node's. It takes no memory.
     pub fn narrow(&self, net: &Network, node: u32, ends: &mut BoxEnds)
+        requires limited { IsLimited (net_of net.now) }
         requires tree { IsOf (net_of net.now) self.now }
         requires there { node < trees.nodes self.now.list }
         requires root { AreRoot (net_of net.now) ends.old }
         ensures { AreEndsOf (net_of net.now) (trees.box_of (net_of net.now) self.now.list node) ends.new }
     {
-        let _counts = net.counts();
         let splits = self.splits();
         let mut at = node;
         while at > 0 {

@@ -20,7 +20,6 @@ use box_tree::{Best, Tree};
 use cert_format::{Certificate, Claim, NodeProof, cert_law};
 use edge_io::Memory;
 use plan_core::{Cost, WrittenPlan, check_plan};
-use row_book::rows;
 use std::alloc::{AllocError, Global};
 
 /// The certificate of a tree and its cheapest plan: it is valid for the network, and it has a text.
@@ -32,8 +31,6 @@ pub fn certificate_of(alloc: Global, net: &Network, tree: Tree) -> Result<Certif
     ensures limited { IsLimited (net_of net.now) }
 {
     let shape = net.counts();
-    let _reach = net.reach_bound();
-    let _rows = rows(net);
     let bound = tree.bound();
     let parts = tree.into_parts();
     let certificate = Certificate {

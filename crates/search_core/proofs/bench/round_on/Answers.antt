@@ -16,5 +16,5 @@ returns-clause-given c = λ form b is ends.
     let fits : FitsSigned w128 c.args.bound = search rules in
     subst (λ (z : ℤ). IfOk c.round.result (λ o. IsGiven n form b (bound z) (option_map shown_proof o))) (to_z-of_z fits)
     (given-of n form c.view-view.result c.args.ends.now b c.program-program.result.now c.args.advice.now
-    (bound (to_z w128 (of_z w128 c.args.bound))) c.counts-counts.ensures.limited c.view-view.ensures.low c.view-view.ensures.high
+    (bound (to_z w128 (of_z w128 c.args.bound))) c.requires.limited c.view-view.ensures.low c.view-view.ensures.high
     on ends c.round.result c.round.ensures.rounded c.round.ensures.price (c.round.ensures.form form on.numbers))

@@ -13,4 +13,4 @@ returns-clause-near c =
     let low : c.low_at.result ≡ get_or e.low.items c.args.coord (pos 0) = search rules in
     let high : c.high_at.result ≡ get_or e.high.items c.args.coord (pos 0) = search rules in
     near-same _ _ c.low_at.result c.high_at.result (to_z-of_z low_fits) (to_z-of_z high_fits)
-    (ends-at (net_of c.args.net.now) (shown_box_ends e) c.args.coord c.low_at.result c.high_at.result c.counts-counts.ensures.limited c.requires.ends.proper c.requires.known low high).near
+    (ends-at (net_of c.args.net.now) (shown_box_ends e) c.args.coord c.low_at.result c.high_at.result c.requires.limited c.requires.ends.proper c.requires.known low high).near

@@ -9,4 +9,4 @@ returns-clause-near c =
     let n = net_of c.args.net.now in
     let at = coord_at n c.args.coord in
     near-same c.root_ends.result.0 c.root_ends.result.1 (root_low n at) (root_high n at) (c.root_ends.ensures.low ∙ ap (root_low n) c.coord_at.ensures.coordinate)
-    (c.root_ends.ensures.high ∙ ap (root_high n) c.coord_at.ensures.coordinate) (root-near n c.counts-counts.ensures.limited c.args.coord c.requires)
+    (c.root_ends.ensures.high ∙ ap (root_high n) c.coord_at.ensures.coordinate) (root-near n c.requires.limited c.args.coord c.requires.known)

@@ -9,6 +9,8 @@ use Rattle.box_tree.specs.Kept.{searched_of}
 use Rattle.cert_format.specs.Cert.{IsShaped}
 use Rattle.cert_format.specs.Valid.{IsValid}
 use Rattle.cert_format.specs.Views.{shown_claim, shown_node_proof}
+use Rattle.blend_network.proofs.Margins.{reach-small}
+use Rattle.row_book.proofs.RowCount.{few-rows}
 use Rattle.tree_certificate.proofs.Found.{found_cert, found_shaped, found_valid, held_bound, tree_low}
 use Rattle.tree_certificate.proofs.certificate.certificate_of.Goals as goal
 
@@ -26,7 +28,7 @@ pub claim_of-requires-clause-low : goal.claim_of-requires-clause-low
 claim_of-requires-clause-low c =
     let n = net_of c.args.net.now in
     tree_low n (searched_of c.args.tree.kept).tree c.bound-bound.result
-    (subst (λ z. unsigned_abs z ≤ 128 * 10 ^ 24) c.reach_bound-reach.ensures.bound c.reach_bound-reach.ensures.size) (c.bound-bound.ensures.bound n c.requires)
+    (reach-small n c.counts-shape.ensures.limited) (c.bound-bound.ensures.bound n c.requires)
 
 pub cert_law-requires : goal.cert_law-requires
 cert_law-requires c =
@@ -39,7 +41,7 @@ cert_law-requires c =
     c.claim_of.ensures (c.plan_of.ensures ∙ c.into_parts-parts.ensures.plan)
     (c.bound-bound.ensures.bound n c.requires) c.into_parts-parts.ensures.splits c.in_ok-node_proofs.ensures (sym (length-map c.into_parts-parts.result.proofs.items (option_map shown_proof)))
     c.into_parts-parts.ensures.proofs c.requires.kept.proved in
-    subst IsShaped (sym found) (found_shaped n (searched_of k) (omega (arith, c.rows-rows.ensures.few, c.rows-rows.ensures.count)) c.requires.kept.searched)
+    subst IsShaped (sym found) (found_shaped n (searched_of k) (few-rows n c.counts-shape.ensures.limited c.counts-shape.ensures.paths) c.requires.kept.searched)
 
 pub returns-clause-found : goal.returns-clause-found
 returns-clause-found c =

@@ -1,4 +1,4 @@
-use Rattle.std.proofs.Common.{option_map, ℤ, subst, ◌∙◌, rules, FitsSigned, to_z, of_z, to_z-of_z}
+use Rattle.std.proofs.Common.{option_map, ℤ, subst, rules, FitsSigned, to_z, of_z, to_z-of_z}
 use mir.Syntax.{w64, w128}
 use Rattle.pool_model.specs.Network.{net_of}
 use Rattle.row_model.specs.Boxes.{left_of, right_of}

@@ -9,7 +9,7 @@ use Rattle.split_tree.proofs.splits.SplitTree.narrow.Goals as goal
 pub loop-at-init : goal.loop-at-init
 loop-at-init c =
     so_far-first (net_of c.args.net.now)
-    (tree_of c.args.self.now.list) c.args.node c.args.ends.now.low.items c.args.ends.now.high.items c.counts-counts.ensures.limited
+    (tree_of c.args.self.now.list) c.args.node c.args.ends.now.low.items c.args.ends.now.high.items c.requires.limited
     (tree-of (net_of c.args.net.now) c.args.self.now c.requires.tree) c.requires.there
     c.requires.root.lows c.requires.root.highs c.requires.root.low c.requires.root.high
 
@@ -95,5 +95,5 @@ loop-at-preserved c =
 pub returns : goal.returns
 returns c =
     so_far-last (net_of c.args.net.now)
-    (tree_of c.args.self.now.list) c.args.node c.loop-at.at c.loop-at.ends c.counts-counts.ensures.limited
+    (tree_of c.args.self.now.list) c.args.node c.loop-at.at c.loop-at.ends c.requires.limited
     (tree-of (net_of c.args.net.now) c.args.self.now c.requires.tree) c.requires.there (omega arith) c.loop-at.invariant
