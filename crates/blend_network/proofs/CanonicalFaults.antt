@@ -1,5 +1,6 @@
 -- The canonical rows of a network are rectangular and faultless.
-use Rattle.std.proofs.Common.{◌≡◌, ℕ, zero, suc, ◌+◌, ◌^◌, ◌<◌, ◌≤◌, ℤ, pos, List, [], ◌∷◌, ◌++◌, length, map, get_or, All, Contains, ◌⊎◌, Option, None, Some, refl, sym, ap, subst, ◌∙◌, inl, inr, arith}
+use Rattle.std.proofs.Common.{◌≡◌, ℕ, zero, suc, ◌+◌, ◌^◌, ◌<◌, ◌≤◌, ℤ, pos, List, [], ◌∷◌, ◌++◌, length, map, get_or, All, Contains, ◌⊎◌, Option, None, Some}
+use Rattle.std.proofs.Common.{refl, sym, ap, subst, ◌∙◌, inl, inr, arith}
 use Rattle.std.specs.Option.{ForSome}
 use Rattle.std.proofs.lemmas.List.{length-map, length-append, get_or-map, get_or_default}
 use Rattle.std.proofs.lemmas.List.Elements.{All-map, All-from_get_or, Contains-append_cases, Contains-get_or}
@@ -11,7 +12,10 @@ use Rattle.pool_model.specs.Network.{Network, net_of, IsLimited, IsWithin, no_so
 use Rattle.pool_model.specs.Paths.{paths_of}
 use Rattle.network_parts.specs.declared.fault.Kind.{Kind}
 use Rattle.network_parts.specs.declared.fault.Kind.TheVariants.{Source, Pool, Product, Quality, Arc}
-use Rattle.network_parts.specs.Faults.{IsTooMany, IsBadAt, IsBadName, IsRepeatAt, IsDuplicateName, IsUnknownName, IsArcBackwards, IsPoolToPool, IsDuplicateArc, IsPoolWithoutInput, IsPoolWithoutOutput, IsOutOfRange, IsLeastAboveMost, IsUpTo, IsSourceInRange, IsPoolInRange, IsProductInRange, IsOrderly, no_source_row, no_pool_row, no_product_row, row_names, names_before, node_names, ends_of, IsFaultless}
+use Rattle.network_parts.specs.Faults.{IsTooMany, IsBadAt, IsBadName, IsRepeatAt, IsDuplicateName, IsUnknownName, IsArcBackwards, IsPoolToPool, IsDuplicateArc}
+use Rattle.network_parts.specs.Faults.{IsPoolWithoutInput, IsPoolWithoutOutput, IsOutOfRange, IsLeastAboveMost, IsUpTo, IsSourceInRange, IsPoolInRange}
+use Rattle.network_parts.specs.Faults.{IsProductInRange, IsOrderly, no_source_row, no_pool_row, no_product_row, row_names, names_before, node_names, ends_of}
+use Rattle.network_parts.specs.Faults.{IsFaultless}
 use Rattle.blend_network.specs.Kinds.{names_of}
 use Rattle.blend_network.specs.Made.{IsMade}
 use Rattle.blend_network.specs.Canonical.{canonical_source, canonical_pool, canonical_product, canonical_arc, canonical_arcs, canonical_rows}

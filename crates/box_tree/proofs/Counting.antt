@@ -31,7 +31,8 @@ off_it : (s : Split) (c : ℕ) → c ≢ s.coord → cuts_on (s ∷ []) c ≡ 0
 off_it s c d = ap (λ (b : Bool). length (if b then s ∷ [] else [])) (other_leaf s.coord c (λ e. d (sym e)))
 
 cuts_on-more : (splits : List Split) (s : Split) (c : ℕ) → cuts_on (splits ++ s ∷ []) c ≡ cuts_on splits c + cuts_on (s ∷ []) c
-cuts_on-more splits s c = ap (λ (xs : List Split). length xs) (filter-append (λ z. z.coord == c) splits (s ∷ [])) ∙ length-append (filter (λ z. z.coord == c) splits) (filter (λ z. z.coord == c) (s ∷ []))
+cuts_on-more splits s c = ap (λ (xs : List Split). length xs) (filter-append (λ z. z.coord == c) splits (s ∷ []))
+    ∙ length-append (filter (λ z. z.coord == c) splits) (filter (λ z. z.coord == c) (s ∷ []))
 
 -- one split more
 pub more-counted : (n : Net) (splits : List Split) (s : Split) (counts : List ℕ) → s.coord < coords n → AreCounts n splits counts → AreCounts n (splits ++ s ∷ []) (counted counts s.coord)

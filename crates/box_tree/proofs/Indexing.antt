@@ -159,7 +159,8 @@ same-cut splits s node d = cut_one-more splits s node ∙ go (is_cut splits node
 -- no split cuts a node that is not there
 pub cut-past : (n : Net) (t : Splits) → AreCut n t → (node : ℕ) → nodes t.list ≤ node → is_cut t.list node ≡ false
 cut-past n t is node h =
-    ap (λ (xs : List Split). is_cut xs node) (sym (take_all (length t.list) t.list (omega arith))) ∙ uncut_later n t.list (length t.list) node (omega arith) (omega (arith, h)) (λ i lt. is.in_order i lt)
+    ap (λ (xs : List Split). is_cut xs node) (sym (take_all (length t.list) t.list (omega arith)))
+    ∙ uncut_later n t.list (length t.list) node (omega arith) (omega (arith, h)) (λ i lt. is.in_order i lt)
 
 -- a split of a leaf, with the bounds of its halves
 pub grown-step : (splits : List Split) (bounds : List (Option ℤ)) (s : Split) (lb rb : Option ℤ) → length bounds ≡ nodes splits → s.leaf < nodes splits
@@ -176,8 +177,10 @@ grown-step splits bounds s lb rb long there past =
       left_new = bound-past splits bounds (left_node t) (omega (arith, long));
       right_new = bound-past splits bounds (right_node t) (omega (arith, long));
       was = λ z e. kept-bound_at splits bounds s.leaf z e;
-      left_is = uncut-bound more new (left_node t) (still-uncut splits s (left_node t) (past (left_node t) (omega arith)) (λ e. absurd (omega (arith, e, there)))) ∙ at_left bounds lb rb None t long (left_node t) refl;
-      right_is = uncut-bound more new (right_node t) (still-uncut splits s (right_node t) (past (right_node t) (omega arith)) (λ e. absurd (omega (arith, e, there)))) ∙ at_right bounds lb rb None t long (right_node t) refl;
+      left_is = uncut-bound more new (left_node t) (still-uncut splits s (left_node t) (past (left_node t) (omega arith)) (λ e. absurd (omega (arith, e, there))))
+          ∙ at_left bounds lb rb None t long (left_node t) refl;
+      right_is = uncut-bound more new (right_node t) (still-uncut splits s (right_node t) (past (right_node t) (omega arith)) (λ e. absurd (omega (arith, e, there))))
+          ∙ at_right bounds lb rb None t long (right_node t) refl;
       gone_is = cut-bound more new s.leaf (now-cut splits s);
       others = λ m a b c. ap (λ (cut : Bool). if cut then None else get_or new m None) (same-cut splits s m (λ e. c (sym e)))
           ∙ ap (λ (o : Option ℤ). if is_cut splits m then None else o) (elim (where_node t m) [
@@ -211,7 +214,8 @@ first-indexed bound leaves put = record {
 }
 
 -- the same leaves in another list
-pub same-indexed : (splits : List Split) (bounds : List (Option ℤ)) (leaves others : List OpenLeaf) → AreIndexed splits bounds leaves → ((leaf : OpenLeaf) → Contains others leaf ↔ Contains leaves leaf)
+pub same-indexed : (splits : List Split) (bounds : List (Option ℤ)) (leaves others : List OpenLeaf) → AreIndexed splits bounds leaves
+    → ((leaf : OpenLeaf) → Contains others leaf ↔ Contains leaves leaf)
     → AreIndexed splits bounds others
 same-indexed splits bounds leaves others are same = record { members = λ q. (λ h. (are.members q).0 ((same q).0 h), λ e. (same q).1 ((are.members q).1 e)) }
 

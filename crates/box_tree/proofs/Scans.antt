@@ -1,5 +1,6 @@
 -- The bound of a tree, its least leaf and its open leaves, from what is kept.
-use Rattle.std.proofs.Common.{◌≡◌, ◌≢◌, ℕ, zero, suc, ◌<◌, ◌⊎◌, inl, inr, length, Bool, true, false, ◌+◌, if◌then◌else◌, Option, Some, None, ℤ, arith, refl, sym, ap, ◌∙◌, List, [], get_or, subst, ◌≤◌, ◌≤ℤ◌, ◌<ℤ◌}
+use Rattle.std.proofs.Common.{◌≡◌, ◌≢◌, ℕ, zero, suc, ◌<◌, ◌⊎◌, inl, inr, length, Bool, true, false, ◌+◌, if◌then◌else◌, Option, Some, None, ℤ, arith, refl}
+use Rattle.std.proofs.Common.{sym, ap, ◌∙◌, List, [], get_or, subst, ◌≤◌, ◌≤ℤ◌, ◌<ℤ◌}
 use Rattle.std.specs.Int.{int_min}
 use Rattle.std.proofs.lemmas.Int.{clamps}
 use Rattle.std.proofs.lemmas.Bool.{cases_lt}

@@ -46,11 +46,28 @@ first-kept n spans cut = record {
 }
 
 -- the same, as code holds it
-pub first-held : (n : Net) (t : Splits) (cuts : List ℕ) (proofs : List (Option HeldProof)) (bounds : List (Option ℤ)) → t.list ≡ [] → AreCut n t → cuts ≡ replicate (coords n) 0 → proofs ≡ None ∷ [] → bounds ≡ Some (reach_bound n) ∷ []
+pub first-held : (n : Net) (t : Splits) (cuts : List ℕ) (proofs : List (Option HeldProof)) (bounds : List (Option ℤ)) → t.list ≡ [] → AreCut n t
+    → cuts ≡ replicate (coords n) 0 → proofs ≡ None ∷ [] → bounds ≡ Some (reach_bound n) ∷ []
     → IsKeptOf n record { splits = t; cuts = cuts; proofs = map (option_map shown_proof) proofs; bounds = bounds; best = None; cost = None }
 first-held n t cuts proofs bounds e cut c f g =
     subst (λ (xs : List ℕ). IsKeptOf n record { splits = t; cuts = xs; proofs = map (option_map shown_proof) proofs; bounds = bounds; best = None; cost = None }) (sym c)
-    (subst (λ (xs : List (Option HeldProof)). IsKeptOf n record { splits = t; cuts = replicate (coords n) 0; proofs = map (option_map shown_proof) xs; bounds = bounds; best = None; cost = None }) (sym f)
+    (subst (λ (xs : List (Option HeldProof)). IsKeptOf n record {
+      splits = t;
+      cuts = replicate (coords n) 0;
+      proofs = map
+          (option_map shown_proof) xs;
+      bounds = bounds;
+      best = None;
+      cost = None;
+    }) (sym f)
     (subst (λ (xs : List (Option ℤ)). IsKeptOf n record { splits = t; cuts = replicate (coords n) 0; proofs = None ∷ []; bounds = xs; best = None; cost = None }) (sym g)
     (subst (λ (xs : List Split). AreCut n record { list = xs; spans = t.spans }
-    → IsKeptOf n record { splits = record { list = xs; spans = t.spans }; cuts = replicate (coords n) 0; proofs = None ∷ []; bounds = Some (reach_bound n) ∷ []; best = None; cost = None }) (sym e) (first-kept n t.spans) cut)))
+    → IsKeptOf n record {
+      splits = record { list = xs; spans = t.spans };
+      cuts = replicate (coords n) 0;
+      proofs = None ∷ [];
+      bounds = Some (reach_bound n)
+          ∷ [];
+      best = None;
+      cost = None;
+    }) (sym e) (first-kept n t.spans) cut)))

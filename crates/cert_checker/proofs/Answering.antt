@@ -85,7 +85,8 @@ other-at-once TooLong other = tt
 other-at-once Memory other = tt
 other-at-once (Refused c) other = absurd (other c refl)
 
-pub found-answered : (n : Net) (most : ℕ) (m k q : Moment) (r : Refusal) → m.reader ≡ fresh most → Found (IsRefusedFront n) m k r → r ≢ NoMemory → Kept k q → Finished k.reader k.rest q.reader q.rest → IsAnswered n most m q (Err (Refused r))
+pub found-answered : (n : Net) (most : ℕ) (m k q : Moment) (r : Refusal) → m.reader ≡ fresh most → Found (IsRefusedFront n) m k r → r ≢ NoMemory → Kept k q
+    → Finished k.reader k.rest q.reader q.rest → IsAnswered n most m q (Err (Refused r))
 found-answered n most m k q r new found other kept done =
     let items : List Field = found.items ++ done.items in
     let ran : Ran (fresh most) m.rest q.reader q.rest items = subst (λ (x : Reader). Ran x m.rest q.reader q.rest items) new (ran-then found.items done.items found.run.ran done.ran) in
@@ -109,8 +110,10 @@ abbrev pub after : Refusal → Result (Unit {0}) ItemFault → StreamRefusal
 after r (Ok x) = Refused r
 after r (Err fault) = of_fault fault
 
-pub finish-answered : (n : Net) (most : ℕ) (m k q : Moment) (r : Refusal) (result : Result (Unit {0}) ItemFault) → m.reader ≡ fresh most → Halts (IsRefusedFront n) m k (Refused r) → ((f : TextFault) → r ≢ Text f) → Kept k q
-    → OnOk result (Finished k.reader k.rest q.reader q.rest) → ((f : TextFault) → result ≡ Err (faults.Text f) → FailsLater k.reader k.rest q.reader q.rest f) → (result ≡ Err faults.TooLong → IsMore k.reader.left k.rest)
+pub finish-answered : (n : Net) (most : ℕ) (m k q : Moment) (r : Refusal) (result : Result (Unit {0}) ItemFault) → m.reader ≡ fresh most
+    → Halts (IsRefusedFront n) m k (Refused r) → ((f : TextFault) → r ≢ Text f) → Kept k q
+    → OnOk result (Finished k.reader k.rest q.reader q.rest) → ((f : TextFault) → result ≡ Err (faults.Text f) → FailsLater k.reader k.rest q.reader q.rest f)
+    → (result ≡ Err faults.TooLong → IsMore k.reader.left k.rest)
     → (result ≡ Err faults.TooLong → TookMore k.reader.left k.taken q.taken) → (result ≡ Err faults.Read → Rose k.faults q.faults) → IsAnswered n most m q (Err (after r result))
 finish-answered n most m k q r (Ok x) new halts other kept finished text long more read =
     let found = cause-found (IsRefusedFront n) m k r other halts.cause in
@@ -118,7 +121,12 @@ finish-answered n most m k q r (Ok x) new halts other kept finished text long mo
 finish-answered n most m k q r (Err fault) new halts other kept finished text long more read =
     let found = cause-found (IsRefusedFront n) m k r other halts.cause in
     halts-answered n most m q (of_fault fault) new
-    (failed-halts (IsRefusedFront n) m q fault (failed-then m k q found.0.items fault found.0.run record { kept = kept; why = why fault (λ f e. text f (ap (λ (x : ItemFault). failing x) e)) (λ e. long (ap (λ (x : ItemFault). failing x) e)) (λ e. more (ap (λ (x : ItemFault). failing x) e)) (λ e. read (ap (λ (x : ItemFault). failing x) e)) }))
+    (failed-halts (IsRefusedFront n) m q fault (failed-then m k q found.0.items fault found.0.run
+    record {
+      kept = kept;
+      why = why fault (λ f e. text f (ap (λ (x : ItemFault). failing x) e)) (λ e. long (ap (λ (x : ItemFault). failing x) e))
+          (λ e. more (ap (λ (x : ItemFault). failing x) e)) (λ e. read (ap (λ (x : ItemFault). failing x) e));
+    }))
     (fault-at-once fault)
   where
     failing : ItemFault → Result (Unit {0}) ItemFault

@@ -65,6 +65,7 @@ opens-none n k m e ready =
 
 -- ---- the numbers of a claim
 
-pub claims-gap : (o : Opening) (plan : WrittenPlan) (cost : Cost) (m j : Moment) (num : ℤ) (base : ℕ) (bound gap : ℤ) → o ≡ openings.Gap plan cost → Run m j (cost_is num base ∷ bound_is bound ∷ gap_is gap base ∷ [])
+pub claims-gap : (o : Opening) (plan : WrittenPlan) (cost : Cost) (m j : Moment) (num : ℤ) (base : ℕ) (bound gap : ℤ) → o ≡ openings.Gap plan cost
+    → Run m j (cost_is num base ∷ bound_is bound ∷ gap_is gap base ∷ [])
     → IsReady j states.End → IsClaimRead o m j (claims.Gap plan num base bound gap)
 claims-gap o plan cost m j num base bound gap e run ready = record { run = run; ready = ready; is = subst (λ (x : Opening). IsClaimOf x (with_gap (shown_plan plan) num base bound gap)) (sym e) refl }

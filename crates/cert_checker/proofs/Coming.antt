@@ -16,7 +16,10 @@ use Rattle.cert_stream.specs.declared.fault.ItemFault.TheVariants as faults
 use Rattle.cert_stream.specs.declared.items.Item.{Item}
 use Rattle.cert_stream.specs.declared.items.State.{State}
 use Rattle.cert_stream.specs.declared.items.State.TheVariants as states
-use Rattle.cert_stream.specs.Items.{Field, kind, shape, bases, weight, outflow, direct, splits, cut, proofs, head, one_part, cost_is, bound_is, gap_is, end_is, shown_item, kind_number, cuts_left, proofs_left, parts_left, directs_left, shaped_state, direct_words_at, outflow_words_at, weight_words_at, begin_at, shape_step_at, bases_step_at, weight_step_at, outflow_step_at, direct_step_at, head_step_at, claim_step_at, next_at}
+use Rattle.cert_stream.specs.Items.{Field, kind, shape, bases, weight, outflow, direct, splits, cut, proofs, head, one_part, cost_is, bound_is, gap_is, end_is}
+use Rattle.cert_stream.specs.Items.{shown_item, kind_number, cuts_left, proofs_left, parts_left, directs_left, shaped_state, direct_words_at, outflow_words_at}
+use Rattle.cert_stream.specs.Items.{weight_words_at, begin_at, shape_step_at, bases_step_at, weight_step_at, outflow_step_at, direct_step_at, head_step_at}
+use Rattle.cert_stream.specs.Items.{claim_step_at, next_at}
 use Rattle.cert_stream.specs.Streams.{at_of, GivesItem, GivesFault, IsMore, TookMore}
 use Rattle.cert_checker.specs.Runs.{Moment, Kept, Run}
 use Rattle.cert_checker.specs.Grammar.{kind_of, outflows_left, weights_left, MayCome, behind_item, Came}
@@ -153,7 +156,8 @@ next-fits states.End a b i t going e = in_claim states.End a b i t going e
 next-fits states.Ended a b i t going e = absurd (going refl)
 
 -- what a call gave, as the item that came
-pub item-came : (m k : Moment) (item : Item) → m.reader.state ≢ states.Ended → Kept m k → GivesItem m.reader m.rest k.reader k.rest item → RoseBy (m.reader.left - k.reader.left) m.taken k.taken → Came m k (Ok item)
+pub item-came : (m k : Moment) (item : Item) → m.reader.state ≢ states.Ended → Kept m k → GivesItem m.reader m.rest k.reader k.rest item
+    → RoseBy (m.reader.left - k.reader.left) m.taken k.taken → Came m k (Ok item)
 item-came m k item going kept gives counted =
     let f = next-fits m.reader.state (at_of m.reader (gives.took.taken ++ [])) (at_of k.reader []) (shown_item item) k.reader.state going (gives.reads [] (λ e. refl)) in (
       record { kept = kept; ran = ran-one item going gives; counted = counted },

@@ -32,14 +32,16 @@ pub cut-asks : (n : Net) (kind : Kind) (m k : Moment) (count t : ℕ) (tree : Sp
 cut-asks n kind m k count t tree are lt = are.ready.at ∙ cut-left kind count t lt
 
 -- the items with one split more
-cut-run : (n : Net) (kind : Kind) (m k l : Moment) (count t : ℕ) (tree : Splits) (s : Split) → AreCut n kind m k count t tree → Run k l (cut s ∷ []) → Run m l (splits count ∷ map cut (tree.list ++ s ∷ []))
+cut-run : (n : Net) (kind : Kind) (m k l : Moment) (count t : ℕ) (tree : Splits) (s : Split) → AreCut n kind m k count t tree → Run k l (cut s ∷ [])
+    → Run m l (splits count ∷ map cut (tree.list ++ s ∷ []))
 cut-run n kind m k l count t tree s are run =
     subst (λ (is : List Field). Run m l (splits count ∷ is)) (sym (map-append cut tree.list (s ∷ []))) (run-then m k l (splits count ∷ map cut tree.list) (cut s ∷ []) are.run run)
 
 one-more : (list : List Split) (s : Split) (t : ℕ) → length list ≡ t → length (list ++ s ∷ []) ≡ t + 1
 one-more list s t long = let one : length (s ∷ []) ≡ 1 = refl in omega (arith, long, one, length-append list (s ∷ []))
 
-pub cut-more : (n : Net) (kind : Kind) (m k l : Moment) (count t : ℕ) (tree new : Splits) (s : Split) → AreCut n kind m k count t tree → t < count → Run k l (cut s ∷ []) → IsReady l (cuts_left kind (count - (t + 1)))
+pub cut-more : (n : Net) (kind : Kind) (m k l : Moment) (count t : ℕ) (tree new : Splits) (s : Split) → AreCut n kind m k count t tree → t < count → Run k l (cut s ∷ [])
+    → IsReady l (cuts_left kind (count - (t + 1)))
     → new.list ≡ tree.list ++ s ∷ [] → IsOf n new → AreCut n kind m l count (t + 1) new
 cut-more n kind m k l count t tree new s are lt run ready longer is = record {
   run = subst (λ (x : List Split). Run m l (splits count ∷ map cut x)) (sym longer) (cut-run n kind m k l count t tree s are run);
@@ -49,7 +51,8 @@ cut-more n kind m k l count t tree new s are lt run ready longer is = record {
   is = is;
 }
 
-pub cut-wrong : (n : Net) (kind : Kind) (m k l : Moment) (count t : ℕ) (tree : Splits) (s : Split) (f : SplitFault) → AreCut n kind m k count t tree → t < count → Run k l (cut s ∷ []) → IsReady l (cuts_left kind (count - (t + 1)))
+pub cut-wrong : (n : Net) (kind : Kind) (m k l : Moment) (count t : ℕ) (tree : Splits) (s : Split) (f : SplitFault) → AreCut n kind m k count t tree → t < count
+    → Run k l (cut s ∷ []) → IsReady l (cuts_left kind (count - (t + 1)))
     → Holds n tree.list s f → Halts (IsWrongSplitList n) m l (Refused (SplitAt t))
 cut-wrong n kind m k l count t tree s f are lt run ready holds =
     let front : List Split = tree.list ++ s ∷ [] in

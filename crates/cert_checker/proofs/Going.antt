@@ -23,8 +23,10 @@ use Rattle.cert_checker.proofs.Lines.{next-unnamed, unnamed-none, next-named, na
 use Rattle.cert_checker.proofs.Raising.{judged-next}
 
 -- a node that no line names
-pub goes-on : (n : Net) (t : Splits) (all : List NodeProof) (node : ℕ) (reach : ℤ) (before after : Judge) → IsOf n t → node < nodes t.list → reach ≡ reach_bound n → IsRising all → AreJudged n t.list all node before
-    → (before.next < length all → node < node_at all before.next) → IsAdded t.list reach None before after → after.next ≡ before.next → after.scratch ≡ before.scratch → AreJudged n t.list all (node + 1) after
+pub goes-on : (n : Net) (t : Splits) (all : List NodeProof) (node : ℕ) (reach : ℤ) (before after : Judge) → IsOf n t → node < nodes t.list → reach ≡ reach_bound n
+    → IsRising all → AreJudged n t.list all node before
+    → (before.next < length all → node < node_at all before.next) → IsAdded t.list reach None before after → after.next ≡ before.next → after.scratch ≡ before.scratch
+    → AreJudged n t.list all (node + 1) after
 goes-on n t all node reach before after is there r rising judged above added next scratch =
     let other : before.next < length all → node_at all before.next ≢ node = λ lt e. let up = above lt in absurd (omega (arith, e, up)) in
     let none = unnamed-none all node before.next rising judged.next other in
@@ -38,7 +40,8 @@ goes-on n t all node reach before after is there r rising judged above added nex
     (subst (Fits n) (sym scratch) judged.fits)
 
 -- a node that the next line names, with what its proof shows
-pub takes-line : (n : Net) (t : Splits) (all : List NodeProof) (node : ℕ) (reach : ℤ) (before after : Judge) (proof : Proof) (shown : values.Shown) → IsOf n t → node < nodes t.list → reach ≡ reach_bound n → IsRising all
+pub takes-line : (n : Net) (t : Splits) (all : List NodeProof) (node : ℕ) (reach : ℤ) (before after : Judge) (proof : Proof) (shown : values.Shown) → IsOf n t
+    → node < nodes t.list → reach ≡ reach_bound n → IsRising all
     → AreJudged n t.list all node before → before.next < length all → get_or all before.next no_proof ≡ record { node = node; proof = proof }
     → IsInOrder n (box_of n t.list node) proof → shown_value shown ≡ shown_by n (box_of n t.list node) proof
     → IsAdded t.list reach (Some shown) before after → after.next ≡ before.next + 1 → Fits n after.scratch → AreJudged n t.list all (node + 1) after
@@ -55,24 +58,28 @@ takes-line n t all node reach before after proof shown is there r rising judged 
     fits
 
 -- there is a bound more
-pub added-long : (list : List Split) (reach : ℤ) (shown : Option values.Shown) (before after : Judge) → IsAdded list reach shown before after → length after.bounds.items ≡ length before.bounds.items + 1
+pub added-long : (list : List Split) (reach : ℤ) (shown : Option values.Shown) (before after : Judge) → IsAdded list reach shown before after
+    → length after.bounds.items ≡ length before.bounds.items + 1
 added-long list reach shown before after added =
     let one : length (raised added.above (option_map shown_value shown) ∷ []) ≡ 1 = refl in
     ap length added.longer ∙ omega (arith, one, length-append before.bounds.items (raised added.above (option_map shown_value shown) ∷ []))
 
 -- ---- a line that is read
 
-module _ (n : Net) (t : Splits) (node : ℕ) (reach : ℤ) (excess : Option ProofFault) (before : LineJudge) (gone : Judge) (all : List NodeProof) (is : IsOf n t) (there : node < nodes t.list) (r : reach ≡ reach_bound n) where
+module _ (n : Net) (t : Splits) (node : ℕ) (reach : ℤ) (excess : Option ProofFault) (before : LineJudge) (gone : Judge) (all : List NodeProof) (is : IsOf n t)
+    (there : node < nodes t.list) (r : reach ≡ reach_bound n) where
   -- the judge has gone on to the node of the next line
   abbrev HasGone : Type 0
-  HasGone = (IsRising all → AreJudged n t.list all (length before.judge.bounds.items) before.judge → (before.judge.next < length all → node ≤ node_at all before.judge.next) → AreJudged n t.list all node gone)
+  HasGone = (IsRising all → AreJudged n t.list all (length before.judge.bounds.items) before.judge → (before.judge.next < length all → node ≤ node_at all before.judge.next)
+      → AreJudged n t.list all node gone)
 
   gone-so : HasGone → IsNextLine n t.list node excess before all → AreJudged n t.list all node gone
   gone-so has next = has next.rising next.judged (λ lt. let at : node_at all before.judge.next ≡ node = ap (λ (p : NodeProof). p.node) next.line in omega (arith, at))
 
   pub line-taken : (shown : values.Shown) (seen mid after : Judge) → HasGone → gone.next ≡ before.judge.next → (next : IsNextLine n t.list node excess before all)
       → ((proof : Proof) → IsKept n proof before.proof excess → IsInOrder n (box_of n t.list node) proof × (shown_value shown ≡ shown_by n (box_of n t.list node) proof))
-      → seen.bounds ≡ gone.bounds → seen.next ≡ gone.next → Fits n seen.scratch → IsAdded t.list reach (Some shown) seen mid → after.bounds ≡ mid.bounds → after.next ≡ seen.next + 1 → Fits n after.scratch → AreJudged n t.list all (node + 1) after
+      → seen.bounds ≡ gone.bounds → seen.next ≡ gone.next → Fits n seen.scratch → IsAdded t.list reach (Some shown) seen mid → after.bounds ≡ mid.bounds
+      → after.next ≡ seen.next + 1 → Fits n after.scratch → AreJudged n t.list all (node + 1) after
   line-taken shown seen mid after has kept_next next value bounds seen_next seen_fits added after_bounds after_next fits =
       let judged = gone-so has next in
       let here : AreJudged n t.list all node seen = record {
@@ -88,7 +95,8 @@ module _ (n : Net) (t : Splits) (node : ℕ) (reach : ℤ) (excess : Option Proo
       (subst (λ (i : ℕ). i < length all) (sym at) next.there) (ap (λ (i : ℕ). get_or all i no_proof) at ∙ next.line) v.0 v.1
       record { above = added.above; root = added.root; child = added.child; longer = ap (λ v. v.items) after_bounds ∙ added.longer } after_next fits
 
-  pub line-faulty : (refusal : Refusal) → HasGone → (next : IsNextLine n t.list node excess before all) → ((proof : Proof) → IsKept n proof before.proof excess → IsFaultIn n (box_of n t.list node) node proof refusal)
+  pub line-faulty : (refusal : Refusal) → HasGone → (next : IsNextLine n t.list node excess before all)
+      → ((proof : Proof) → IsKept n proof before.proof excess → IsFaultIn n (box_of n t.list node) node proof refusal)
       → IsProofRefusal n (tree_with t.list all) refusal
   line-faulty refusal has next fault =
       let f = fault next.proof next.kept in

@@ -1,5 +1,6 @@
 -- Lines that are read and judged one after another.
-use Rattle.std.proofs.Common.{◌≡◌, ℕ, suc, ◌+◌, ◌-◌, ◌<◌, ◌≤◌, List, [], ◌∷◌, ◌++◌, length, get_or, Option, ℤ, Vec, Global, Result, Ok, Err, length-append, append_assoc, refl, sym, ap, subst, ◌∙◌, arith}
+use Rattle.std.proofs.Common.{◌≡◌, ℕ, suc, ◌+◌, ◌-◌, ◌<◌, ◌≤◌, List, [], ◌∷◌, ◌++◌, length, get_or, Option, ℤ, Vec, Global, Result, Ok, Err, length-append}
+use Rattle.std.proofs.Common.{append_assoc, refl, sym, ap, subst, ◌∙◌, arith}
 use Rattle.std.specs.Prelude.{map}
 use Rattle.std.specs.List.{flat_map}
 use Rattle.std.proofs.lemmas.List.{append-nil}
@@ -30,7 +31,8 @@ use Rattle.cert_checker.proofs.Placing.{line_of, one-line, placed-none, placed-m
 use Rattle.cert_checker.proofs.Raising.{judged-first}
 use Rattle.cert_checker.proofs.Running.{run-none, run-then, halts-then}
 
-pub lines-none : (n : Net) (list : List Split) (kind : Kind) (m : Moment) (count : ℕ) (judge : Judge) → IsReady m (proofs_left kind count) → judge.bounds.items ≡ [] → judge.next ≡ 0 → Fits n judge.scratch → AreLinesTaken n list kind m m count 0 0 judge
+pub lines-none : (n : Net) (list : List Split) (kind : Kind) (m : Moment) (count : ℕ) (judge : Judge) → IsReady m (proofs_left kind count) → judge.bounds.items ≡ []
+    → judge.next ≡ 0 → Fits n judge.scratch → AreLinesTaken n list kind m m count 0 0 judge
 lines-none n list kind m count judge ready none unread fits =
     let more : count ≡ count - 0 = omega arith in
     record {
@@ -45,7 +47,8 @@ lines-none n list kind m count judge ready none unread fits =
 -- ---- a proof that is not in order
 
 -- lines that are all in their places, of which one has a proof that is not in order
-unproved : (n : Net) (list : List Split) (kind : Kind) (m q : Moment) (count : ℕ) (r : Refusal) (lines : List NodeProof) → Run m q (flat_map proof_items lines) → IsReady q (claim_state kind) → length lines ≡ count
+unproved : (n : Net) (list : List Split) (kind : Kind) (m q : Moment) (count : ℕ) (r : Refusal) (lines : List NodeProof) → Run m q (flat_map proof_items lines)
+    → IsReady q (claim_state kind) → length lines ≡ count
     → ArePlaced list lines → IsProofRefusal n (tree_with list lines) r → Halts (IsWrongLineList n list count) m q (of_refusal r)
 unproved n list kind m q count (ProofOf node fault) lines run ready long placed is = record {
   kept = run.kept;
@@ -61,7 +64,8 @@ unproved n list kind m q count NoMemory lines run ready long placed is = record 
 unproved n list kind m q count _ lines run ready long placed is = absurd is
 
 -- a line behind some that is not in its place
-later-wrong : (n : Net) (list : List Split) (count : ℕ) (first : List NodeProof) (items : List Field) (c : Refusal) → IsLaterPlace list count first items c → IsWrongLineList n list count (flat_map proof_items first ++ items) c
+later-wrong : (n : Net) (list : List Split) (count : ℕ) (first : List NodeProof) (items : List Field) (c : Refusal) → IsLaterPlace list count first items c
+    → IsWrongLineList n list count (flat_map proof_items first ++ items) c
 later-wrong n list count first items c late = subst (λ (r : Refusal). IsWrongLineList n list count (flat_map proof_items first ++ items) r) (sym late.is) record {
   lines = first ++ late.more;
   node = late.node;
@@ -107,7 +111,8 @@ lines-all n list kind m q count least before after are goes next =
       };
     }
 
-module _ (n : Net) (list : List Split) (kind : Kind) (m j h : Moment) (count k least node scale parts : ℕ) (judge : Judge) (are : AreLinesTaken n list kind m j count k least judge) (lt : k < count) (run : Run j h (head node scale parts ∷ [])) where
+module _ (n : Net) (list : List Split) (kind : Kind) (m j h : Moment) (count k least node scale parts : ℕ) (judge : Judge)
+    (are : AreLinesTaken n list kind m j count k least judge) (lt : k < count) (run : Run j h (head node scale parts ∷ [])) where
   -- the head of a line that is not in its place
   pub taken-wrong : IsReady h (parts_left kind parts (count - (k + 1))) → ¬ ((least ≤ node) × (node < nodes list)) → Halts (IsWrongLineList n list count) m h (Refused (ProofPlace k))
   taken-wrong ready wrong =
@@ -163,7 +168,8 @@ module _ (n : Net) (list : List Split) (kind : Kind) (m j h : Moment) (count k l
         }
 
     -- one line more is taken
-    pub taken-more : (after : Judge) → IsReady l (proofs_left kind (count - (k + 1))) → ((all more : List NodeProof) → all ≡ (are.lines ++ line ∷ []) ++ more → ArePlaced list all → AreJudged n list all (node + 1) after)
+    pub taken-more : (after : Judge) → IsReady l (proofs_left kind (count - (k + 1)))
+        → ((all more : List NodeProof) → all ≡ (are.lines ++ line ∷ []) ++ more → ArePlaced list all → AreJudged n list all (node + 1) after)
         → AreLinesTaken n list kind m l count (k + 1) (node + 1) after
     taken-more after ready judged = record {
       lines = are.lines ++ line ∷ [];
@@ -175,7 +181,8 @@ module _ (n : Net) (list : List Split) (kind : Kind) (m j h : Moment) (count k l
     }
 
     -- its proof is not in order, and the lines behind it are read for their places
-    pub taken-refused : (excess : Option ProofFault) (before after : LineJudge) (r : Refusal) (q : Moment) (x : Result (Unit {0}) StreamRefusal) → before.judge ≡ judge → judge.next ≡ k → length judge.bounds.items ≡ least → IsKept n line.proof before.proof excess
+    pub taken-refused : (excess : Option ProofFault) (before after : LineJudge) (r : Refusal) (q : Moment) (x : Result (Unit {0}) StreamRefusal) → before.judge ≡ judge
+        → judge.next ≡ k → length judge.bounds.items ≡ least → IsKept n line.proof before.proof excess
         → TakesLine n list node excess before after (Err r) → ReadsPlaces list count (claim_state kind) (are.lines ++ line ∷ []) l q x → OrElse n list count m q r x
     taken-refused excess before after r q (Ok u) same next bounds kept taken read =
         let all = (are.lines ++ line ∷ []) ++ read.more in

@@ -1,5 +1,6 @@
 -- The parts of a line, read one after another.
-use Rattle.std.proofs.Common.{◌≡◌, ℕ, zero, suc, ◌+◌, ◌-◌, ◌<◌, ◌≤◌, ◌⊎◌, inl, inr, Bool, true, false, IsTrue, ◌↔◌, List, [], ◌∷◌, ◌++◌, length, take, get_or, All, None, Some, pos, length-append, refl, sym, ap, subst, ◌∙◌, arith}
+use Rattle.std.proofs.Common.{◌≡◌, ℕ, zero, suc, ◌+◌, ◌-◌, ◌<◌, ◌≤◌, ◌⊎◌, inl, inr, Bool, true, false, IsTrue, ◌↔◌, List, [], ◌∷◌, ◌++◌, length, take, get_or}
+use Rattle.std.proofs.Common.{All, None, Some, pos, length-append, refl, sym, ap, subst, ◌∙◌, arith}
 use Rattle.std.specs.Prelude.{map}
 use Rattle.std.proofs.lemmas.List.{map-append, get_or_append_left, take-append-le}
 use Rattle.std.proofs.lemmas.List.Elements.{All-get_or}
@@ -39,7 +40,8 @@ pub record ArePartsRead (kind : Kind) (behind : ℕ) (m k : Moment) (count i mos
   pub start : i ≡ 0 → least ≡ 0
   pub last : (j : ℕ) → j + 1 ≡ i → least ≡ row_of parts j + 1
 
-pub parts-none : (kind : Kind) (behind : ℕ) (m : Moment) (count most scale : ℕ) (proof : kept.Proof) (rise : Bool) (least : ℕ) → IsReady m (parts_left kind count behind) → proof.parts.items ≡ [] → proof.scale ≡ scale
+pub parts-none : (kind : Kind) (behind : ℕ) (m : Moment) (count most scale : ℕ) (proof : kept.Proof) (rise : Bool) (least : ℕ) → IsReady m (parts_left kind count behind)
+    → proof.parts.items ≡ [] → proof.scale ≡ scale
     → IsTrue rise → least ≡ 0 → ArePartsRead kind behind m m count 0 most scale proof rise least
 parts-none kind behind m count most scale proof rise least ready none scale_is rises_so zero_is =
     let more : count ≡ count - 0 = omega arith in
@@ -92,7 +94,8 @@ take-all [] (suc n) h = refl
 take-all (x ∷ parts) zero h = absurd (omega arith)
 take-all (x ∷ parts) (suc n) h = ap (λ (l : List Part). x ∷ l) (take-all parts n (omega arith))
 
-module _ (kind : Kind) (behind : ℕ) (m k l : Moment) (count i most scale : ℕ) (before after : kept.Proof) (rise then_rise : Bool) (least : ℕ) (p : declared.Part) (are : ArePartsRead kind behind m k count i most scale before rise least) (lt : i < count) where
+module _ (kind : Kind) (behind : ℕ) (m k l : Moment) (count i most scale : ℕ) (before after : kept.Proof) (rise then_rise : Bool) (least : ℕ) (p : declared.Part)
+    (are : ArePartsRead kind behind m k count i most scale before rise least) (lt : i < count) where
   parts_so : List Part
   parts_so = are.parts ++ shown_part p ∷ []
 
@@ -129,12 +132,15 @@ module _ (kind : Kind) (behind : ℕ) (m k l : Moment) (count i most scale : ℕ
       high (inl some) =
           let at = are.last (i - 1) (omega arith) in
           let long = one-long are.parts (shown_part p) in
-          let lower : row_of (are.parts ++ shown_part p ∷ []) (i - 1) < row_of (are.parts ++ shown_part p ∷ []) (length are.parts) = up (i - 1) (length are.parts) (omega (arith, are.long)) (omega (arith, long)) in
+          let lower : row_of (are.parts ++ shown_part p ∷ []) (i - 1) < row_of (are.parts ++ shown_part p ∷ []) (length are.parts) = up (i - 1) (length are.parts)
+          (omega (arith, are.long)) (omega (arith, long)) in
           omega (arith, at, lower, row-seam are.parts (shown_part p), row-left are.parts (shown_part p) (i - 1) (omega (arith, are.long)))
       high (inr none) = let z = are.start (omega arith) in omega (arith, z)
 
-  pub parts-more : Run k l (one_part (shown_part p) ∷ []) → IsReady l (parts_left kind (count - (i + 1)) behind) → (i < most → after.parts.items ≡ before.parts.items ++ p ∷ []) → (most ≤ i → after.parts.items ≡ before.parts.items)
-      → after.scale ≡ before.scale → (IsTrue then_rise ↔ (IsTrue rise × (least ≤ p.row))) → (IsTrue rise ⊎ (¬ IsTrue rise)) → ArePartsRead kind behind m l count (i + 1) most scale after then_rise (p.row + 1)
+  pub parts-more : Run k l (one_part (shown_part p) ∷ []) → IsReady l (parts_left kind (count - (i + 1)) behind)
+      → (i < most → after.parts.items ≡ before.parts.items ++ p ∷ []) → (most ≤ i → after.parts.items ≡ before.parts.items)
+      → after.scale ≡ before.scale → (IsTrue then_rise ↔ (IsTrue rise × (least ≤ p.row))) → (IsTrue rise ⊎ (¬ IsTrue rise))
+      → ArePartsRead kind behind m l count (i + 1) most scale after then_rise (p.row + 1)
   unfolding parts_so
   parts-more run ready within past scale_same both known = record {
     parts = are.parts ++ shown_part p ∷ [];
@@ -161,7 +167,8 @@ too-many parts most more rising known =
     let few : length parts ≤ most = no_more (row_of parts) (length parts) most rising (λ i h. All-get_or (λ (q : Part). q.row < most) parts i no_part h known) in
     omega (arith, few, more)
 
-module _ (kind : Kind) (behind : ℕ) (m k : Moment) (count most scale : ℕ) (proof : kept.Proof) (rise : Bool) (least : ℕ) (are : ArePartsRead kind behind m k count count most scale proof rise least) where
+module _ (kind : Kind) (behind : ℕ) (m k : Moment) (count most scale : ℕ) (proof : kept.Proof) (rise : Bool) (least : ℕ)
+    (are : ArePartsRead kind behind m k count count most scale proof rise least) where
   all_ready : IsReady k (proofs_left kind behind)
   all_ready = let none : count - count ≡ 0 = omega arith in subst (λ (i : ℕ). IsReady k (parts_left kind i behind)) none are.ready
 
@@ -182,7 +189,8 @@ module _ (kind : Kind) (behind : ℕ) (m k : Moment) (count most scale : ℕ) (p
         run = are.run;
         ready = all_ready;
         long = are.long;
-        kept = λ n e b. first-unknown n b record { scale = scale; parts = are.parts } rising (subst (λ (r : ℕ). ¬ All (λ (q : Part). q.row < r) are.parts) (sym e) (too-many are.parts most (omega (arith, more, are.long)) rising));
+        kept = λ n e b. first-unknown n b record { scale = scale; parts = are.parts } rising
+            (subst (λ (r : ℕ). ¬ All (λ (q : Part). q.row < r) are.parts) (sym e) (too-many are.parts most (omega (arith, more, are.long)) rising));
       }
 
   pub parts-order : ¬ IsTrue rise → IsLineRead count scale (proofs_left kind behind) most m k proof (Some Order)

@@ -42,7 +42,8 @@ pub placed-none : (list : List Split) → ArePlacedTo list [] 0
 placed-none list = record { placed = λ j h. absurd (omega arith); none = λ e. refl; last = λ j e. absurd (omega arith) }
 
 -- one line more, at the least node or above it
-pub placed-more : (list : List Split) (lines : List NodeProof) (least : ℕ) (p : NodeProof) → ArePlacedTo list lines least → least ≤ p.node → p.node < nodes list → ArePlacedTo list (lines ++ p ∷ []) (p.node + 1)
+pub placed-more : (list : List Split) (lines : List NodeProof) (least : ℕ) (p : NodeProof) → ArePlacedTo list lines least → least ≤ p.node → p.node < nodes list
+    → ArePlacedTo list (lines ++ p ∷ []) (p.node + 1)
 placed-more list lines least p are up there =
     let long = one-line lines p in
     let seam = node-seam lines p in
@@ -88,7 +89,8 @@ line-run m k l lines p a b =
     subst (Run m l) (sym (flat_map-append proof_items lines (p ∷ []) ∙ ap (λ (x : List Field). flat_map proof_items lines ++ x) one)) (run-then m k l (flat_map proof_items lines) (proof_items p) a b)
 
 -- a head and its parts are a line
-pub head-run : (k j l : Moment) (node scale count : ℕ) (parts : List Part) → length parts ≡ count → Run k j (head node scale count ∷ []) → Run j l (map one_part parts) → Run k l (proof_items (line_of node scale parts))
+pub head-run : (k j l : Moment) (node scale count : ℕ) (parts : List Part) → length parts ≡ count → Run k j (head node scale count ∷ []) → Run j l (map one_part parts)
+    → Run k l (proof_items (line_of node scale parts))
 head-run k j l node scale count parts long a b =
     subst (λ (n : ℕ). Run k l (head node scale n ∷ map one_part parts)) (sym long) (run-then k j l (head node scale count ∷ []) (map one_part parts) a b)
 
@@ -115,7 +117,8 @@ pub record AreGone (list : List Split) (kind : Kind) (before : List NodeProof) (
   pub long : length (before ++ more) ≡ k
   pub placed : ArePlacedTo list (before ++ more) least
 
-pub gone-none : (list : List Split) (kind : Kind) (before : List NodeProof) (m : Moment) (count k least : ℕ) → IsReady m (proofs_left kind (count - k)) → length before ≡ k → ArePlacedTo list before least → AreGone list kind before m m count k least
+pub gone-none : (list : List Split) (kind : Kind) (before : List NodeProof) (m : Moment) (count k least : ℕ) → IsReady m (proofs_left kind (count - k)) → length before ≡ k
+    → ArePlacedTo list before least → AreGone list kind before m m count k least
 gone-none list kind before m count k least ready long placed = record {
   more = [];
   run = run-none m ready.used_up;
@@ -135,8 +138,10 @@ proofs-going k n = left-going (eqb n 0) (claim_state k) (states.Head k (n - 1)) 
 pub parts-going : (k : Kind) (n behind : ℕ) → parts_left k n behind ≢ states.Ended
 parts-going k n behind = left-going (eqb n 0) (proofs_left k behind) (states.Part k (n - 1) behind) (proofs-going k behind) (λ e. cc)
 
-module _ (list : List Split) (kind : Kind) (before : List NodeProof) (m j h : Moment) (count k least node scale parts : ℕ) (are : AreGone list kind before m j count k least) (lt : k < count) (run : Run j h (head node scale parts ∷ [])) where
-  pub gone-more : (l : Moment) (ps : List Part) → length ps ≡ parts → Run h l (map one_part ps) → IsReady l (proofs_left kind (count - (k + 1))) → least ≤ node → node < nodes list → AreGone list kind before m l count (k + 1) (node + 1)
+module _ (list : List Split) (kind : Kind) (before : List NodeProof) (m j h : Moment) (count k least node scale parts : ℕ) (are : AreGone list kind before m j count k least)
+    (lt : k < count) (run : Run j h (head node scale parts ∷ [])) where
+  pub gone-more : (l : Moment) (ps : List Part) → length ps ≡ parts → Run h l (map one_part ps) → IsReady l (proofs_left kind (count - (k + 1))) → least ≤ node
+      → node < nodes list → AreGone list kind before m l count (k + 1) (node + 1)
   gone-more l ps long rest ready up there =
       let p = line_of node scale ps in
       let same : (before ++ are.more) ++ p ∷ [] ≡ before ++ (are.more ++ p ∷ []) = append_assoc before are.more (p ∷ []) in
@@ -175,7 +180,8 @@ module _ (list : List Split) (kind : Kind) (before : List NodeProof) (m j h : Mo
         };
       }
 
-pub gone-all : (list : List Split) (kind : Kind) (before : List NodeProof) (m j : Moment) (count least : ℕ) → AreGone list kind before m j count count least → AreAllPlaced list count (claim_state kind) before m j
+pub gone-all : (list : List Split) (kind : Kind) (before : List NodeProof) (m j : Moment) (count least : ℕ) → AreGone list kind before m j count count least
+    → AreAllPlaced list count (claim_state kind) before m j
 gone-all list kind before m j count least are =
     let none : count - count ≡ 0 = omega arith in
     record {

@@ -60,7 +60,8 @@ failed-then m k l is fault a b = record { kept = kept-then m k l a.kept b.kept; 
     cases faults.TooLong why = long-then m k l is a b.kept why
     cases (faults.Text f) why = later-then m k l is f a why
 
-pub found-then : (P Q : List Field → Refusal → Type 0) (m k l : Moment) (is : List Field) (r : Refusal) → ((rest : List Field) → P rest r → Q (is ++ rest) r) → Run m k is → Found P k l r → Found Q m l r
+pub found-then : (P Q : List Field → Refusal → Type 0) (m k l : Moment) (is : List Field) (r : Refusal) → ((rest : List Field) → P rest r → Q (is ++ rest) r) → Run m k is
+    → Found P k l r → Found Q m l r
 found-then P Q m k l is r more a b = record {
   items = is ++ b.items;
   run = run-then m k l is b.items a b.run;
@@ -69,7 +70,8 @@ found-then P Q m k l is r more a b = record {
   found = more b.items b.found;
 }
 
-pub halts-then : (P Q : List Field → Refusal → Type 0) (m k l : Moment) (is : List Field) (r : StreamRefusal) → ((rest : List Field) (c : Refusal) → P rest c → Q (is ++ rest) c) → Run m k is → Halts P k l r → Halts Q m l r
+pub halts-then : (P Q : List Field → Refusal → Type 0) (m k l : Moment) (is : List Field) (r : StreamRefusal)
+    → ((rest : List Field) (c : Refusal) → P rest c → Q (is ++ rest) c) → Run m k is → Halts P k l r → Halts Q m l r
 halts-then P Q m k l is r more a b = record { kept = kept-then m k l a.kept b.kept; cause = cases r b.cause }
   where
     refused : (c : Refusal) → IsCause P k l (Refused c) → IsCause Q m l (Refused c)

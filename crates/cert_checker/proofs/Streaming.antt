@@ -58,7 +58,8 @@ refused-by n bytes c NoMemory spelled first = tt
 refused-by n bytes c _ spelled first = record { cert = c; spelled = spelled; first = first }
 
 -- the text was read to its end, and this is the first cause to refuse it
-pub answer-refused : (n : Net) (most : ℕ) (rest : Option (List ℕ)) (bytes : List ℕ) (items : List Field) (r : Refusal) → (t : IsTextOf most rest bytes items) → IsFirstRefusal n t.cert r → IsChecked n rest most (Err (Refused r))
+pub answer-refused : (n : Net) (most : ℕ) (rest : Option (List ℕ)) (bytes : List ℕ) (items : List Field) (r : Refusal) → (t : IsTextOf most rest bytes items)
+    → IsFirstRefusal n t.cert r → IsChecked n rest most (Err (Refused r))
 answer-refused n most rest bytes items r t first = record {
   bytes = bytes;
   are = t.are;
@@ -66,7 +67,8 @@ answer-refused n most rest bytes items r t first = record {
 }
 
 -- no certificate has the text
-pub answer-faulty : (n : Net) (most : ℕ) (rest : Option (List ℕ)) (s : Reader) (now : Option (List ℕ)) (f : TextFault) → FailsLater (fresh most) rest s now f → IsChecked n rest most (Err (Refused (Text f)))
+pub answer-faulty : (n : Net) (most : ℕ) (rest : Option (List ℕ)) (s : Reader) (now : Option (List ℕ)) (f : TextFault) → FailsLater (fresh most) rest s now f
+    → IsChecked n rest most (Err (Refused (Text f)))
 answer-faulty n most rest s now f later =
     let bytes = later.ran.took.taken ++ later.fault_is.took.taken in
     let faulty = run-fails most rest later.before later.rest_before later.items s now f later.ran later.fault_is in
@@ -98,7 +100,8 @@ answer-long n most (Some r) more = record { bytes = r; are = λ x e. cc; answer_
 
 -- ---- a valid certificate
 
-pub streamed : (n : Net) (most : ℕ) (rest : Option (List ℕ)) (bytes : List ℕ) (c : Cert) (result : Result Verdict StreamRefusal) → IsChecked n rest most result → rest ≡ Some bytes → length bytes ≤ most
+pub streamed : (n : Net) (most : ℕ) (rest : Option (List ℕ)) (bytes : List ℕ) (c : Cert) (result : Result Verdict StreamRefusal) → IsChecked n rest most result
+    → rest ≡ Some bytes → length bytes ≤ most
     → Spells bytes c → IsValid n c → result ≢ Err (Refused NoMemory) → IsStreamedAs c.claim result
 streamed n most rest bytes c result checked told short spelled valid other = cases result checked.answer_is other
   where

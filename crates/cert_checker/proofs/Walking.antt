@@ -14,7 +14,8 @@ use Rattle.row_model.specs.Trees.{Split, is_cut}
 use Rattle.split_tree.specs.Splits.{Splits, IsOf}
 use Rattle.cert_stream.specs.declared.fault.ItemFault.{ItemFault}
 use Rattle.cert_stream.specs.declared.items.State.TheVariants as states
-use Rattle.cert_stream.specs.Items.{Field, kind, shape, splits, cut, proofs, end_is, kind_number, claimed_kind, plan_items, claimed_plan_items, proof_items, claim_items, items_of, claim_state, shaped_state}
+use Rattle.cert_stream.specs.Items.{Field, kind, shape, splits, cut, proofs, end_is, kind_number, claimed_kind, plan_items, claimed_plan_items, proof_items}
+use Rattle.cert_stream.specs.Items.{claim_items, items_of, claim_state, shaped_state}
 use Rattle.cert_stream.specs.Streams.{IsAtEnd}
 use Rattle.cert_checker.specs.declared.opening.Opening.{Opening}
 use Rattle.cert_checker.specs.declared.opening.Opening.TheVariants as openings
@@ -22,7 +23,8 @@ use Rattle.cert_checker.specs.declared.refusal.Refusal.TheVariants.{Shape}
 use Rattle.cert_checker.specs.declared.stream.StreamRefusal.{StreamRefusal}
 use Rattle.cert_checker.specs.declared.stream.StreamRefusal.TheVariants.{Refused}
 use Rattle.cert_checker.specs.Grammar.{kind_of}
-use Rattle.cert_checker.specs.Parts.{IsTaken, IsBegun, IsOpening, IsPlanned, IsWrongPlan, IsSplitList, IsWrongSplitList, IsLineList, IsWrongLineList, AreProofs, AreWrongProofs, IsClaimOf, IsClaimRead, IsRefusedFront, IsWalked, opening_kind, opening_items, opening_cost}
+use Rattle.cert_checker.specs.Parts.{IsTaken, IsBegun, IsOpening, IsPlanned, IsWrongPlan, IsSplitList, IsWrongSplitList, IsLineList, IsWrongLineList, AreProofs}
+use Rattle.cert_checker.specs.Parts.{AreWrongProofs, IsClaimOf, IsClaimRead, IsRefusedFront, IsWalked, opening_kind, opening_items, opening_cost}
 use Rattle.cert_checker.specs.Runs.{Moment, Run, Failed, Halts, IsReady, of_fault}
 use Rattle.cert_checker.specs.Trees.{IsBoundOf, tree_with}
 use Rattle.cert_checker.proofs.Claiming.{shaped-going}
@@ -34,7 +36,8 @@ use Rattle.cert_checker.proofs.Running.{run-then, halts-then, failed-then, faile
 -- ---- the kind and the shape
 
 -- the counts are others than the network's
-pub shape-halts : (n : Net) (m j : Moment) (k : ℕ) (sh : List ℕ) → Run m j (kind k ∷ shape sh ∷ []) → IsReady j (shaped_state (kind_of k) sh) → sh ≢ counts_of n → Halts (IsRefusedFront n) m j (Refused Shape)
+pub shape-halts : (n : Net) (m j : Moment) (k : ℕ) (sh : List ℕ) → Run m j (kind k ∷ shape sh ∷ []) → IsReady j (shaped_state (kind_of k) sh) → sh ≢ counts_of n
+    → Halts (IsRefusedFront n) m j (Refused Shape)
 shape-halts n m j k sh run ready other = record {
   kept = run.kept;
   cause = record {
@@ -46,7 +49,8 @@ shape-halts n m j k sh run ready other = record {
   };
 }
 
-pub begun : (n : Net) (m j : Moment) (k : ℕ) (sh : List ℕ) → Run m j (kind k ∷ shape sh ∷ []) → IsReady j (shaped_state (kind_of k) sh) → kind_number (kind_of k) ≡ k → sh ≡ counts_of n → IsTaken (IsBegun n) m j k
+pub begun : (n : Net) (m j : Moment) (k : ℕ) (sh : List ℕ) → Run m j (kind k ∷ shape sh ∷ []) → IsReady j (shaped_state (kind_of k) sh) → kind_number (kind_of k) ≡ k
+    → sh ≡ counts_of n → IsTaken (IsBegun n) m j k
 begun n m j k sh run ready known same = record {
   items = kind k ∷ shape (counts_of n) ∷ [];
   state = shaped_state (kind_of k) (counts_of n);
@@ -70,10 +74,12 @@ pub record IsOpenTo (n : Net) (m l : Moment) (o : Opening) : Type 0 where
 pub open-to : (n : Net) (m j l : Moment) (k : ℕ) (o : Opening) → IsTaken (IsBegun n) m j k → IsTaken (IsOpening n (kind_of k)) j l o → IsOpenTo n m l o
 open-to n m j l k o a b =
     let same : k ≡ kind_number (opening_kind o) = sym a.is.known ∙ ap kind_number (sym b.is.kind_is) in
-    let both : Run m l ((kind k ∷ shape (counts_of n) ∷ []) ++ opening_items o) = run-then m j l (kind k ∷ shape (counts_of n) ∷ []) (opening_items o) (subst (Run m j) a.is.items_are a.run) (subst (Run j l) b.is.items_are b.run) in
+    let both : Run m l ((kind k ∷ shape (counts_of n) ∷ []) ++ opening_items o) = run-then m j l (kind k ∷ shape (counts_of n) ∷ []) (opening_items o)
+    (subst (Run m j) a.is.items_are a.run) (subst (Run j l) b.is.items_are b.run) in
     record {
       planned = b.is.planned;
-      run = subst (λ (i : ℕ). Run m l (kind i ∷ shape (counts_of n) ∷ (opening_items o ++ []))) same (subst (λ (x : List Field). Run m l (kind k ∷ shape (counts_of n) ∷ x)) (sym (append-nil (opening_items o))) both);
+      run = subst (λ (i : ℕ). Run m l (kind i ∷ shape (counts_of n) ∷ (opening_items o ++ []))) same
+          (subst (λ (x : List Field). Run m l (kind k ∷ shape (counts_of n) ∷ x)) (sym (append-nil (opening_items o))) both);
       ready = subst (IsReady l) (b.is.next_is ∙ ap states.Splits (sym b.is.kind_is)) b.ready;
     }
 
@@ -127,11 +133,13 @@ module _ (n : Net) (m q : Moment) (o : Opening) (tree : Splits) (done : IsCutTo 
       (regroup items more ∙ ap (λ (x : List Field). opening_items o ++ (split_items tree ++ (x ++ more))) w.items_are))) done.run b
 
 -- the bounds of the nodes are fewer than 32 bits can number
-pub few-bounds : (n : Net) (tree : Splits) (claimed : Kind) (h q : Moment) (count : ℕ) (bounds : Vec (Option ℤ) Global) → IsOf n tree → IsTaken (λ (v : Vec (Option ℤ) Global). IsLineList n tree.list claimed count v.items) h q bounds → length bounds.items < 2 ^ 32
+pub few-bounds : (n : Net) (tree : Splits) (claimed : Kind) (h q : Moment) (count : ℕ) (bounds : Vec (Option ℤ) Global) → IsOf n tree
+    → IsTaken (λ (v : Vec (Option ℤ) Global). IsLineList n tree.list claimed count v.items) h q bounds → length bounds.items < 2 ^ 32
 few-bounds n tree claimed h q count bounds is taken = let long = taken.is.bounds_are.long in let few = is.few in omega (arith, long, few)
 
 -- the bound of the tree, from those of its nodes
-pub proofs-of : (n : Net) (tree : Splits) (claimed : Kind) (m h q : Moment) (count : ℕ) (bounds : Vec (Option ℤ) Global) (bound : Option ℤ) → IsOf n tree → Run m h (proofs count ∷ []) → IsTaken (λ (v : Vec (Option ℤ) Global). IsLineList n tree.list claimed count v.items) h q bounds
+pub proofs-of : (n : Net) (tree : Splits) (claimed : Kind) (m h q : Moment) (count : ℕ) (bounds : Vec (Option ℤ) Global) (bound : Option ℤ) → IsOf n tree
+    → Run m h (proofs count ∷ []) → IsTaken (λ (v : Vec (Option ℤ) Global). IsLineList n tree.list claimed count v.items) h q bounds
     → bound ≡ least_below (λ node. if is_cut tree.list node then None else get_or bounds.items node None) (length bounds.items) → IsTaken (AreProofs n tree.list claimed) m q bound
 proofs-of n tree claimed m h q count bounds bound is run taken least = record {
   items = proofs count ∷ taken.items;
@@ -146,7 +154,8 @@ proofs-of n tree claimed m h q count bounds bound is run taken least = record {
   };
 }
 
-pub lines-halt : (n : Net) (list : List Split) (m h q : Moment) (count : ℕ) (r : StreamRefusal) → Run m h (proofs count ∷ []) → Halts (IsWrongLineList n list count) h q r → Halts (AreWrongProofs n list) m q r
+pub lines-halt : (n : Net) (list : List Split) (m h q : Moment) (count : ℕ) (r : StreamRefusal) → Run m h (proofs count ∷ []) → Halts (IsWrongLineList n list count) h q r
+    → Halts (AreWrongProofs n list) m q r
 lines-halt n list m h q count r run b =
     halts-then (IsWrongLineList n list count) (AreWrongProofs n list) m h q (proofs count ∷ []) r (λ items c w. record { count = count; behind = items; items_are = refl; wrong = w }) run b
 
@@ -158,7 +167,8 @@ pub record IsProvedTo (n : Net) (m h : Moment) (o : Opening) (tree : Splits) (bo
   pub run : Run m h (up_to_plan n o (split_items tree ++ proofs (length lines) ∷ flat_map proof_items lines))
   pub ready : IsReady h (claim_state (opening_kind o))
 
-pub proved-to : (n : Net) (m q h : Moment) (o : Opening) (tree : Splits) (bound : Option ℤ) → IsCutTo n m q o tree → IsTaken (AreProofs n tree.list (opening_kind o)) q h bound → IsProvedTo n m h o tree bound
+pub proved-to : (n : Net) (m q h : Moment) (o : Opening) (tree : Splits) (bound : Option ℤ) → IsCutTo n m q o tree
+    → IsTaken (AreProofs n tree.list (opening_kind o)) q h bound → IsProvedTo n m h o tree bound
 proved-to n m q h o tree bound a b =
     let items : List Field = proofs (length b.is.lines) ∷ flat_map proof_items b.is.lines in
     record {
@@ -209,7 +219,8 @@ module _ (n : Net) (m h : Moment) (o : Opening) (tree : Splits) (bound : Option 
   claim-halts p fault why = failed-halts (IsRefusedFront n) m p fault (failed-then m h p _ fault done.run why)
 
   module _ (p : Moment) (claim : Claim) (read : IsClaimRead o h p claim) where
-    claimed_run : Run m p (kind (kind_number (opening_kind o)) ∷ shape (counts_of n) ∷ ((opening_items o ++ (split_items tree ++ proofs (length done.lines) ∷ flat_map proof_items done.lines)) ++ claim_items (shown_claim claim)))
+    claimed_run : Run m p (kind (kind_number (opening_kind o)) ∷ shape (counts_of n)
+        ∷ ((opening_items o ++ (split_items tree ++ proofs (length done.lines) ∷ flat_map proof_items done.lines)) ++ claim_items (shown_claim claim)))
     claimed_run = run-then m h p _ (claim_items (shown_claim claim)) done.run read.run
 
     pub end-halts : (q : Moment) (fault : ItemFault) → Failed p q fault → Halts (IsRefusedFront n) m q (of_fault fault)

@@ -6,7 +6,8 @@ use Rattle.cert_stream.specs.declared.fault.ItemFault.{ItemFault}
 use Rattle.cert_stream.specs.declared.items.Item as declared
 use Rattle.cert_stream.specs.declared.items.State.{State}
 use Rattle.cert_stream.specs.declared.items.State.TheVariants as states
-use Rattle.cert_stream.specs.Items.{Field, kind, shape, bases, weight, outflow, direct, splits, cut, proofs, head, one_part, cost_is, bound_is, gap_is, end_is, shown_item, cuts_left, proofs_left, parts_left, directs_left, shaped_state}
+use Rattle.cert_stream.specs.Items.{Field, kind, shape, bases, weight, outflow, direct, splits, cut, proofs, head, one_part, cost_is, bound_is, gap_is, end_is}
+use Rattle.cert_stream.specs.Items.{shown_item, cuts_left, proofs_left, parts_left, directs_left, shaped_state}
 use Rattle.cert_stream.specs.Streams.{IsAtEnd}
 use Rattle.box_space.specs.declared.coordinates.Split.{Split}
 use Rattle.box_space.specs.declared.multipliers.Part.{Part}
@@ -68,7 +69,8 @@ behind_item s _ = s
 
 -- The item that came is one that the text may go on with, and behind the last one nothing stands; or there was a fault.
 abbrev pub Came : Moment → Moment → Result declared.Item ItemFault → Type 0
-Came m k (Ok item) = Run m k (shown_item item ∷ []) × MayCome m.reader.state (shown_item item) × IsReady k (behind_item m.reader.state (shown_item item)) × (k.reader.state ≡ states.Ended → IsAtEnd k.reader)
+Came m k (Ok item) = Run m k (shown_item item ∷ []) × MayCome m.reader.state (shown_item item) × IsReady k (behind_item m.reader.state (shown_item item))
+    × (k.reader.state ≡ states.Ended → IsAtEnd k.reader)
 Came m k (Err fault) = Failed m k fault
 
 -- What was read is one item, behind which the text goes on with a state; or there was a fault.

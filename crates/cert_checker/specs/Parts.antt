@@ -16,7 +16,8 @@ use Rattle.cert_format.specs.declared.reading.Kind.TheVariants as kinds
 use Rattle.cert_stream.specs.declared.fault.ItemFault.{ItemFault}
 use Rattle.cert_stream.specs.declared.items.State.{State}
 use Rattle.cert_stream.specs.declared.items.State.TheVariants as states
-use Rattle.cert_stream.specs.Items.{Field, kind as kind_item, shape as shape_item, splits, cut, proofs as proofs_item, head, kind_number, plan_items, proof_items, claim_items, items_of, claim_state, shaped_state}
+use Rattle.cert_stream.specs.Items.{Field, kind as kind_item, shape as shape_item, splits, cut, proofs as proofs_item, head, kind_number, plan_items}
+use Rattle.cert_stream.specs.Items.{proof_items, claim_items, items_of, claim_state, shaped_state}
 use Rattle.cert_stream.specs.Streams.{IsAtEnd}
 use Rattle.cert_checker.specs.declared.refusal.Refusal.{Refusal}
 use Rattle.cert_checker.specs.declared.refusal.Refusal.TheVariants.{Plan, Split as SplitAt, ProofPlace, Proof as ProofOf}

@@ -57,7 +57,8 @@ pub(crate) fn node_bounds<S: Shelf>(
     requires reach { reach ≡ reach_bound (net_of net.now) }
     requires asks { (k : AKind) × IsReady (moment S.files S.admits S.rest S.taken S.faults reader.old shelf.old) (proofs_left k count) }
     ensures { (k : AKind) → reader.old.state ≡ proofs_left k count →
-        Takes (λ v. IsLineList (net_of net.now) tree.now.list k count v.items) (IsWrongLineList (net_of net.now) tree.now.list count) (moment S.files S.admits S.rest S.taken S.faults reader.old shelf.old) (moment S.files S.admits S.rest S.taken S.faults reader.new shelf.new) result }
+        Takes (λ v. IsLineList (net_of net.now) tree.now.list k count v.items) (IsWrongLineList (net_of net.now) tree.now.list count)
+        (moment S.files S.admits S.rest S.taken S.faults reader.old shelf.old) (moment S.files S.admits S.rest S.taken S.faults reader.new shelf.new) result }
 {
     let mut judge = LineJudge::new(alloc, net)?;
     let mut least = 0;
@@ -102,8 +103,10 @@ fn check_places<S: Shelf>(
     requires nodes { (list : List Split) × (nodes ≡ trees.nodes list) }
     requires order { first ≤ count }
     requires asks { (kind : AKind) × IsReady (moment S.files S.admits S.rest S.taken S.faults reader.old shelf.old) (proofs_left kind (count - first)) }
-    ensures { (kind : AKind) (list : List Split) (before : List ALine) → reader.old.state ≡ proofs_left kind (count - first) → nodes ≡ trees.nodes list → length before ≡ first → ArePlacedTo list before least
-        → ReadsPlaces list count (claim_state kind) before (moment S.files S.admits S.rest S.taken S.faults reader.old shelf.old) (moment S.files S.admits S.rest S.taken S.faults reader.new shelf.new) result }
+    ensures { (kind : AKind) (list : List Split) (before : List ALine) → reader.old.state ≡ proofs_left kind (count - first) → nodes ≡ trees.nodes list
+        → length before ≡ first → ArePlacedTo list before least
+        → ReadsPlaces list count (claim_state kind) before (moment S.files S.admits S.rest S.taken S.faults reader.old shelf.old)
+        (moment S.files S.admits S.rest S.taken S.faults reader.new shelf.new) result }
 {
     let mut least = least;
     for k in first..count {
@@ -117,7 +120,9 @@ fn check_places<S: Shelf>(
 /// So many parts are read, and none is kept.
 fn skip_parts<S: Shelf>(count: u32, reader: &mut CertReader, shelf: &mut S) -> Result<(), ItemFault>
     requires asks { (kind : AKind) × (behind : ℕ) × IsReady (moment S.files S.admits S.rest S.taken S.faults reader.old shelf.old) (parts_left kind count behind) }
-    ensures { (kind : AKind) (behind : ℕ) → reader.old.state ≡ parts_left kind count behind → SkipsParts count (proofs_left kind behind) (moment S.files S.admits S.rest S.taken S.faults reader.old shelf.old) (moment S.files S.admits S.rest S.taken S.faults reader.new shelf.new) result }
+    ensures { (kind : AKind) (behind : ℕ) → reader.old.state ≡ parts_left kind count behind
+        → SkipsParts count (proofs_left kind behind) (moment S.files S.admits S.rest S.taken S.faults reader.old shelf.old)
+        (moment S.files S.admits S.rest S.taken S.faults reader.new shelf.new) result }
 {
     for _ in 0..count {
         part(reader, shelf)?;
@@ -171,7 +176,8 @@ impl LineJudge {
         requires room { HasRoom (net_of net.now) self.old }
         requires fits { Fits (net_of net.now) self.old.judge.scratch }
         requires asks { (kind : AKind) × IsReady (moment S.files S.admits S.rest S.taken S.faults reader.old shelf.old) (proofs_left kind (count - k)) }
-        ensures taken { (kind : AKind) (m : Moment) → AreLinesTaken (net_of net.now) tree.now.list kind m (moment S.files S.admits S.rest S.taken S.faults reader.old shelf.old) count k least self.old.judge
+        ensures taken { (kind : AKind) (m : Moment) → AreLinesTaken (net_of net.now) tree.now.list kind m
+            (moment S.files S.admits S.rest S.taken S.faults reader.old shelf.old) count k least self.old.judge
             → TakesNext (net_of net.now) tree.now.list kind m (moment S.files S.admits S.rest S.taken S.faults reader.new shelf.new) count (k + 1) self.new.judge result }
         ensures bounds { IfOk result (λ x. length self.new.judge.bounds.items ≡ x) }
         ensures known { IfOk result (λ x. x ≤ nodes tree.now.list) }
@@ -201,7 +207,8 @@ impl LineJudge {
         requires room { self.old.rows ≤ vec_capacity self.old.proof.parts }
         requires asks { (kind : AKind) × (behind : ℕ) × IsReady (moment S.files S.admits S.rest S.taken S.faults reader.old shelf.old) (parts_left kind line.count behind) }
         ensures read { (kind : AKind) (behind : ℕ) → reader.old.state ≡ parts_left kind line.count behind
-            → ReadsParts line.count line.scale (proofs_left kind behind) self.old.rows (moment S.files S.admits S.rest S.taken S.faults reader.old shelf.old) (moment S.files S.admits S.rest S.taken S.faults reader.new shelf.new) self.new.proof result }
+            → ReadsParts line.count line.scale (proofs_left kind behind) self.old.rows (moment S.files S.admits S.rest S.taken S.faults reader.old shelf.old)
+            (moment S.files S.admits S.rest S.taken S.faults reader.new shelf.new) self.new.proof result }
         ensures judge { self.new.judge ≡ self.old.judge }
         ensures same_root { self.new.root ≡ self.old.root }
         ensures ends { self.new.ends ≡ self.old.ends }

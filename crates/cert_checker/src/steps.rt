@@ -34,7 +34,8 @@ fn next<S: Shelf>(reader: &mut CertReader, shelf: &mut S) -> Result<Item, ItemFa
 pub(crate) fn kind<S: Shelf>(reader: &mut CertReader, shelf: &mut S) -> Result<u8, ItemFault>
     requires asks { reader.old.state ≡ states.Begin }
     requires used_up { IsTrue reader.old.ended → IsUsedUp (S.rest shelf.old) }
-    ensures { Reads items.kind (λ x. behind_item reader.old.state (items.kind x)) (moment S.files S.admits S.rest S.taken S.faults reader.old shelf.old) (moment S.files S.admits S.rest S.taken S.faults reader.new shelf.new) result }
+    ensures { Reads items.kind (λ x. behind_item reader.old.state (items.kind x)) (moment S.files S.admits S.rest S.taken S.faults reader.old shelf.old)
+        (moment S.files S.admits S.rest S.taken S.faults reader.new shelf.new) result }
 {
     match next(reader, shelf)? {
         Item::Kind(kind) => Ok(kind),
@@ -46,7 +47,8 @@ pub(crate) fn kind<S: Shelf>(reader: &mut CertReader, shelf: &mut S) -> Result<u
 pub(crate) fn shape<S: Shelf>(reader: &mut CertReader, shelf: &mut S) -> Result<[u32; 7], ItemFault>
     requires asks { (k : AKind) × (reader.old.state ≡ states.Shape k) }
     requires used_up { IsTrue reader.old.ended → IsUsedUp (S.rest shelf.old) }
-    ensures { Reads items.shape (λ x. behind_item reader.old.state (items.shape x)) (moment S.files S.admits S.rest S.taken S.faults reader.old shelf.old) (moment S.files S.admits S.rest S.taken S.faults reader.new shelf.new) result }
+    ensures { Reads items.shape (λ x. behind_item reader.old.state (items.shape x)) (moment S.files S.admits S.rest S.taken S.faults reader.old shelf.old)
+        (moment S.files S.admits S.rest S.taken S.faults reader.new shelf.new) result }
 {
     match next(reader, shelf)? {
         Item::Shape(shape) => Ok(shape),
@@ -61,7 +63,8 @@ pub(crate) fn base_pair<S: Shelf>(
 ) -> Result<(u32, u32), ItemFault>
     requires asks { (feeds outs directs : ℕ) × (reader.old.state ≡ states.Bases feeds outs directs) }
     requires used_up { IsTrue reader.old.ended → IsUsedUp (S.rest shelf.old) }
-    ensures { Reads bases_item (λ x. behind_item reader.old.state (bases_item x)) (moment S.files S.admits S.rest S.taken S.faults reader.old shelf.old) (moment S.files S.admits S.rest S.taken S.faults reader.new shelf.new) result }
+    ensures { Reads bases_item (λ x. behind_item reader.old.state (bases_item x)) (moment S.files S.admits S.rest S.taken S.faults reader.old shelf.old)
+        (moment S.files S.admits S.rest S.taken S.faults reader.new shelf.new) result }
 {
     match next(reader, shelf)? {
         Item::Bases(base, flow_base) => Ok((base, flow_base)),
@@ -73,7 +76,8 @@ pub(crate) fn base_pair<S: Shelf>(
 pub(crate) fn weight<S: Shelf>(reader: &mut CertReader, shelf: &mut S) -> Result<u32, ItemFault>
     requires asks { (behind outs directs : ℕ) × (reader.old.state ≡ states.Weight behind outs directs) }
     requires used_up { IsTrue reader.old.ended → IsUsedUp (S.rest shelf.old) }
-    ensures { Reads items.weight (λ x. behind_item reader.old.state (items.weight x)) (moment S.files S.admits S.rest S.taken S.faults reader.old shelf.old) (moment S.files S.admits S.rest S.taken S.faults reader.new shelf.new) result }
+    ensures { Reads items.weight (λ x. behind_item reader.old.state (items.weight x)) (moment S.files S.admits S.rest S.taken S.faults reader.old shelf.old)
+        (moment S.files S.admits S.rest S.taken S.faults reader.new shelf.new) result }
 {
     match next(reader, shelf)? {
         Item::Weight(weight) => Ok(weight),
@@ -85,7 +89,8 @@ pub(crate) fn weight<S: Shelf>(reader: &mut CertReader, shelf: &mut S) -> Result
 pub(crate) fn outflow<S: Shelf>(reader: &mut CertReader, shelf: &mut S) -> Result<u64, ItemFault>
     requires asks { (behind directs : ℕ) × (reader.old.state ≡ states.Outflow behind directs) }
     requires used_up { IsTrue reader.old.ended → IsUsedUp (S.rest shelf.old) }
-    ensures { Reads items.outflow (λ x. behind_item reader.old.state (items.outflow x)) (moment S.files S.admits S.rest S.taken S.faults reader.old shelf.old) (moment S.files S.admits S.rest S.taken S.faults reader.new shelf.new) result }
+    ensures { Reads items.outflow (λ x. behind_item reader.old.state (items.outflow x)) (moment S.files S.admits S.rest S.taken S.faults reader.old shelf.old)
+        (moment S.files S.admits S.rest S.taken S.faults reader.new shelf.new) result }
 {
     match next(reader, shelf)? {
         Item::Outflow(flow) => Ok(flow),
@@ -97,7 +102,8 @@ pub(crate) fn outflow<S: Shelf>(reader: &mut CertReader, shelf: &mut S) -> Resul
 pub(crate) fn direct<S: Shelf>(reader: &mut CertReader, shelf: &mut S) -> Result<u64, ItemFault>
     requires asks { (behind : ℕ) × (reader.old.state ≡ states.Direct behind) }
     requires used_up { IsTrue reader.old.ended → IsUsedUp (S.rest shelf.old) }
-    ensures { Reads items.direct (λ x. behind_item reader.old.state (items.direct x)) (moment S.files S.admits S.rest S.taken S.faults reader.old shelf.old) (moment S.files S.admits S.rest S.taken S.faults reader.new shelf.new) result }
+    ensures { Reads items.direct (λ x. behind_item reader.old.state (items.direct x)) (moment S.files S.admits S.rest S.taken S.faults reader.old shelf.old)
+        (moment S.files S.admits S.rest S.taken S.faults reader.new shelf.new) result }
 {
     match next(reader, shelf)? {
         Item::Direct(flow) => Ok(flow),
@@ -109,7 +115,8 @@ pub(crate) fn direct<S: Shelf>(reader: &mut CertReader, shelf: &mut S) -> Result
 pub(crate) fn splits<S: Shelf>(reader: &mut CertReader, shelf: &mut S) -> Result<u32, ItemFault>
     requires asks { (k : AKind) × (reader.old.state ≡ states.Splits k) }
     requires used_up { IsTrue reader.old.ended → IsUsedUp (S.rest shelf.old) }
-    ensures { Reads items.splits (λ x. behind_item reader.old.state (items.splits x)) (moment S.files S.admits S.rest S.taken S.faults reader.old shelf.old) (moment S.files S.admits S.rest S.taken S.faults reader.new shelf.new) result }
+    ensures { Reads items.splits (λ x. behind_item reader.old.state (items.splits x)) (moment S.files S.admits S.rest S.taken S.faults reader.old shelf.old)
+        (moment S.files S.admits S.rest S.taken S.faults reader.new shelf.new) result }
 {
     match next(reader, shelf)? {
         Item::Splits(count) => Ok(count),
@@ -121,7 +128,8 @@ pub(crate) fn splits<S: Shelf>(reader: &mut CertReader, shelf: &mut S) -> Result
 pub(crate) fn cut<S: Shelf>(reader: &mut CertReader, shelf: &mut S) -> Result<Split, ItemFault>
     requires asks { (k : AKind) × (behind : ℕ) × (reader.old.state ≡ states.Cut k behind) }
     requires used_up { IsTrue reader.old.ended → IsUsedUp (S.rest shelf.old) }
-    ensures { Reads cut_item (λ x. behind_item reader.old.state (cut_item x)) (moment S.files S.admits S.rest S.taken S.faults reader.old shelf.old) (moment S.files S.admits S.rest S.taken S.faults reader.new shelf.new) result }
+    ensures { Reads cut_item (λ x. behind_item reader.old.state (cut_item x)) (moment S.files S.admits S.rest S.taken S.faults reader.old shelf.old)
+        (moment S.files S.admits S.rest S.taken S.faults reader.new shelf.new) result }
 {
     match next(reader, shelf)? {
         Item::Cut(split) => Ok(split),
@@ -133,7 +141,8 @@ pub(crate) fn cut<S: Shelf>(reader: &mut CertReader, shelf: &mut S) -> Result<Sp
 pub(crate) fn proofs<S: Shelf>(reader: &mut CertReader, shelf: &mut S) -> Result<u32, ItemFault>
     requires asks { (k : AKind) × (reader.old.state ≡ states.Proofs k) }
     requires used_up { IsTrue reader.old.ended → IsUsedUp (S.rest shelf.old) }
-    ensures { Reads items.proofs (λ x. behind_item reader.old.state (items.proofs x)) (moment S.files S.admits S.rest S.taken S.faults reader.old shelf.old) (moment S.files S.admits S.rest S.taken S.faults reader.new shelf.new) result }
+    ensures { Reads items.proofs (λ x. behind_item reader.old.state (items.proofs x)) (moment S.files S.admits S.rest S.taken S.faults reader.old shelf.old)
+        (moment S.files S.admits S.rest S.taken S.faults reader.new shelf.new) result }
 {
     match next(reader, shelf)? {
         Item::Proofs(count) => Ok(count),
@@ -145,7 +154,8 @@ pub(crate) fn proofs<S: Shelf>(reader: &mut CertReader, shelf: &mut S) -> Result
 pub(crate) fn head<S: Shelf>(reader: &mut CertReader, shelf: &mut S) -> Result<LineHead, ItemFault>
     requires asks { (k : AKind) × (behind : ℕ) × (reader.old.state ≡ states.Head k behind) }
     requires used_up { IsTrue reader.old.ended → IsUsedUp (S.rest shelf.old) }
-    ensures { Reads head_item (λ x. behind_item reader.old.state (head_item x)) (moment S.files S.admits S.rest S.taken S.faults reader.old shelf.old) (moment S.files S.admits S.rest S.taken S.faults reader.new shelf.new) result }
+    ensures { Reads head_item (λ x. behind_item reader.old.state (head_item x)) (moment S.files S.admits S.rest S.taken S.faults reader.old shelf.old)
+        (moment S.files S.admits S.rest S.taken S.faults reader.new shelf.new) result }
 {
     match next(reader, shelf)? {
         Item::ProofHead(node, scale, count) => Ok(LineHead { node, scale, count }),
@@ -157,7 +167,8 @@ pub(crate) fn head<S: Shelf>(reader: &mut CertReader, shelf: &mut S) -> Result<L
 pub(crate) fn part<S: Shelf>(reader: &mut CertReader, shelf: &mut S) -> Result<Part, ItemFault>
     requires asks { (k : AKind) × (behind proofs : ℕ) × (reader.old.state ≡ states.Part k behind proofs) }
     requires used_up { IsTrue reader.old.ended → IsUsedUp (S.rest shelf.old) }
-    ensures { Reads part_item (λ x. behind_item reader.old.state (part_item x)) (moment S.files S.admits S.rest S.taken S.faults reader.old shelf.old) (moment S.files S.admits S.rest S.taken S.faults reader.new shelf.new) result }
+    ensures { Reads part_item (λ x. behind_item reader.old.state (part_item x)) (moment S.files S.admits S.rest S.taken S.faults reader.old shelf.old)
+        (moment S.files S.admits S.rest S.taken S.faults reader.new shelf.new) result }
 {
     match next(reader, shelf)? {
         Item::OnePart(part) => Ok(part),
@@ -172,7 +183,8 @@ pub(crate) fn cost_pair<S: Shelf>(
 ) -> Result<(i128, u64), ItemFault>
     requires asks { reader.old.state ≡ states.Cost }
     requires used_up { IsTrue reader.old.ended → IsUsedUp (S.rest shelf.old) }
-    ensures { Reads cost_item (λ x. behind_item reader.old.state (cost_item x)) (moment S.files S.admits S.rest S.taken S.faults reader.old shelf.old) (moment S.files S.admits S.rest S.taken S.faults reader.new shelf.new) result }
+    ensures { Reads cost_item (λ x. behind_item reader.old.state (cost_item x)) (moment S.files S.admits S.rest S.taken S.faults reader.old shelf.old)
+        (moment S.files S.admits S.rest S.taken S.faults reader.new shelf.new) result }
 {
     match next(reader, shelf)? {
         Item::CostIs(cost, base) => Ok((cost, base)),
@@ -187,7 +199,8 @@ pub(crate) fn bound_number<S: Shelf>(
 ) -> Result<i128, ItemFault>
     requires asks { (reader.old.state ≡ states.Bound) ⊎ ((base : ℕ) × (reader.old.state ≡ states.GapBound base)) }
     requires used_up { IsTrue reader.old.ended → IsUsedUp (S.rest shelf.old) }
-    ensures { Reads items.bound_is (λ x. behind_item reader.old.state (items.bound_is x)) (moment S.files S.admits S.rest S.taken S.faults reader.old shelf.old) (moment S.files S.admits S.rest S.taken S.faults reader.new shelf.new) result }
+    ensures { Reads items.bound_is (λ x. behind_item reader.old.state (items.bound_is x)) (moment S.files S.admits S.rest S.taken S.faults reader.old shelf.old)
+        (moment S.files S.admits S.rest S.taken S.faults reader.new shelf.new) result }
 {
     match next(reader, shelf)? {
         Item::BoundIs(bound) => Ok(bound),
@@ -202,7 +215,8 @@ pub(crate) fn gap_number<S: Shelf>(
 ) -> Result<i128, ItemFault>
     requires asks { (base : ℕ) × (reader.old.state ≡ states.Gap base) }
     requires used_up { IsTrue reader.old.ended → IsUsedUp (S.rest shelf.old) }
-    ensures { Reads (gap_item reader.old.state) (λ x. behind_item reader.old.state (gap_item reader.old.state x)) (moment S.files S.admits S.rest S.taken S.faults reader.old shelf.old) (moment S.files S.admits S.rest S.taken S.faults reader.new shelf.new) result }
+    ensures { Reads (gap_item reader.old.state) (λ x. behind_item reader.old.state (gap_item reader.old.state x))
+        (moment S.files S.admits S.rest S.taken S.faults reader.old shelf.old) (moment S.files S.admits S.rest S.taken S.faults reader.new shelf.new) result }
 {
     match next(reader, shelf)? {
         Item::GapIs(gap, _) => Ok(gap),

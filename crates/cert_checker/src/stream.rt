@@ -122,7 +122,8 @@ fn answer<S: Shelf>(
     shelf: &mut S,
 ) -> Result<Verdict, StreamRefusal>
     requires { (most : ℕ) × (reader.old ≡ fresh most) }
-    ensures { (most : ℕ) → reader.old ≡ fresh most → IsAnswered (net_of net.now) most (moment S.files S.admits S.rest S.taken S.faults reader.old shelf.old) (moment S.files S.admits S.rest S.taken S.faults reader.new shelf.new) result }
+    ensures { (most : ℕ) → reader.old ≡ fresh most → IsAnswered (net_of net.now) most (moment S.files S.admits S.rest S.taken S.faults reader.old shelf.old)
+        (moment S.files S.admits S.rest S.taken S.faults reader.new shelf.new) result }
 {
     match walk(alloc, net, reader, shelf) {
         Ok(found) => Ok(check_claim(&found.claim, found.cost, found.bound)?),
@@ -137,7 +138,9 @@ fn at_the_end<S: Shelf>(
     shelf: &mut S,
 ) -> StreamRefusal
     requires { (n : Net) × (m : Moment) × Halts (IsRefusedFront n) m (moment S.files S.admits S.rest S.taken S.faults reader.old shelf.old) refusal }
-    ensures { (n : Net) (m : Moment) (most : ℕ) → m.reader ≡ fresh most → Halts (IsRefusedFront n) m (moment S.files S.admits S.rest S.taken S.faults reader.old shelf.old) refusal → IsAnswered n most m (moment S.files S.admits S.rest S.taken S.faults reader.new shelf.new) (Err result) }
+    ensures { (n : Net) (m : Moment) (most : ℕ) → m.reader ≡ fresh most
+        → Halts (IsRefusedFront n) m (moment S.files S.admits S.rest S.taken S.faults reader.old shelf.old) refusal
+        → IsAnswered n most m (moment S.files S.admits S.rest S.taken S.faults reader.new shelf.new) (Err result) }
 {
     match refusal {
         StreamRefusal::Refused(cause) => wait_for_end(cause, reader, shelf),
@@ -149,7 +152,8 @@ fn at_the_end<S: Shelf>(
 /// read to its end.
 fn wait_for_end<S: Shelf>(cause: Refusal, reader: &mut CertReader, shelf: &mut S) -> StreamRefusal
     requires { (n : Net) × (m : Moment) × Halts (IsRefusedFront n) m (moment S.files S.admits S.rest S.taken S.faults reader.old shelf.old) (streams.Refused cause) }
-    ensures { (n : Net) (m : Moment) (most : ℕ) → m.reader ≡ fresh most → Halts (IsRefusedFront n) m (moment S.files S.admits S.rest S.taken S.faults reader.old shelf.old) (streams.Refused cause) → IsAnswered n most m (moment S.files S.admits S.rest S.taken S.faults reader.new shelf.new) (Err result) }
+    ensures { (n : Net) (m : Moment) (most : ℕ) → m.reader ≡ fresh most → Halts (IsRefusedFront n) m (moment S.files S.admits S.rest S.taken S.faults reader.old shelf.old)
+        (streams.Refused cause) → IsAnswered n most m (moment S.files S.admits S.rest S.taken S.faults reader.new shelf.new) (Err result) }
 {
     if let Refusal::Text(_) = cause {
         return StreamRefusal::Refused(cause);

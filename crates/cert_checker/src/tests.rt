@@ -23,7 +23,8 @@ const NO_PLAN: &str =
 
 /// Two splits: in node 3 the feeds' proportions are at most a half and a quarter, so they don't sum to 1.
 const TREE: &str =
-    "poolcert 1\nkind gap\nshape 2 1 1 1 2 1 0\nplan 1 1\nweights 1 0\noutflows 0\ndirect\nsplits 2\nsplit 0 0 524288\nsplit 1 1 262144\nproofs 1\nproof 3 0 1 11 1\ncost 0 1\nbound -300000000000000\ngap 300000000000000 1\nend\n";
+    "poolcert 1\nkind gap\nshape 2 1 1 1 2 1 0\nplan 1 1\nweights 1 0\noutflows 0\ndirect\nsplits 2\nsplit 0 0 524288\nsplit 1 1 262144\nproofs 1\n\
+    proof 3 0 1 11 1\ncost 0 1\nbound -300000000000000\ngap 300000000000000 1\nend\n";
 
 /// Certificates as they are, or with texts changed into others, and the answer. A `/` in a change stands for a line feed. The first
 /// network has 5 rows. Of several causes the first in the order of causes is told, wherever it stands in the text.

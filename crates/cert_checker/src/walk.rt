@@ -63,7 +63,8 @@ fn begin<S: Shelf>(
 ) -> Result<u8, StreamRefusal>
     requires ready { IsReady (moment S.files S.admits S.rest S.taken S.faults reader.old shelf.old) states.Begin }
     ensures limited { OnOk result (IsLimited (net_of net.now)) }
-    ensures begun { Takes (IsBegun (net_of net.now)) (IsRefusedFront (net_of net.now)) (moment S.files S.admits S.rest S.taken S.faults reader.old shelf.old) (moment S.files S.admits S.rest S.taken S.faults reader.new shelf.new) result }
+    ensures begun { Takes (IsBegun (net_of net.now)) (IsRefusedFront (net_of net.now)) (moment S.files S.admits S.rest S.taken S.faults reader.old shelf.old)
+        (moment S.files S.admits S.rest S.taken S.faults reader.new shelf.new) result }
 {
     let kind = kind(reader, shelf)?;
     let shape = shape(reader, shelf)?;
@@ -81,7 +82,8 @@ fn tree<S: Shelf>(
     shelf: &mut S,
 ) -> Result<SplitTree, StreamRefusal>
     requires asks { (k : AKind) × IsReady (moment S.files S.admits S.rest S.taken S.faults reader.old shelf.old) (states.Splits k) }
-    ensures { (k : AKind) → reader.old.state ≡ states.Splits k → Takes (IsSplitList (net_of net.now) k) (IsWrongSplitList (net_of net.now)) (moment S.files S.admits S.rest S.taken S.faults reader.old shelf.old) (moment S.files S.admits S.rest S.taken S.faults reader.new shelf.new) result }
+    ensures { (k : AKind) → reader.old.state ≡ states.Splits k → Takes (IsSplitList (net_of net.now) k) (IsWrongSplitList (net_of net.now))
+        (moment S.files S.admits S.rest S.taken S.faults reader.old shelf.old) (moment S.files S.admits S.rest S.taken S.faults reader.new shelf.new) result }
 {
     let count = splits(reader, shelf)?;
     let mut tree = SplitTree::new(alloc)?;
@@ -106,7 +108,8 @@ fn tree_bound<S: Shelf>(
     requires tree { IsOf (net_of net.now) tree.now }
     requires asks { (k : AKind) × IsReady (moment S.files S.admits S.rest S.taken S.faults reader.old shelf.old) (states.Proofs k) }
     ensures reach { unsigned_abs (reach_bound (net_of net.now)) ≤ 128 * 10 ^ 24 }
-    ensures bound { (k : AKind) → reader.old.state ≡ states.Proofs k → Takes (AreProofs (net_of net.now) tree.now.list k) (AreWrongProofs (net_of net.now) tree.now.list) (moment S.files S.admits S.rest S.taken S.faults reader.old shelf.old) (moment S.files S.admits S.rest S.taken S.faults reader.new shelf.new) result }
+    ensures bound { (k : AKind) → reader.old.state ≡ states.Proofs k → Takes (AreProofs (net_of net.now) tree.now.list k) (AreWrongProofs (net_of net.now) tree.now.list)
+        (moment S.files S.admits S.rest S.taken S.faults reader.old shelf.old) (moment S.files S.admits S.rest S.taken S.faults reader.new shelf.new) result }
 {
     let reach = net.reach_bound();
     let count = proofs(reader, shelf)?;

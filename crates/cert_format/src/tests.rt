@@ -18,7 +18,8 @@ const ROW_9: &[u8] =
 
 /// A tree of two splits and one proof.
 const ROW_10: &[u8] =
-    b"poolcert 1\nkind gap\nshape 2 1 1 1 2 1 0\nplan 1 1\nweights 1 0\noutflows 0\ndirect\nsplits 2\nsplit 0 0 524288\nsplit 1 1 262144\nproofs 1\nproof 3 0 1 11 1\ncost 0 1\nbound -300000000000000\ngap 300000000000000 1\nend\n";
+    b"poolcert 1\nkind gap\nshape 2 1 1 1 2 1 0\nplan 1 1\nweights 1 0\noutflows 0\ndirect\nsplits 2\nsplit 0 0 524288\nsplit 1 1 262144\nproofs 1\n\
+    proof 3 0 1 11 1\ncost 0 1\nbound -300000000000000\ngap 300000000000000 1\nend\n";
 
 /// The certificate of a source with one direct to a product.
 fn one_direct(alloc: Global) -> Result<Certificate, AllocError>
@@ -217,7 +218,8 @@ fn names_the_faulty_line(rt: HostRuntime) {
             8,
         ),
         (
-            b"poolcert 1\nkind gap\nshape 1 0 1 1 0 0 1\nplan 1 1\nweights\noutflows\ndirect 100000000\nsplits 0\nproofs 0\ncost -300000000000000 1\nbound -170141183460469231731687303715884105729\ngap 0 1\nend\n",
+            b"poolcert 1\nkind gap\nshape 1 0 1 1 0 0 1\nplan 1 1\nweights\noutflows\ndirect 100000000\nsplits 0\nproofs 0\ncost -300000000000000 1\n\
+            bound -170141183460469231731687303715884105729\ngap 0 1\nend\n",
             11,
         ),
         (

@@ -10,7 +10,10 @@ use Rattle.cert_stream.specs.declared.items.Item as declared
 use Rattle.cert_stream.specs.declared.items.Item.TheVariants as items
 use Rattle.cert_stream.specs.declared.items.State.{State}
 use Rattle.cert_stream.specs.declared.items.State.TheVariants as states
-use Rattle.cert_stream.specs.Items.{Field, kind, shape, bases, weight, outflow, direct, splits, cut, proofs, head, one_part, cost_is, bound_is, gap_is, end_is, claim_state, cuts_left, proofs_left, parts_left, directs_left, direct_words_at, outflow_words_at, weight_words_at, shown_item, shaped_state, begin_at, shape_step_at, bases_step_at, weight_step_at, outflow_step_at, direct_step_at, head_step_at, claim_step_at, next_at}
+use Rattle.cert_stream.specs.Items.{Field, kind, shape, bases, weight, outflow, direct, splits, cut, proofs, head, one_part, cost_is, bound_is, gap_is, end_is}
+use Rattle.cert_stream.specs.Items.{claim_state, cuts_left, proofs_left, parts_left, directs_left, direct_words_at, outflow_words_at, weight_words_at}
+use Rattle.cert_stream.specs.Items.{shown_item, shaped_state, begin_at, shape_step_at, bases_step_at, weight_step_at, outflow_step_at, direct_step_at}
+use Rattle.cert_stream.specs.Items.{head_step_at, claim_step_at, next_at}
 
 -- this holds of what was read
 abbrev AllOk : {X : Type 0} → (X → Type 0) → Result (X × At) ℕ → Type 0

@@ -1,5 +1,6 @@
 -- Readers that take a front of the bytes before them, and read in the first of these what they read in the whole.
-use Rattle.std.proofs.Common.{◌≡◌, ℕ, ◌+◌, ◌-◌, ◌^◌, ◌≤◌, Bool, true, false, cond, eqb, List, [], ◌∷◌, ◌++◌, length, Option, None, Some, Result, Ok, Err, refl, sym, ap, ◌∙◌, append_assoc, arith, length-append}
+use Rattle.std.proofs.Common.{◌≡◌, ℕ, ◌+◌, ◌-◌, ◌^◌, ◌≤◌, Bool, true, false, cond, eqb, List, [], ◌∷◌, ◌++◌, length, Option, None, Some, Result, Ok, Err, refl}
+use Rattle.std.proofs.Common.{sym, ap, ◌∙◌, append_assoc, arith, length-append}
 use Rattle.std.specs.Prelude.{ℤ, FitsSigned}
 use Rattle.std.specs.Int.{w64, w128}
 use Rattle.std.specs.Fmt.{decimal, signed_decimal}

@@ -16,7 +16,8 @@ const ROW_9: &[u8] =
 
 /// A tree of two splits and one proof.
 const ROW_10: &[u8] =
-    b"poolcert 1\nkind gap\nshape 2 1 1 1 2 1 0\nplan 1 1\nweights 1 0\noutflows 0\ndirect\nsplits 2\nsplit 0 0 524288\nsplit 1 1 262144\nproofs 1\nproof 3 0 1 11 1\ncost 0 1\nbound -300000000000000\ngap 300000000000000 1\nend\n";
+    b"poolcert 1\nkind gap\nshape 2 1 1 1 2 1 0\nplan 1 1\nweights 1 0\noutflows 0\ndirect\nsplits 2\nsplit 0 0 524288\nsplit 1 1 262144\nproofs 1\n\
+    proof 3 0 1 11 1\ncost 0 1\nbound -300000000000000\ngap 300000000000000 1\nend\n";
 
 /// A shelf of one opened file, which it hands out in pieces of so many bytes.
 fn shelf_of(

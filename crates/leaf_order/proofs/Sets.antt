@@ -52,7 +52,8 @@ less-by_node : (a b : OpenLeaf) → a.bound ≡ b.bound → a.node < b.node → 
 less-by_node a b same h =
     by_ranked (a.bound <ℤ b.bound) (a.bound ≡ b.bound) (b.bound <ℤ a.bound) (int_cmp a.bound b.bound) (int_ranked a.bound b.bound (int_cmp a.bound b.bound) refl)
     (λ e p. absurd (omega (arith, ints, same, p)))
-    (λ e p. ap (λ (o : Ordering). ordering_then o (nat_cmp a.node b.node)) e ∙ by_ranked (a.node < b.node) (a.node ≡ b.node) (b.node < a.node) (nat_cmp a.node b.node) (ranked a.node b.node (nat_cmp a.node b.node) refl)
+    (λ e p. ap (λ (o : Ordering). ordering_then o (nat_cmp a.node b.node)) e ∙ by_ranked (a.node < b.node) (a.node ≡ b.node) (b.node < a.node) (nat_cmp a.node b.node)
+    (ranked a.node b.node (nat_cmp a.node b.node) refl)
     (λ f q. f)
     (λ f q. absurd (omega (arith, h, q)))
     (λ f q. absurd (omega (arith, h, q))))
@@ -171,7 +172,8 @@ err-known (Ok x) P e h = absurd (false≢true e)
 err-known (Err x) P e h = h
 
 -- a leaf that is put in and taken out again, where it was not there before
-pub put-back : (put : Option OpenLeaf) (leaf : OpenLeaf) (old new after : List OpenLeaf) → AreOrdered old → AreOrdered after → IsNew put old leaf → IsPut put old new → IsTakenOut (Some leaf) new after → after ≡ old
+pub put-back : (put : Option OpenLeaf) (leaf : OpenLeaf) (old new after : List OpenLeaf) → AreOrdered old → AreOrdered after → IsNew put old leaf → IsPut put old new
+    → IsTakenOut (Some leaf) new after → after ≡ old
 put-back put leaf old new after was are fresh is out = same-leaves after old are was (λ q. (
   λ h. let k = (out q).0 h in elim ((is q).0 k.0) [ inl e ↦ absurd (k.1 (sym fresh.is ∙ e)) | inr m ↦ m ],
   λ h. (out q).1 ((is q).1 (inr h), λ e. fresh.absent (subst (Contains old) (sym (same_Some leaf q e)) h)),

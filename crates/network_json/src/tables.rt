@@ -5,7 +5,8 @@ ghost use Rattle.serde_json.specs.Find.{get};
 ghost use Rattle.serde_json.specs.View.{view};
 ghost use Rattle.network_parts.specs.Parts.{source_row, pool_row, product_row, arc_ends, rows_of};
 ghost use Rattle.network_json.specs.Walk.{Gives, each, rows, needs, allows, ignored, list, texts, text as text_at, quantity as quantity_at};
-ghost use Rattle.network_json.specs.Format.{quality as quality_at, limit as limit_at, limits as limits_at, no_limits, source as source_at, pool as pool_at, product as product_at, arc as arc_at, lists as lists_in, network as network_in};
+ghost use Rattle.network_json.specs.Format.{quality as quality_at, limit as limit_at, limits as limits_at, no_limits, source as source_at, pool as pool_at};
+ghost use Rattle.network_json.specs.Format.{product as product_at, arc as arc_at, lists as lists_in, network as network_in};
 ghost use Rattle.network_json.specs.declared.fault.Section.TheVariants.{Qualities, Sources, Pools, Products, Arcs};
 
 use crate::fault::{Place, ReadNet, Section};

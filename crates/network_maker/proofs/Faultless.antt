@@ -1,5 +1,6 @@
 -- The rows of a made network stand for it and have no fault, whatever the seed.
-use Rattle.std.proofs.Common.{◌≡◌, ◌≢◌, ℕ, ◌+◌, ◌*◌, ◌<◌, ◌≤◌, ◌⊎◌, inl, inr, List, [], ◌∷◌, ◌++◌, length, map, take, get_or, All, Contains, Bool, true, false, ◌&&◌, ◌||◌, not, is_some, refl, sym, ap, subst, ◌∙◌, arith}
+use Rattle.std.proofs.Common.{◌≡◌, ◌≢◌, ℕ, ◌+◌, ◌*◌, ◌<◌, ◌≤◌, ◌⊎◌, inl, inr, List, [], ◌∷◌, ◌++◌, length, map, take, get_or, All, Contains, Bool, true, false}
+use Rattle.std.proofs.Common.{◌&&◌, ◌||◌, not, is_some, refl, sym, ap, subst, ◌∙◌, arith}
 use Rattle.std.proofs.lemmas.List.Elements.{All-nil, All-cons, All-get_or}
 use Rattle.integers.specs.Numbers.{tabulate}
 use Rattle.integers.proofs.Tabulate.{length-tabulate, get_or-tabulate, tabulate-same, All-tabulate}
@@ -12,8 +13,11 @@ use Rattle.pool_model.proofs.AllBelow.{all_below-each}
 use Rattle.network_parts.specs.declared.fault.Kind.{Kind}
 use Rattle.network_parts.specs.declared.fault.Kind.TheVariants.{Source, Pool, Product, Quality, Arc}
 use Rattle.network_parts.specs.declared.fault.NetFault.{NetFault}
-use Rattle.network_parts.specs.declared.fault.NetFault.TheVariants.{TooMany, BadName, DuplicateName, UnknownName, ArcBackwards, PoolToPool, DuplicateArc, PoolWithoutInput, PoolWithoutOutput, TooManyPaths, OutOfRange, LeastAboveMost, Memory}
-use Rattle.network_parts.specs.Faults.{IsTooMany, IsName, IsBadAt, IsBadName, IsRepeatAt, IsDuplicateName, IsUnknownName, IsArcBackwards, IsPoolToPool, IsDuplicateArc, IsOutOfRange, IsLeastAboveMost, IsFaultless, IsSourceInRange, IsPoolInRange, IsProductInRange, IsOrderly, no_source_row, no_pool_row, no_product_row}
+use Rattle.network_parts.specs.declared.fault.NetFault.TheVariants.{TooMany, BadName, DuplicateName, UnknownName, ArcBackwards, PoolToPool, DuplicateArc}
+use Rattle.network_parts.specs.declared.fault.NetFault.TheVariants.{PoolWithoutInput, PoolWithoutOutput, TooManyPaths, OutOfRange, LeastAboveMost, Memory}
+use Rattle.network_parts.specs.Faults.{IsTooMany, IsName, IsBadAt, IsBadName, IsRepeatAt, IsDuplicateName, IsUnknownName, IsArcBackwards, IsPoolToPool}
+use Rattle.network_parts.specs.Faults.{IsDuplicateArc, IsOutOfRange, IsLeastAboveMost, IsFaultless, IsSourceInRange, IsPoolInRange, IsProductInRange, IsOrderly}
+use Rattle.network_parts.specs.Faults.{no_source_row, no_pool_row, no_product_row}
 use Rattle.network_parts.specs.FirstFault.{Holds, IsFirstFault}
 use Rattle.blend_network.specs.Canonical.{canonical_source, canonical_pool, canonical_product, canonical_rows}
 use Rattle.drawn_numbers.specs.Draws.{state_after}

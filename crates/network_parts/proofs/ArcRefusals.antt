@@ -16,7 +16,8 @@ use Rattle.network_parts.specs.declared.fault.Kind.TheVariants as kind
 use Rattle.network_parts.specs.declared.fault.NetFault.{NetFault}
 use Rattle.network_parts.specs.declared.fault.NetFault.TheVariants.{UnknownName, ArcBackwards, PoolToPool, DuplicateArc, PoolWithoutInput, PoolWithoutOutput, TooManyPaths, OutOfRange, Memory}
 use Rattle.network_parts.proofs.Order.{unknown, backwards, pool_to_pool, duplicate, without_input, without_output, numbered_first, numbered_next, paths_first, paths_next}
-use Rattle.network_parts.proofs.Conditions.{nodes_at, not_unknown, backwards_marked, marked_backwards, between_marked, marked_between, repeat_seen, seen_repeat, input_lacks, lacks_input, output_lacks, lacks_output}
+use Rattle.network_parts.proofs.Conditions.{nodes_at, not_unknown, backwards_marked, marked_backwards, between_marked, marked_between, repeat_seen, seen_repeat}
+use Rattle.network_parts.proofs.Conditions.{input_lacks, lacks_input, output_lacks, lacks_output}
 use Rattle.network_parts.proofs.Refusals.{but_memory}
 
 -- ---- the ends of the arcs

@@ -1,5 +1,6 @@
 -- What is found of the nodes, the arcs and the pools, as a fault's condition on the rows, both ways.
-use Rattle.std.proofs.Common.{◌≡◌, ℕ, ◌<◌, ◌≤◌, ◌⊎◌, List, [], length, map, take, get_or, Contains, Bool, true, false, Option, None, Some, option_map, is_some, refl, sym, ap, subst, ◌∙◌, inl, inr, All, ◌||◌, ◌&&◌, arith}
+use Rattle.std.proofs.Common.{◌≡◌, ℕ, ◌<◌, ◌≤◌, ◌⊎◌, List, [], length, map, take, get_or, Contains, Bool, true, false, Option, None, Some, option_map, is_some}
+use Rattle.std.proofs.Common.{refl, sym, ap, subst, ◌∙◌, inl, inr, All, ◌||◌, ◌&&◌, arith}
 use Rattle.std.proofs.lemmas.List.{length-map, length-take-le, get_or-map, get_or-take, get_or_default, take_all}
 use Rattle.std.proofs.lemmas.List.Elements.{All-map}
 use Rattle.std.proofs.lemmas.Bool.{false≢true}

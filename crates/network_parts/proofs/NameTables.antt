@@ -1,5 +1,6 @@
 -- What the look-ups of a table of names say of the list of names.
-use Rattle.std.proofs.Common.{◌≡◌, ℕ, ◌+◌, ◌<◌, ◌≤◌, suc, take, get_or, List, [], ◌∷◌, ◌++◌, length, map, Bool, true, false, not, cond, nat_lt, Some, None, option_map, if◌then◌else◌, position, bytes_eq, Contains, Bor, refl, sym, ap, ◌∙◌, arith}
+use Rattle.std.proofs.Common.{◌≡◌, ℕ, ◌+◌, ◌<◌, ◌≤◌, suc, take, get_or, List, [], ◌∷◌, ◌++◌, length, map, Bool, true, false, not, cond, nat_lt, Some, None}
+use Rattle.std.proofs.Common.{option_map, if◌then◌else◌, position, bytes_eq, Contains, Bor, refl, sym, ap, ◌∙◌, arith}
 use Rattle.std.specs.List.{list_any, position_or_len}
 use Rattle.std.proofs.lemmas.List.{map-append, append_assoc, take_all, take_more}
 use Rattle.std.proofs.lemmas.Map.Views.{Contains-from_any, list_any-from_Contains}

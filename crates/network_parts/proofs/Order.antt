@@ -8,7 +8,8 @@ use Rattle.network_parts.specs.Faults.{IsFaultless}
 use Rattle.network_parts.specs.declared.fault.Kind.{Kind}
 use Rattle.network_parts.specs.declared.fault.Kind.TheVariants.{Source, Pool, Product, Quality, Arc}
 use Rattle.network_parts.specs.declared.fault.NetFault.{NetFault}
-use Rattle.network_parts.specs.declared.fault.NetFault.TheVariants.{TooMany, BadName, DuplicateName, UnknownName, ArcBackwards, PoolToPool, DuplicateArc, PoolWithoutInput, PoolWithoutOutput, TooManyPaths, OutOfRange, LeastAboveMost, Memory}
+use Rattle.network_parts.specs.declared.fault.NetFault.TheVariants.{TooMany, BadName, DuplicateName, UnknownName, ArcBackwards, PoolToPool, DuplicateArc}
+use Rattle.network_parts.specs.declared.fault.NetFault.TheVariants.{PoolWithoutInput, PoolWithoutOutput, TooManyPaths, OutOfRange, LeastAboveMost, Memory}
 
 -- a search that stopped at a number found the first
 pub told : (make : ℕ → NetFault) (P : ℕ → Type 0) (n : ℕ) → P n → ((m : ℕ) → m < n → ¬ P m) → IsFirstOf make P (make n)

@@ -5,7 +5,8 @@ ghost use Rattle.std.specs.Option.{ForSome};
 ghost use Rattle.pool_model.specs.Network.{IsWithin};
 ghost use Rattle.network_parts.specs.Parts.{source_row, pool_row, product_row};
 ghost use Rattle.faults.specs.First.{IsFirstOf};
-ghost use Rattle.network_parts.specs.Faults.{IsUpTo, IsSourceInRange, IsPoolInRange, IsProductInRange, IsOrderly, IsSourceOutAt, IsPoolOutAt, IsProductOutAt, IsDisorderlyAt, AreOrderly, AreLimits, IsInOrder, no_source_row, no_pool_row, no_product_row};
+ghost use Rattle.network_parts.specs.Faults.{IsUpTo, IsSourceInRange, IsPoolInRange, IsProductInRange, IsOrderly, IsSourceOutAt, IsPoolOutAt, IsProductOutAt};
+ghost use Rattle.network_parts.specs.Faults.{IsDisorderlyAt, AreOrderly, AreLimits, IsInOrder, no_source_row, no_pool_row, no_product_row};
 
 use crate::fault::{Kind, NetFault};
 use crate::parts::{PoolRow, ProductRow, SourceRow};

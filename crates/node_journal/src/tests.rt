@@ -14,7 +14,8 @@ use worked_networks::{HAVERLY_1, network};
 
 /// The canonical text of the network: source A sells up to 100 at 6, and product X pays 9.
 const TEXT: &[u8] =
-    br#"{"arcs":[["A","X"]],"pools":[],"products":[{"least":{},"max":100,"min":0,"most":{"sulfur":3},"name":"X","price":9}],"qualities":["sulfur"],"sources":[{"cost":6,"max":100,"name":"A","quality":{"sulfur":3}}],"version":1}"#;
+    b"{\"arcs\":[[\"A\",\"X\"]],\"pools\":[],\"products\":[{\"least\":{},\"max\":100,\"min\":0,\"most\":{\"sulfur\":3},\"name\":\"X\",\"price\":9}],\
+    \"qualities\":[\"sulfur\"],\"sources\":[{\"cost\":6,\"max\":100,\"name\":\"A\",\"quality\":{\"sulfur\":3}}],\"version\":1}";
 
 /// What stands before the text: birth byte, magic, version, and the text's length.
 const HEAD: &[u8] = b"\x01POOLJNL\x01\x00\x00\x00\xda";

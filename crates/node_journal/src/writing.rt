@@ -6,7 +6,8 @@ ghost use Rattle.box_space.specs.Views.{shown_part, shown_proof, shown_split};
 ghost use Rattle.plan_core.specs.Views.{shown_plan};
 ghost use Rattle.box_tree.specs.Views.{shown_entry};
 ghost use Rattle.node_journal.specs.Fields.{field};
-ghost use Rattle.node_journal.specs.Payload.{part_bytes, proof_bytes, half_bytes, split_bytes, list_bytes, plan_bytes, payload, PartFits, ProofFits, HalfFits, SplitFits, ListFits, PlanFits, EntryFits, IsNarrow, IsNarrowPlan};
+ghost use Rattle.node_journal.specs.Payload.{part_bytes, proof_bytes, half_bytes, split_bytes, list_bytes, plan_bytes, payload, PartFits, ProofFits, HalfFits};
+ghost use Rattle.node_journal.specs.Payload.{SplitFits, ListFits, PlanFits, EntryFits, IsNarrow, IsNarrowPlan};
 ghost use Rattle.node_journal.specs.Pages.{with_bytes};
 
 use crate::fields::{i64_field, u16_field, u32_field, u64_field};

@@ -1,5 +1,6 @@
 -- The groups after one number more.
-use Rattle.std.proofs.Common.{◌≡◌, ℕ, zero, suc, ◌+◌, ◌<◌, ◌≤◌, inl, inr, Bool, true, false, ◌==◌, if◌then◌else◌, List, [], ◌∷◌, ◌++◌, length, get_or, set, map, All, sym, ap, ◌∙◌, arith, length-append}
+use Rattle.std.proofs.Common.{◌≡◌, ℕ, zero, suc, ◌+◌, ◌<◌, ◌≤◌, inl, inr, Bool, true, false, ◌==◌, if◌then◌else◌, List, [], ◌∷◌, ◌++◌, length, get_or, set, map}
+use Rattle.std.proofs.Common.{All, sym, ap, ◌∙◌, arith, length-append}
 use Rattle.std.proofs.lemmas.List.{map-set, length-set, get_or-set_same, get_or-set_other, get_or-map, length-map}
 use Rattle.integers.specs.Numbers.{numbers_at, tabulate}
 use Rattle.integers.proofs.AtKey.{same_or_other}

@@ -4,7 +4,8 @@ ghost use Rattle.std.specs.Prelude.{◌≡◌, ℕ, ◌<◌, ◌≤◌, ◌==◌
 ghost use Rattle.pool_model.specs.Network.{net_of};
 ghost use Rattle.pool_model.specs.Paths.{paths_of, path_at};
 ghost use Rattle.integers.specs.Numbers.{tabulate};
-ghost use Rattle.pool_model.specs.Starting.{feeds_before, first_weight, zero_plan as zero_written, simple_plan as simple_written, through, straight, suits as suits_of, is_above, is_below, all_below, direct_flow as direct_flow_of, path_flow as path_flow_of, alone};
+ghost use Rattle.pool_model.specs.Starting.{feeds_before, first_weight, zero_plan as zero_written, simple_plan as simple_written, through, straight};
+ghost use Rattle.pool_model.specs.Starting.{suits as suits_of, is_above, is_below, all_below, direct_flow as direct_flow_of, path_flow as path_flow_of, alone};
 ghost use Rattle.plan_core.specs.Views.{shown_plan, shown_way, IsInRange};
 ghost use Rattle.plan_core.specs.Weights.{weight_on};
 

@@ -1,7 +1,8 @@
 -- Least bases of parts, pool by pool, and weights over them.
 use Rattle.std.proofs.Common.{◌≡◌, ℕ, zero, suc, ◌+◌, ◌*◌, ◌/◌, ◌<◌, ◌≤◌, ◌^◌, ◌↔◌, ◌==◌, Bool, true, false, if◌then◌else◌, length, get_or, arith, refl, sym, ap, subst, ◌∙◌, below_more}
 use Rattle.std.specs.Int.{◌∣◌}
-use Rattle.std.proofs.Math.Nat.{div-mul_cancel, mul-dvd-mul_left, mul-dvd-mul_right, dvd_of_mul-dvd-mul_right, dvd-mul_right, mul_comm, mul-zero, one-dvd, mul-le-mul, mul-le-mul_left, le_of_mul-le-mul_left, div-le_self}
+use Rattle.std.proofs.Math.Nat.{div-mul_cancel, mul-dvd-mul_left, mul-dvd-mul_right, dvd_of_mul-dvd-mul_right, dvd-mul_right, mul_comm, mul-zero, one-dvd}
+use Rattle.std.proofs.Math.Nat.{mul-le-mul, mul-le-mul_left, le_of_mul-le-mul_left, div-le_self}
 use Rattle.std.proofs.lemmas.Nat.Gcd.{dvd_trans, le_of_dvd, dvd-zero}
 use Rattle.std.proofs.lemmas.List.Elements.{All-get_or}
 use Rattle.std.proofs.lemmas.List.{get_or_default}

@@ -4,7 +4,8 @@ ghost use Rattle.std.specs.Prelude.{◌≡◌, ℕ, ◌+◌, ◌/◌, ◌<◌, �
 ghost use Rattle.integers.specs.Numbers.{tabulate};
 ghost use Rattle.pool_model.specs.Network.{net_of};
 ghost use Rattle.plan_core.specs.Views.{shown_plan};
-ghost use Rattle.plan_repair.specs.PlainPlan.{above_zero as above_zero_of, direct_flow as direct_flow_of, feed_flow as feed_flow_of, out_flow as out_flow_of, parts, plain_plan as plain_written, within as within_of};
+ghost use Rattle.plan_repair.specs.PlainPlan.{above_zero as above_zero_of, direct_flow as direct_flow_of, feed_flow as feed_flow_of, out_flow as out_flow_of};
+ghost use Rattle.plan_repair.specs.PlainPlan.{parts, plain_plan as plain_written, within as within_of};
 
 use crate::weights::plain_weights;
 use blend_network::Network;

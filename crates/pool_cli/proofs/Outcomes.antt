@@ -27,7 +27,8 @@ use Rattle.recorded_run.specs.declared.fault.RunFault.{RunFault}
 use Rattle.recorded_run.specs.declared.fault.RunFault.TheVariants as faults
 use Rattle.pool_cli.specs.declared.reading.Unread.{Unread}
 use Rattle.pool_cli.specs.declared.reading.Unread.TheVariants as unread
-use Rattle.pool_cli.specs.SolveEnds.{EndsWith, IsHeldUp, IsJournalEnd, IsPlanned, IsPrinted, IsWithinBudget, JournalUnder, NoPlanUnder, NoStartUnder, OverUnder, SolveDecided, SolveEnds, SolvesAs, StartUnder, WithinUnder, fault_status, orders_of}
+use Rattle.pool_cli.specs.SolveEnds.{EndsWith, IsHeldUp, IsJournalEnd, IsPlanned, IsPrinted, IsWithinBudget, JournalUnder, NoPlanUnder, NoStartUnder, OverUnder}
+use Rattle.pool_cli.specs.SolveEnds.{SolveDecided, SolveEnds, SolvesAs, StartUnder, WithinUnder, fault_status, orders_of}
 use Rattle.pool_cli.specs.FormulateEnds.{FormulateDecided, FormulateEnds, FormulatesAs}
 use Rattle.pool_cli.specs.MakeEnds.{MakeDecided, MakeEnds, MakesAs}
 use Rattle.pool_cli.specs.TrialEnds.{TrialDecided, TrialEnds, TriesAs}

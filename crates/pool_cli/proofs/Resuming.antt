@@ -1,5 +1,6 @@
 -- A tree that grows by entries in order: its bound is no lower, and its plan no dearer.
-use Rattle.std.proofs.Common.{◌≡◌, ◌≢◌, ℕ, zero, suc, ◌*◌, ◌<◌, ◌⊎◌, inl, inr, ◌==◌, ◌||◌, if◌then◌else◌, List, [], ◌∷◌, length, Bool, true, false, Option, option_map, Some, None, ℤ, pos, arith, refl, sym, ap, subst, ◌∙◌}
+use Rattle.std.proofs.Common.{◌≡◌, ◌≢◌, ℕ, zero, suc, ◌*◌, ◌<◌, ◌⊎◌, inl, inr, ◌==◌, ◌||◌, if◌then◌else◌, List, [], ◌∷◌, length, Bool, true, false, Option}
+use Rattle.std.proofs.Common.{option_map, Some, None, ℤ, pos, arith, refl, sym, ap, subst, ◌∙◌}
 use Rattle.std.specs.Option.{ForSome}
 use Rattle.std.proofs.lemmas.Int.{clamps}
 use Rattle.std.proofs.lemmas.Option.{none-some}
@@ -11,7 +12,8 @@ use Rattle.pool_model.specs.Starting.{lesser, least_below, reach_bound}
 use Rattle.row_model.specs.Boxes.{left_of, right_of}
 use Rattle.row_model.specs.Multipliers.{Proof, Shown, bound, no_plan, shown_by}
 use Rattle.row_model.specs.Trees.{Split, Tree, IsTree, left_node, right_node, nodes, is_cut, box_of, raised, own, bound_after, node_bound, leaf_bound, tree_bound}
-use Rattle.row_model.specs.Entries.{Entry, root_proof, split_of, improve, Searched, start, after, made_from, made_by, AreInOrder, IsSearched, IsRootInOrder, IsSplitEntryInOrder, IsEntryInOrder, AreInOrderFrom, IsCheaper}
+use Rattle.row_model.specs.Entries.{Entry, root_proof, split_of, improve, Searched, start, after, made_from, made_by, AreInOrder, IsSearched, IsRootInOrder}
+use Rattle.row_model.specs.Entries.{IsSplitEntryInOrder, IsEntryInOrder, AreInOrderFrom, IsCheaper}
 use Rattle.row_model.proofs.EntryLaw.{length-more, searched-kept}
 use Rattle.row_model.proofs.TreeBound.{tree-empty}
 use Rattle.pool_model.specs.Claim as claims

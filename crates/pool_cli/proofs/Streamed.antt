@@ -61,7 +61,8 @@ module _ (n : Net) (rest : Option (List ℕ)) where
 
 -- ---- the file under a name is what is read of it
 
-took-part : (A B : Status → List ℕ → Type 0) → ((status : Status) (text : List ℕ) → A status text → B status text) → (part : Part) (status : Status) (old new : Option (List ℕ)) → TookPart part A status old new
+took-part : (A B : Status → List ℕ → Type 0) → ((status : Status) (text : List ℕ) → A status text → B status text)
+    → (part : Part) (status : Status) (old new : Option (List ℕ)) → TookPart part A status old new
     → TookPart part B status old new
 took-part A B to whole status old new took = (took.0, to status took.0 took.1, took.2)
 took-part A B to front status old new took = (took.0, (took.1.0, to took.1.0 took.0 took.1.1), took.2)

@@ -135,7 +135,8 @@ fn solve_network<K: Sink, D: Disk>(
 ) -> SolveOutcome
     requires gap { IsGapAsked words.now.gap }
     requires journal { (file : List ℕ) → (shown_solving words.now).journal ≡ Some file → IsTrue (D.admits disk.old file) }
-    ensures took { (files : Option Files) → ReadsUnder files (string_bytes words.now.net) net.now → Took (SolvesAs files (shown_solving words.now)) (solve_status result) (K.taken out.old) (K.taken out.new) }
+    ensures took { (files : Option Files) → ReadsUnder files (string_bytes words.now.net) net.now
+        → Took (SolvesAs files (shown_solving words.now)) (solve_status result) (K.taken out.old) (K.taken out.new) }
     ensures ends { (files : Option Files) (before after : ℕ) → ReadsUnder files (string_bytes words.now.net) net.now → SolveEnds files (shown_solving words.now) before after (solve_status result) }
     ensures journal { (files : Option Files) (file : List ℕ) → ReadsUnder files (string_bytes words.now.net) net.now → (shown_solving words.now).journal ≡ Some file → IsTrue (D.tells disk.old) →
         Journaled files (shown_solving words.now) (LeavesOnly D.moment D.left_since disk.old disk.new) (D.may_leave disk.old) (D.reads disk.new) (D.may_leave disk.new)

@@ -5,7 +5,8 @@ ghost use Rattle.std.specs.Prelude.{◌≡◌, [], ◌∷◌, neg_ℤ, pos, All}
 ghost use Rattle.pool_model.specs.Network.{net_of};
 ghost use Rattle.pool_model.specs.Plan.{Obeys, cost_of, quality_inflow, quality_room};
 ghost use Rattle.pool_model.specs.Starting.{reach_bound, simple_plan, straight, through, zero_plan};
-ghost use Rattle.pool_model.specs.Worked.{ObeysIn, cost_in, flows, haverly, haverly_best, haverly_mixed, net_in, nothing, one_source, plan_in, pooled_haverly, shared, shared_breaking, shared_obeying, strict, two_feeds, two_products, wastewater, written};
+ghost use Rattle.pool_model.specs.Worked.{ObeysIn, cost_in, flows, haverly, haverly_best, haverly_mixed, net_in, nothing, one_source, plan_in, pooled_haverly};
+ghost use Rattle.pool_model.specs.Worked.{shared, shared_breaking, shared_obeying, strict, two_feeds, two_products, wastewater, written};
 
 /// Worked plans: whether they obey, and what they cost.
 pub fn worked_plans()

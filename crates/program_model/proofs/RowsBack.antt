@@ -11,7 +11,8 @@ use Rattle.pool_model.specs.Plan.{Plan, Carries, outflow, pool_inflow, source_ou
 use Rattle.pool_model.specs.Limits.{Limit, most_limits, least_limits, no_limit}
 use Rattle.row_model.specs.Boxes.{grain}
 use Rattle.row_model.specs.Variables.{PerVariable, path_count, path_feed, path_out}
-use Rattle.row_model.specs.Catalogue.{Family, network_families, pq_families, source_row, balance_row, pool_row, maximum_row, minimum_row, mixing_row, mixed_most_row, mixed_least_row, proportions_row, feed_row, path_most_row, path_least_row, out_row, share_row}
+use Rattle.row_model.specs.Catalogue.{Family, network_families, pq_families, source_row, balance_row, pool_row, maximum_row, minimum_row, mixing_row}
+use Rattle.row_model.specs.Catalogue.{mixed_most_row, mixed_least_row, proportions_row, feed_row, path_most_row, path_least_row, out_row, share_row}
 use Rattle.program_model.specs.Points.{ProportionPoint, QualityPoint, proportion_flows, quality_flows}
 use Rattle.program_model.specs.Programs.{IsPointOfP, IsPointOfQ, IsPointOfPq, mixed_inflow, path_inflow}
 use Rattle.program_model.specs.Rows.{exact_p_families, exact_q_families, with_flows, proportion_values, quality_values, value_over, MeetsRow, MeetsRows, SolvesP, SolvesQ, SolvesPq}

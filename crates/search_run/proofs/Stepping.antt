@@ -108,13 +108,22 @@ module _ (n : Net) (o : Orders) (s : Searched) (options : Options) (asked : opti
   next-infeasible is = is
 
   pub next-stopped : IsNext n options s repaired (picked o.rule cuts) next.Stopped → IsEnd n o s ended.Stopped
-  next-stopped is = let h : IsNext n (options_of o) s repaired (picked o.rule cuts) next.Stopped = subst (λ (x : Options). IsNext n x s repaired (picked o.rule cuts) next.Stopped) asked is in (h.0.rooted, h.1, h.2)
+  next-stopped is =
+      let h : IsNext n (options_of o) s repaired (picked o.rule cuts) next.Stopped
+      = subst (λ (x : Options). IsNext n x s repaired (picked o.rule cuts) next.Stopped) asked is in
+      (h.0.rooted, h.1, h.2)
 
   pub next-stuck : IsNext n options s repaired (picked o.rule cuts) next.Stuck → IsEnd n o s ended.Stuck
-  next-stuck is = let h : IsNext n (options_of o) s repaired (picked o.rule cuts) next.Stuck = subst (λ (x : Options). IsNext n x s repaired (picked o.rule cuts) next.Stuck) asked is in (h.0.rooted, h.1, h.2, h.3)
+  next-stuck is =
+      let h : IsNext n (options_of o) s repaired (picked o.rule cuts) next.Stuck
+      = subst (λ (x : Options). IsNext n x s repaired (picked o.rule cuts) next.Stuck) asked is in
+      (h.0.rooted, h.1, h.2, h.3)
 
   pub next-undecided : IsNext n options s repaired (picked o.rule cuts) next.Undecided → IsEnd n o s ended.Undecided
-  next-undecided is = let h : IsNext n (options_of o) s repaired (picked o.rule cuts) next.Undecided = subst (λ (x : Options). IsNext n x s repaired (picked o.rule cuts) next.Undecided) asked is in (h.0.rooted, h.1, h.2)
+  next-undecided is =
+      let h : IsNext n (options_of o) s repaired (picked o.rule cuts) next.Undecided
+      = subst (λ (x : Options). IsNext n x s repaired (picked o.rule cuts) next.Undecided) asked is in
+      (h.0.rooted, h.1, h.2)
 
 -- ---- a closure that keeps to the rule
 

@@ -13,7 +13,8 @@ pub(crate) const LINE: &str =
     "accepted gap cost -300000000000000 base 1 bound -300000000000000 gap 0\n";
 
 const REPORT: &str =
-    "kind gap\ncost -300.000000\nbound -300.000000\ngap 0.000000\nflow           100.000000 A -> X\nquality             3.000000 X: sulfur\nslack             0.000000 A\nslack             0.000000 X\n";
+    "kind gap\ncost -300.000000\nbound -300.000000\ngap 0.000000\nflow           100.000000 A -> X\nquality             3.000000 X: sulfur\n\
+    slack             0.000000 A\nslack             0.000000 X\n";
 
 /// The exact program of the network.
 const PROGRAM: &str =

@@ -48,7 +48,8 @@ const NONE: &str = "poolcert 1\nkind none\nshape 1 0 1 1 0 0 1\nsplits 0\nproofs
 
 /// The best plan of the first network of Haverly (1978), without a proof.
 const BEST_OF_HAVERLY: &str =
-    "poolcert 1\nkind gap\nshape 3 1 2 1 2 2 2\nplan 1 1\nweights 0 1\noutflows 0 100000000\ndirect 0 100000000\nsplits 0\nproofs 0\ncost -400000000000000 1\nbound -2100000000000000\ngap 1700000000000000 1\nend\n";
+    "poolcert 1\nkind gap\nshape 3 1 2 1 2 2 2\nplan 1 1\nweights 0 1\noutflows 0 100000000\ndirect 0 100000000\nsplits 0\nproofs 0\n\
+    cost -400000000000000 1\nbound -2100000000000000\ngap 1700000000000000 1\nend\n";
 
 /// That no plan obeys, by the demand and the quality limit together.
 const NO_PLAN: &str =

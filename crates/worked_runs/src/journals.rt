@@ -10,7 +10,9 @@ use worked_networks::{HAVERLY_1, HAVERLY_2, ONE_DIRECT};
 
 /// What stands before the records of the journal of `ONE_DIRECT`: birth byte, magic, version, and the canonical text behind its length.
 const HEAD: &[u8] =
-    b"\x01POOLJNL\x01\x00\x00\x00\xda{\"arcs\":[[\"A\",\"X\"]],\"pools\":[],\"products\":[{\"least\":{},\"max\":100,\"min\":0,\"most\":{\"sulfur\":3},\"name\":\"X\",\"price\":9}],\"qualities\":[\"sulfur\"],\"sources\":[{\"cost\":6,\"max\":100,\"name\":\"A\",\"quality\":{\"sulfur\":3}}],\"version\":1}";
+    b"\x01POOLJNL\x01\x00\x00\x00\xda{\"arcs\":[[\"A\",\"X\"]],\"pools\":[],\"products\":[{\"least\":{},\"max\":100,\"min\":0,\"most\":{\"sulfur\":3},\
+    \"name\":\"X\",\"price\":9}],\"qualities\":[\"sulfur\"],\"sources\":[{\"cost\":6,\"max\":100,\"name\":\"A\",\"quality\":{\"sulfur\":3}}],\
+    \"version\":1}";
 
 /// The record of the plan that ships 100: an open gate, the length, kind, two bases, no weight, no outflow, and one flow.
 const RECORD: &[u8] =

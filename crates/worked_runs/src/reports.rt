@@ -11,7 +11,13 @@ use worked_networks::ONE_DIRECT;
 
 /// Waste water: a path and a direct earn the same, and the path goes first.
 const OUTLETS: &str =
-    r#"{"version":1,"title":"Outlets of site 4, loads in mg/l, flows in m3/h","qualities":["load"],"sources":[{"name":"W1","cost":1,"max":40,"quality":{"load":120}},{"name":"W2","cost":0,"max":60,"quality":{"load":30}},{"name":"fresh","cost":"0.35","quality":{"load":0}}],"pools":[{"name":"basin 1"},{"name":"basin 2"}],"products":[{"name":"river","price":3,"max":80,"most":{"load":50}},{"name":"sewer","price":1,"max":100,"most":{"load":90}}],"arcs":[["W1","basin 1"],["W2","basin 1"],["W2","basin 2"],["fresh","basin 2"],["basin 1","river"],["basin 1","sewer"],["basin 2","river"],["basin 2","sewer"],["fresh","river"]]}"#;
+    r#"{"version":1,"title":"Outlets of site 4, loads in mg/l, flows in m3/h","qualities":["load"],
+    "sources":[{"name":"W1","cost":1,"max":40,"quality":{"load":120}},{"name":"W2","cost":0,"max":60,"quality":{"load":30}},
+        {"name":"fresh","cost":"0.35","quality":{"load":0}}],
+    "pools":[{"name":"basin 1"},{"name":"basin 2"}],
+    "products":[{"name":"river","price":3,"max":80,"most":{"load":50}},{"name":"sewer","price":1,"max":100,"most":{"load":90}}],
+    "arcs":[["W1","basin 1"],["W2","basin 1"],["W2","basin 2"],["fresh","basin 2"],["basin 1","river"],["basin 1","sewer"],
+        ["basin 2","river"],["basin 2","sewer"],["fresh","river"]]}"#;
 
 /// `FULL` with a bound that is one pico too high.
 const WRONG_BOUND: &[u8] =
@@ -19,7 +25,8 @@ const WRONG_BOUND: &[u8] =
 
 /// What a person reads of `FULL`.
 const FULL_REPORT: &[u8] =
-    b"kind gap\ncost -300.000000\nbound -300.000000\ngap 0.000000\nflow           100.000000 A -> X\nquality             3.000000 X: sulfur\nslack             0.000000 A\nslack             0.000000 X\n";
+    b"kind gap\ncost -300.000000\nbound -300.000000\ngap 0.000000\nflow           100.000000 A -> X\nquality             3.000000 X: sulfur\n\
+    slack             0.000000 A\nslack             0.000000 X\n";
 
 /// The code of `report net cert`, and what it printed.
 fn reported(

@@ -10,7 +10,8 @@ pub const FULL: &str =
 
 /// A certificate of `worked_networks::TWO_FEEDS`: the zero plan, and a tree of two splits, of which one leaf holds no plan.
 pub const TREE: &str =
-    "poolcert 1\nkind gap\nshape 2 1 1 1 2 1 0\nplan 1 1\nweights 1 0\noutflows 0\ndirect\nsplits 2\nsplit 0 0 524288\nsplit 1 1 262144\nproofs 1\nproof 3 0 1 11 1\ncost 0 1\nbound -300000000000000\ngap 300000000000000 1\nend\n";
+    "poolcert 1\nkind gap\nshape 2 1 1 1 2 1 0\nplan 1 1\nweights 1 0\noutflows 0\ndirect\nsplits 2\nsplit 0 0 524288\nsplit 1 1 262144\nproofs 1\n\
+    proof 3 0 1 11 1\ncost 0 1\nbound -300000000000000\ngap 300000000000000 1\nend\n";
 
 /// Words, parted at each space.
 pub fn words_of(alloc: Global, line: &str) -> Result<Vec<String>, AllocError> {

@@ -78,12 +78,16 @@ fn plan_and_bound_meet_at_the_best_cost(rt: HostRuntime) -> Result<(), Fail> {
 
 /// One pool has to serve X, which wants sulfur of at least 2.5, and Y, which stands 1.5. No plan does, since a pool has one quality;
 /// the root box alone doesn't show it.
-const TORN: &str =
-    r#"{"version":1,"qualities":["sulfur"],"sources":[{"name":"A","cost":6,"quality":{"sulfur":3}},{"name":"B","cost":16,"quality":{"sulfur":1}}],"pools":[{"name":"P"}],"products":[{"name":"X","price":9,"min":10,"max":100,"least":{"sulfur":"2.5"}},{"name":"Y","price":15,"min":10,"max":100,"most":{"sulfur":"1.5"}}],"arcs":[["A","P"],["B","P"],["P","X"],["P","Y"]]}"#;
+const TORN: &str = r#"{"version":1,"qualities":["sulfur"],
+    "sources":[{"name":"A","cost":6,"quality":{"sulfur":3}},{"name":"B","cost":16,"quality":{"sulfur":1}}],"pools":[{"name":"P"}],
+    "products":[{"name":"X","price":9,"min":10,"max":100,"least":{"sulfur":"2.5"}},
+        {"name":"Y","price":15,"min":10,"max":100,"most":{"sulfur":"1.5"}}],
+    "arcs":[["A","P"],["B","P"],["P","X"],["P","Y"]]}"#;
 
 /// X may take one part of A in 65,537, a prime: no plan that can be written takes just that. There is no pool, and so no coordinate.
-const ONE_IN_A_PRIME: &str =
-    r#"{"version":1,"qualities":["sulfur"],"sources":[{"name":"A","cost":1,"quality":{"sulfur":"0.065537"}},{"name":"B","cost":2,"quality":{"sulfur":0}}],"products":[{"name":"X","price":3,"max":100,"most":{"sulfur":"0.000001"}}],"arcs":[["A","X"],["B","X"]]}"#;
+const ONE_IN_A_PRIME: &str = r#"{"version":1,"qualities":["sulfur"],
+    "sources":[{"name":"A","cost":1,"quality":{"sulfur":"0.065537"}},{"name":"B","cost":2,"quality":{"sulfur":0}}],
+    "products":[{"name":"X","price":3,"max":100,"most":{"sulfur":"0.000001"}}],"arcs":[["A","X"],["B","X"]]}"#;
 
 /// The network of a name; no text under any other.
 fn network_under(name: &str) -> &'static str {

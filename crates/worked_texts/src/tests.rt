@@ -35,27 +35,46 @@ fn canonical_texts(rt: HostRuntime) -> Result<(), Fail> {
     for (file, expected) in [
         (
             ONE_DIRECT,
-            r#"{"arcs":[["A","X"]],"pools":[],"products":[{"least":{},"max":100,"min":0,"most":{"sulfur":3},"name":"X","price":9}],"qualities":["sulfur"],"sources":[{"cost":6,"max":100,"name":"A","quality":{"sulfur":3}}],"version":1}"#,
+            "{\"arcs\":[[\"A\",\"X\"]],\"pools\":[],\"products\":[{\"least\":{},\"max\":100,\"min\":0,\"most\":{\"sulfur\":3},\"name\":\"X\",\
+            \"price\":9}],\"qualities\":[\"sulfur\"],\"sources\":[{\"cost\":6,\"max\":100,\"name\":\"A\",\"quality\":{\"sulfur\":3}}],\"version\":1}",
         ),
         (
             HAVERLY_1,
-            r#"{"arcs":[["A","P"],["B","P"],["P","X"],["P","Y"],["C","X"],["C","Y"]],"pools":[{"max":300,"name":"P"}],"products":[{"least":{},"max":100,"min":0,"most":{"sulfur":"2.5"},"name":"X","price":9},{"least":{},"max":200,"min":0,"most":{"sulfur":"1.5"},"name":"Y","price":15}],"qualities":["sulfur"],"sources":[{"cost":6,"max":300,"name":"A","quality":{"sulfur":3}},{"cost":16,"max":300,"name":"B","quality":{"sulfur":1}},{"cost":10,"max":300,"name":"C","quality":{"sulfur":2}}],"version":1}"#,
+            "{\"arcs\":[[\"A\",\"P\"],[\"B\",\"P\"],[\"P\",\"X\"],[\"P\",\"Y\"],[\"C\",\"X\"],[\"C\",\"Y\"]],\"pools\":[{\"max\":300,\"name\":\"P\"}],\
+            \"products\":[{\"least\":{},\"max\":100,\"min\":0,\"most\":{\"sulfur\":\"2.5\"},\"name\":\"X\",\"price\":9},{\"least\":{},\"max\":200,\
+            \"min\":0,\"most\":{\"sulfur\":\"1.5\"},\"name\":\"Y\",\"price\":15}],\"qualities\":[\"sulfur\"],\"sources\":[{\"cost\":6,\"max\":300,\
+            \"name\":\"A\",\"quality\":{\"sulfur\":3}},{\"cost\":16,\"max\":300,\"name\":\"B\",\"quality\":{\"sulfur\":1}},{\"cost\":10,\"max\":300,\
+            \"name\":\"C\",\"quality\":{\"sulfur\":2}}],\"version\":1}",
         ),
         (
             TWO_POOLS,
-            r#"{"arcs":[["A","P"],["B","R"],["B","P"],["P","X"],["R","Y"],["P","Y"],["A","Y"],["B","X"]],"pools":[{"max":300,"name":"P"},{"max":70,"name":"R"}],"products":[{"least":{"lead":"0.6","sulfur":"1.5"},"max":100,"min":5,"most":{"sulfur":"2.5"},"name":"X","price":9},{"least":{},"max":200,"min":0,"most":{"lead":"0.8"},"name":"Y","price":15}],"qualities":["sulfur","lead"],"sources":[{"cost":6,"max":40,"name":"A","quality":{"lead":"0.9","sulfur":3}},{"cost":16,"max":300,"name":"B","quality":{"lead":"0.5","sulfur":1}}],"version":1}"#,
+            "{\"arcs\":[[\"A\",\"P\"],[\"B\",\"R\"],[\"B\",\"P\"],[\"P\",\"X\"],[\"R\",\"Y\"],[\"P\",\"Y\"],[\"A\",\"Y\"],[\"B\",\"X\"]],\
+            \"pools\":[{\"max\":300,\"name\":\"P\"},{\"max\":70,\"name\":\"R\"}],\"products\":[{\"least\":{\"lead\":\"0.6\",\"sulfur\":\"1.5\"},\
+            \"max\":100,\"min\":5,\"most\":{\"sulfur\":\"2.5\"},\"name\":\"X\",\"price\":9},{\"least\":{},\"max\":200,\"min\":0,\
+            \"most\":{\"lead\":\"0.8\"},\"name\":\"Y\",\"price\":15}],\"qualities\":[\"sulfur\",\"lead\"],\"sources\":[{\"cost\":6,\"max\":40,\
+            \"name\":\"A\",\"quality\":{\"lead\":\"0.9\",\"sulfur\":3}},{\"cost\":16,\"max\":300,\"name\":\"B\",\"quality\":{\"lead\":\"0.5\",\
+            \"sulfur\":1}}],\"version\":1}",
         ),
         (
             FAR_APART,
-            r#"{"arcs":[["S","T"]],"pools":[],"products":[{"least":{},"max":"549755.813888","min":0,"most":{"sulfur":0},"name":"T","price":0}],"qualities":["sulfur"],"sources":[{"cost":0,"max":"549755.813888","name":"S","quality":{"sulfur":"-68719.476736"}}],"version":1}"#,
+            "{\"arcs\":[[\"S\",\"T\"]],\"pools\":[],\"products\":[{\"least\":{},\"max\":\"549755.813888\",\"min\":0,\"most\":{\"sulfur\":0},\
+            \"name\":\"T\",\"price\":0}],\"qualities\":[\"sulfur\"],\"sources\":[{\"cost\":0,\"max\":\"549755.813888\",\"name\":\"S\",\
+            \"quality\":{\"sulfur\":\"-68719.476736\"}}],\"version\":1}",
         ),
         (
             WASTEWATER,
-            r#"{"arcs":[["W1","basin 1"],["W2","basin 1"],["W2","basin 2"],["fresh","basin 2"],["basin 1","river"],["basin 1","sewer"],["basin 2","river"],["basin 2","sewer"],["fresh","river"]],"pools":[{"max":180,"name":"basin 1"},{"max":180,"name":"basin 2"}],"products":[{"least":{},"max":80,"min":0,"most":{"load":50},"name":"river","price":3},{"least":{},"max":100,"min":0,"most":{"load":90},"name":"sewer","price":1}],"qualities":["load"],"sources":[{"cost":1,"max":40,"name":"W1","quality":{"load":120}},{"cost":0,"max":60,"name":"W2","quality":{"load":30}},{"cost":"0.35","max":180,"name":"fresh","quality":{"load":0}}],"version":1}"#,
+            "{\"arcs\":[[\"W1\",\"basin 1\"],[\"W2\",\"basin 1\"],[\"W2\",\"basin 2\"],[\"fresh\",\"basin 2\"],[\"basin 1\",\"river\"],[\"basin 1\",\
+            \"sewer\"],[\"basin 2\",\"river\"],[\"basin 2\",\"sewer\"],[\"fresh\",\"river\"]],\"pools\":[{\"max\":180,\"name\":\"basin 1\"},\
+            {\"max\":180,\"name\":\"basin 2\"}],\"products\":[{\"least\":{},\"max\":80,\"min\":0,\"most\":{\"load\":50},\"name\":\"river\",\
+            \"price\":3},{\"least\":{},\"max\":100,\"min\":0,\"most\":{\"load\":90},\"name\":\"sewer\",\"price\":1}],\"qualities\":[\"load\"],\
+            \"sources\":[{\"cost\":1,\"max\":40,\"name\":\"W1\",\"quality\":{\"load\":120}},{\"cost\":0,\"max\":60,\"name\":\"W2\",\
+            \"quality\":{\"load\":30}},{\"cost\":\"0.35\",\"max\":180,\"name\":\"fresh\",\"quality\":{\"load\":0}}],\"version\":1}",
         ),
         (
             TWO_DIRECTS,
-            r#"{"arcs":[["A","X"],["A","Y"]],"pools":[],"products":[{"least":{},"max":30,"min":0,"most":{},"name":"X","price":2},{"least":{},"max":20,"min":0,"most":{},"name":"Y","price":2}],"qualities":[],"sources":[{"cost":1,"max":50,"name":"A","quality":{}}],"version":1}"#,
+            "{\"arcs\":[[\"A\",\"X\"],[\"A\",\"Y\"]],\"pools\":[],\"products\":[{\"least\":{},\"max\":30,\"min\":0,\"most\":{},\"name\":\"X\",\
+            \"price\":2},{\"least\":{},\"max\":20,\"min\":0,\"most\":{},\"name\":\"Y\",\"price\":2}],\"qualities\":[],\"sources\":[{\"cost\":1,\
+            \"max\":50,\"name\":\"A\",\"quality\":{}}],\"version\":1}",
         ),
     ] {
         let (text, _) = rewritten(rt.alloc(), file)?;
@@ -77,7 +96,8 @@ fn pools_between(alloc: Global, count: u32) -> Result<String, AllocError> {
         pools.push_str(&format!(in alloc; r#"{}{{"max":7,"name":"P{n}"}}"#, comma(n))?)?;
     }
     format!(in alloc;
-        r#"{{"arcs":[{feeds}{outs}],"pools":[{pools}],"products":[{{"least":{{}},"max":7,"min":0,"most":{{}},"name":"X","price":"0.5"}}],"qualities":[],"sources":[{{"cost":0,"max":7,"name":"A","quality":{{}}}}],"version":1}}"#
+        "{{\"arcs\":[{feeds}{outs}],\"pools\":[{pools}],\"products\":[{{\"least\":{{}},\"max\":7,\"min\":0,\"most\":{{}},\"name\":\"X\",\
+        \"price\":\"0.5\"}}],\"qualities\":[],\"sources\":[{{\"cost\":0,\"max\":7,\"name\":\"A\",\"quality\":{{}}}}],\"version\":1}}"
     )
 }
 
@@ -98,7 +118,8 @@ fn sixteen_pools_stand_in_one_canonical_text(rt: HostRuntime) -> Result<(), Fail
 /// The fault of a file of one arc, where a source's cost has that name and a product's limit is that value.
 fn fault(rt: &HostRuntime, cost: &str, most: &str) -> Result<Option<ReadNet>, Fail> {
     let text = format!(in rt.alloc();
-        r#"{{"version":1,"qualities":["sulfur"],"sources":[{{"name":"A","{cost}":6,"max":100,"quality":{{"sulfur":3}}}}],"products":[{{"name":"X","price":9,"max":100,"most":{{"sulfur":{most}}}}}],"arcs":[["A","X"]]}}"#
+        r#"{{"version":1,"qualities":["sulfur"],"sources":[{{"name":"A","{cost}":6,"max":100,"quality":{{"sulfur":3}}}}],
+        "products":[{{"name":"X","price":9,"max":100,"most":{{"sulfur":{most}}}}}],"arcs":[["A","X"]]}}"#
     )?;
     Ok(read_network(rt.alloc(), text.as_bytes()).err())
 }

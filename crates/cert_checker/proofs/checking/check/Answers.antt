@@ -23,7 +23,8 @@ returns-in-Ok-clause-valid c = λ cert spelled valid.
 pub returns-in-Err-Refused-clause-refused : goal.returns-in-Err-Refused-clause-refused
 returns-in-Err-Refused-clause-refused c =
     let told : Some c.new-shelf.result.rest.now ≡ Some c.args.bytes.now = ap (λ (x : List ℕ). Some x) c.new-shelf.ensures.rest in
-    let answer = text-answer (net_of c.args.net.now) c.args.bytes.now (Some c.new-shelf.result.rest.now) (length c.args.bytes.now) (Err c.in-Err-Refused.field-0) told c.in-Err-Refused.ensures.checked in
+    let answer = text-answer (net_of c.args.net.now) c.args.bytes.now (Some c.new-shelf.result.rest.now) (length c.args.bytes.now)
+    (Err c.in-Err-Refused.field-0) told c.in-Err-Refused.ensures.checked in
     (subst (λ (s : StreamRefusal). IsAnswer (net_of c.args.net.now) c.args.bytes.now (length c.args.bytes.now) (Err s)) c.in-Err-Refused.field-0-is answer).0
 
 pub returns-in-Err-Refused-clause-valid : goal.returns-in-Err-Refused-clause-valid

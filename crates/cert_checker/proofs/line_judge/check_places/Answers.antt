@@ -67,7 +67,8 @@ returns-in_err-skip_parts g c =
     let asks = (inv.2 kind at).at ∙ head-left kind count k lt in
     let headed : IsReady h (parts_left kind line.count (count - (k + 1))) = subst (λ (s : State). IsReady h (behind_item s (head_item line))) asks c.in_ok-line.ensures.1 in
     failed-halts (IsLaterPlace list count before) m l c.in_err-skip_parts.field-0.0
-    (failed-then m h l _ c.in_err-skip_parts.field-0.0 (run-then m j h _ _ (inv.3 kind list before at those long placed).run c.in_ok-line.ensures.0) (c.in_err-skip_parts.ensures kind (count - (k + 1)) headed.at)))
+    (failed-then m h l _ c.in_err-skip_parts.field-0.0 (run-then m j h _ _ (inv.3 kind list before at those long placed).run c.in_ok-line.ensures.0)
+    (c.in_err-skip_parts.ensures kind (count - (k + 1)) headed.at)))
 
 pub loop-k-preserved : goal.loop-k-preserved
 loop-k-preserved g c =
@@ -93,7 +94,8 @@ loop-k-preserved g c =
           let skipped = c.in_ok-skip_parts.ensures kind (count - (k + 1)) headed.at in
           let right = c.in_ok-least.ensures.placed in
           subst (λ (i : ℕ). AreGone list kind before m l count (k + 1) i) (sym c.in_ok-least.ensures.next)
-          (gone-more list kind before m j h count k c.loop-k.least line.node line.scale line.count (inv.3 kind list before at those long placed) lt c.in_ok-line.ensures.0 l skipped.parts skipped.long skipped.run skipped.ready
+          (gone-more list kind before m j h count k c.loop-k.least line.node line.scale line.count
+          (inv.3 kind list before at those long placed) lt c.in_ok-line.ensures.0 l skipped.parts skipped.long skipped.run skipped.ready
           right.0 (subst (λ (i : ℕ). line.node < i) those right.1)),
     )
 

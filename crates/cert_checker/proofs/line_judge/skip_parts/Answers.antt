@@ -15,8 +15,11 @@ pub loop-init : goal.loop-init
 loop-init g c =
     let m : Moment = (moment g.S.Shelf.files g.S.Shelf.admits g.S.Shelf.rest g.S.Shelf.taken g.S.Shelf.faults c.args.reader.now c.args.shelf.now) in
     let count = c.args.count in
-    let more : count ≡ count - 0 = omega arith in
-    (omega arith, λ kind behind at. skipped-none m (parts_left kind count behind) (parts_left kind (count - 0) behind) (ap (λ (i : ℕ). parts_left kind i behind) more) record { at = at; used_up = c.requires.asks.2.used_up })
+    let more : count ≡ count - 0 = omega arith in (
+      omega arith,
+      λ kind behind at. skipped-none m (parts_left kind count behind) (parts_left kind (count - 0) behind) (ap (λ (i : ℕ). parts_left kind i behind) more)
+          record { at = at; used_up = c.requires.asks.2.used_up },
+    )
 
 pub part-requires-clause-asks : goal.part-requires-clause-asks
 part-requires-clause-asks g c =

@@ -16,8 +16,12 @@ use Rattle.cert_checker.proofs.opening.directs.Goals as goal
 pub loop-init : goal.loop-init
 loop-init g c =
     let n : Net = net_of c.args.net.now in
-    let m : Moment = (moment g.S.Shelf.files g.S.Shelf.admits g.S.Shelf.rest g.S.Shelf.taken g.S.Shelf.faults c.args.reader.now c.args.shelf.now) in
-    (ap (λ xs. slice_index_or xs 6 0) c.counts.ensures.counts, omega arith, let more : n.directs ≡ n.directs - 0 = omega arith in listed-none direct m c.new-flows.result.items (directs_left n.directs) (directs_left (n.directs - 0)) c.new-flows.ensures.items (ap (λ (i : ℕ). directs_left i) more) c.requires.ready)
+    let m : Moment = (moment g.S.Shelf.files g.S.Shelf.admits g.S.Shelf.rest g.S.Shelf.taken g.S.Shelf.faults c.args.reader.now c.args.shelf.now) in (
+      ap (λ xs. slice_index_or xs 6 0) c.counts.ensures.counts,
+      omega arith,
+      let more : n.directs ≡ n.directs - 0 = omega arith in listed-none direct m
+          c.new-flows.result.items (directs_left n.directs) (directs_left (n.directs - 0)) c.new-flows.ensures.items (ap (λ (i : ℕ). directs_left i) more) c.requires.ready,
+    )
 
 pub direct-requires-clause-asks : goal.direct-requires-clause-asks
 direct-requires-clause-asks g c =

@@ -14,8 +14,12 @@ use Rattle.cert_checker.proofs.opening.outflows.Goals as goal
 pub loop-init : goal.loop-init
 loop-init g c =
     let n : Net = net_of c.args.net.now in
-    let m : Moment = (moment g.S.Shelf.files g.S.Shelf.admits g.S.Shelf.rest g.S.Shelf.taken g.S.Shelf.faults c.args.reader.now c.args.shelf.now) in
-    (ap (λ xs. slice_index_or xs 5 0) c.counts.ensures.counts, omega arith, let more : n.outs ≡ n.outs - 0 = omega arith in listed-none outflow m c.new-flows.result.items (outflows_left n.outs n.directs) (outflows_left (n.outs - 0) n.directs) c.new-flows.ensures.items (ap (λ (i : ℕ). outflows_left i n.directs) more) c.requires.ready)
+    let m : Moment = (moment g.S.Shelf.files g.S.Shelf.admits g.S.Shelf.rest g.S.Shelf.taken g.S.Shelf.faults c.args.reader.now c.args.shelf.now) in (
+      ap (λ xs. slice_index_or xs 5 0) c.counts.ensures.counts,
+      omega arith,
+      let more : n.outs ≡ n.outs - 0 = omega arith in listed-none outflow m c.new-flows.result.items
+          (outflows_left n.outs n.directs) (outflows_left (n.outs - 0) n.directs) c.new-flows.ensures.items (ap (λ (i : ℕ). outflows_left i n.directs) more) c.requires.ready,
+    )
 
 pub outflow-requires-clause-asks : goal.outflow-requires-clause-asks
 outflow-requires-clause-asks g c =

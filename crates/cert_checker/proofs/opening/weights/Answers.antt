@@ -14,8 +14,13 @@ use Rattle.cert_checker.proofs.opening.weights.Goals as goal
 pub loop-init : goal.loop-init
 loop-init g c =
     let n : Net = net_of c.args.net.now in
-    let m : Moment = (moment g.S.Shelf.files g.S.Shelf.admits g.S.Shelf.rest g.S.Shelf.taken g.S.Shelf.faults c.args.reader.now c.args.shelf.now) in
-    (ap (λ xs. slice_index_or xs 4 0) c.counts.ensures.counts, omega arith, let more : n.feeds ≡ n.feeds - 0 = omega arith in listed-none weight m c.new-weights.result.items (weights_left n.feeds n.outs n.directs) (weights_left (n.feeds - 0) n.outs n.directs) c.new-weights.ensures.items (ap (λ (i : ℕ). weights_left i n.outs n.directs) more) c.requires.ready)
+    let m : Moment = (moment g.S.Shelf.files g.S.Shelf.admits g.S.Shelf.rest g.S.Shelf.taken g.S.Shelf.faults c.args.reader.now c.args.shelf.now) in (
+      ap (λ xs. slice_index_or xs 4 0) c.counts.ensures.counts,
+      omega arith,
+      let more : n.feeds ≡ n.feeds - 0 = omega arith in listed-none weight m c.new-weights.result.items
+          (weights_left n.feeds n.outs n.directs) (weights_left (n.feeds - 0) n.outs n.directs) c.new-weights.ensures.items
+          (ap (λ (i : ℕ). weights_left i n.outs n.directs) more) c.requires.ready,
+    )
 
 pub weight-requires-clause-asks : goal.weight-requires-clause-asks
 weight-requires-clause-asks g c =

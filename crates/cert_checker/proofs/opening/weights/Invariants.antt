@@ -11,4 +11,5 @@ abbrev pub invariant-loop : goal.invariant-loop
 invariant-loop g l =
     (l.end ≡ (net_of l.net).feeds) × (l.counter ≤ (net_of l.net).feeds)
     × IsListed weight (moment g.S.Shelf.files g.S.Shelf.admits g.S.Shelf.rest g.S.Shelf.taken g.S.Shelf.faults l.fn.reader l.fn.shelf)
-    (moment g.S.Shelf.files g.S.Shelf.admits g.S.Shelf.rest g.S.Shelf.taken g.S.Shelf.faults l.reader l.shelf) l.weights.items l.counter (weights_left ((net_of l.net).feeds - l.counter) (net_of l.net).outs (net_of l.net).directs)
+    (moment g.S.Shelf.files g.S.Shelf.admits g.S.Shelf.rest g.S.Shelf.taken g.S.Shelf.faults l.reader l.shelf) l.weights.items l.counter
+    (weights_left ((net_of l.net).feeds - l.counter) (net_of l.net).outs (net_of l.net).directs)

@@ -37,7 +37,8 @@ pub returns-clause-checked : goal.returns-clause-checked
 returns-clause-checked g c = let is = c.answer.ensures c.args.most c.in_ok-reader.ensures in is.checked
 
 pub returns-clause-valid : goal.returns-clause-valid
-returns-clause-valid g c = let is = c.answer.ensures c.args.most c.in_ok-reader.ensures in λ bytes cert told short spelled valid. streamed (net_of c.args.net.now) c.args.most (g.S.Shelf.rest c.args.shelf.now) bytes cert c.answer.result is.checked told short spelled valid is.no_memory_refusal
+returns-clause-valid g c = let is = c.answer.ensures c.args.most c.in_ok-reader.ensures in λ bytes cert told short spelled valid. streamed (net_of c.args.net.now) c.args.most
+    (g.S.Shelf.rest c.args.shelf.now) bytes cert c.answer.result is.checked told short spelled valid is.no_memory_refusal
 
 pub returns-clause-too_long : goal.returns-clause-too_long
 returns-clause-too_long g c = let is = c.answer.ensures c.args.most c.in_ok-reader.ensures in is.too_long

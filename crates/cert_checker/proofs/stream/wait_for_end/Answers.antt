@@ -24,7 +24,8 @@ returns-in-Ok g c =
     let q : Moment = (moment g.S.Shelf.files g.S.Shelf.admits g.S.Shelf.rest g.S.Shelf.taken g.S.Shelf.faults c.finish.new.self c.finish.new.shelf) in
     let e = c.finish.ensures in
     let kept : Kept k q = record { same_files = e.same_files; same_names = e.same_names; same_telling = e.same_telling; taken_grows = e.taken_grows; faults_grow = e.faults_grow } in
-    λ n m most new halts. finish-answered n most m k q c.args.cause (Ok tt) new halts c.in_default.not-Text kept c.in-Ok.ensures.finished (λ f x. absurd cc) (λ x. absurd cc) (λ x. absurd cc) (λ x. absurd cc)
+    λ n m most new halts. finish-answered n most m k q c.args.cause (Ok tt) new halts c.in_default.not-Text kept c.in-Ok.ensures.finished (λ f x. absurd cc) (λ x. absurd cc)
+    (λ x. absurd cc) (λ x. absurd cc)
 
 pub returns-in-Err : goal.returns-in-Err
 returns-in-Err g c =
@@ -33,4 +34,5 @@ returns-in-Err g c =
     let e = c.finish.ensures in
     let kept : Kept k q = record { same_files = e.same_files; same_names = e.same_names; same_telling = e.same_telling; taken_grows = e.taken_grows; faults_grow = e.faults_grow } in
     let fails = c.in-Err.ensures in
-    rw c.from.ensures (λ n m most new halts. finish-answered n most m k q c.args.cause (Err c.in-Err.fault) new halts c.in_default.not-Text kept tt fails.text fails.too_long fails.took_more fails.read)
+    rw c.from.ensures (λ n m most new halts. finish-answered n most m k q c.args.cause
+    (Err c.in-Err.fault) new halts c.in_default.not-Text kept tt fails.text fails.too_long fails.took_more fails.read)

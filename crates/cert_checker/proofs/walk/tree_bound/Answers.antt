@@ -46,7 +46,8 @@ least_bound-requires g c =
     let q : Moment = (moment g.S.Shelf.files g.S.Shelf.admits g.S.Shelf.rest g.S.Shelf.taken g.S.Shelf.faults c.node_bounds.new.reader c.node_bounds.new.shelf) in
     let kind : Kind = c.requires.asks.0 in
     let ready : IsReady h (proofs_left kind c.in_ok-count.count) = subst (λ (s : State). IsReady h (behind_item s (proofs c.in_ok-count.count))) c.requires.asks.1.at c.in_ok-count.ensures.1 in
-    subst (λ (b : List (Option ℤ)). length b < 2 ^ 32) (sym c.as_slice.ensures.value) (few-bounds n c.args.tree.now kind h q c.in_ok-count.count c.in_ok-bounds.bounds c.requires.tree (c.in_ok-bounds.ensures kind ready.at))
+    subst (λ (b : List (Option ℤ)). length b < 2 ^ 32) (sym c.as_slice.ensures.value)
+    (few-bounds n c.args.tree.now kind h q c.in_ok-count.count c.in_ok-bounds.bounds c.requires.tree (c.in_ok-bounds.ensures kind ready.at))
 
 pub returns-clause-bound : goal.returns-clause-bound
 returns-clause-bound g c =
@@ -57,4 +58,5 @@ returns-clause-bound g c =
     λ kind at.
     let ready : IsReady h (proofs_left kind c.in_ok-count.count) = subst (λ (s : State). IsReady h (behind_item s (proofs c.in_ok-count.count))) at c.in_ok-count.ensures.1 in
     proofs-of n c.args.tree.now kind m h q c.in_ok-count.count c.in_ok-bounds.bounds c.least_bound.result c.requires.tree c.in_ok-count.ensures.0 (c.in_ok-bounds.ensures kind ready.at)
-    (subst (λ (b : List (Option ℤ)). c.least_bound.result ≡ least_below (λ node. if is_cut c.args.tree.now.list node then None else get_or b node None) (length b)) c.as_slice.ensures.value c.least_bound.ensures)
+    (subst (λ (b : List (Option ℤ)). c.least_bound.result ≡ least_below (λ node. if is_cut c.args.tree.now.list node then None else get_or b node None) (length b))
+    c.as_slice.ensures.value c.least_bound.ensures)

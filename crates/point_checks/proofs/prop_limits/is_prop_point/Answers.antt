@@ -12,7 +12,8 @@ returns-then-not-fits-clause-point c =
 
 pub keep_limits-requires-clause-small : goal.keep_limits-requires-clause-small
 keep_limits-requires-clause-small c =
-    small-point (net_of c.args.net.now) c.args.point.now c.if-not-has_shape.ensures.limited (c.if-not-has_shape.ensures.shape.0 refl) (c.if-not-fits.ensures.0 refl) (c.if-not-are_products.ensures.0 refl)
+    small-point (net_of c.args.net.now) c.args.point.now c.if-not-has_shape.ensures.limited (c.if-not-has_shape.ensures.shape.0 refl) (c.if-not-fits.ensures.0 refl)
+    (c.if-not-are_products.ensures.0 refl)
     (c.if-not-flows_carry.ensures.0 refl)
 
 pub returns-clause-point : goal.returns-clause-point

@@ -8,7 +8,8 @@ use Rattle.pool_cli.specs.TrialEnds.{trial_status}
 use Rattle.pool_cli.specs.SolveEnds.{solve_status}
 use Rattle.pool_cli.specs.CheckEnds.{check_status}
 use Rattle.pool_cli.specs.ReportEnds.{report_status}
-use Rattle.pool_cli.proofs.Outcomes.{check_decides, check_took, formulate_decides, formulate_took, make_decides, make_took, report_decides, report_took, solve_decides, solve_took, trial_decides, trial_took}
+use Rattle.pool_cli.proofs.Outcomes.{check_decides, check_took, formulate_decides, formulate_took, make_decides, make_took, report_decides, report_took}
+use Rattle.pool_cli.proofs.Outcomes.{solve_decides, solve_took, trial_decides, trial_took}
 use Rattle.disk_model.specs.Disks.{LeavesOnly}
 use Rattle.edge_io.specs.Writing.{behind}
 use Rattle.cert_format.specs.Text.{text_of}

@@ -19,4 +19,5 @@ returns-in_ok-take-in-Do-clause-nearer c =
 pub returns-in-Undecided-clause-ended : goal.returns-in-Undecided-clause-ended
 returns-in-Undecided-clause-ended c =
     let s = c.args.search.now in
-    next-undecided (net_of c.args.net.now) c.args.orders (searched s) s.options c.requires.options s.repaired s.tree.kept.cuts c.requires.search.tree.kept.counted (rw c.in-Undecided.is at c.in_ok-entry.ensures.next)
+    next-undecided (net_of c.args.net.now) c.args.orders (searched s) s.options c.requires.options s.repaired s.tree.kept.cuts c.requires.search.tree.kept.counted
+    (rw c.in-Undecided.is at c.in_ok-entry.ensures.next)

@@ -8,7 +8,8 @@ use Rattle.box_tree.proofs.tree.Tree.bound.Goals as goal
 pub returns-in-None-clause-kept : goal.returns-in-None-clause-kept
 returns-in-None-clause-kept c =
     let k = c.args.self.now.kept in
-    sym (none-least k.splits.list k.bounds c.self.inside.order (subst (λ (t : Held). AreIndexed t.kept.splits.list t.kept.bounds c.self.inside.order) c.self.view_is c.self.invariant.1) c.in-None.ensures)
+    sym (none-least k.splits.list k.bounds c.self.inside.order
+    (subst (λ (t : Held). AreIndexed t.kept.splits.list t.kept.bounds c.self.inside.order) c.self.view_is c.self.invariant.1) c.in-None.ensures)
 
 pub returns-in-None-clause-bound : goal.returns-in-None-clause-bound
 returns-in-None-clause-bound c = λ n is. returns-in-None-clause-kept c ∙ kept-bound n c.args.self.now.kept is.kept

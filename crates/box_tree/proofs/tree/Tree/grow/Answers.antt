@@ -60,7 +60,8 @@ invariant_of-self-2 c =
     let put = subst (λ (o : Option OpenLeaf). ArePut o (open_leaf (right_node (length t.splits.list)) c.args.right.bound) t.order c.push_split.new.order) left
     (subst (λ (o : Option OpenLeaf). ArePut c.open_leaf-left_leaf.result o t.order c.push_split.new.order) right c.in_ok-push_split.ensures.put) in
     let taken = subst (λ (o : Option OpenLeaf). IsTakenOut o c.push_split.new.order c.take_out.new.self) parent c.take_out.ensures in
-    let indexed = grown-indexed t.splits.list t.bounds.items s c.args.left.bound c.args.right.bound t.order c.push_split.new.order c.take_out.new.self c.self.invariant.0.bounded there past c.self.invariant.1 put taken in (
+    let indexed = grown-indexed t.splits.list t.bounds.items s c.args.left.bound c.args.right.bound t.order c.push_split.new.order c.take_out.new.self
+    c.self.invariant.0.bounded there past c.self.invariant.1 put taken in (
       sized,
       subst (λ (z : Splits). AreIndexed z.list c.push_reserved-4.new.self.items c.take_out.new.self) (sym c.in_ok-push_split.ensures.pushed)
           (subst (λ (xs : List (Option ℤ)). AreIndexed (t.splits.list ++ s ∷ []) xs c.take_out.new.self) (sym bounds) indexed),

@@ -100,10 +100,13 @@ returns-in_err-check_places-clause-taken g c =
     let read = c.in_ok-excess.ensures.read kind (count - (k + 1)) headed.at in
     let kept = read.kept n (sym c.requires.room.rows_are) in
     let so_far : List NodeProof = are.lines ++ line_of line.node line.scale read.parts ∷ [] in
-    let placed : ArePlacedTo list so_far c.in_ok-least.least = subst (ArePlacedTo list so_far) (sym c.in_ok-least.ensures.next) (taken-placed n list kind m j h count k c.args.least line.node line.scale line.count c.args.self.now.judge are c.requires.there c.in_ok-line.ensures.0 l read.parts read.long read.run right.0 there) in
+    let placed : ArePlacedTo list so_far c.in_ok-least.least = subst (ArePlacedTo list so_far) (sym c.in_ok-least.ensures.next)
+    (taken-placed n list kind m j h count k c.args.least line.node line.scale line.count c.args.self.now.judge are c.requires.there c.in_ok-line.ensures.0 l
+    read.parts read.long read.run right.0 there) in
     let long : length so_far ≡ k + 1 = one-line are.lines (line_of line.node line.scale read.parts) ∙ ap (λ (i : ℕ). i + 1) are.long in
     taken-refused n list kind m j h count k c.args.least line.node line.scale line.count c.args.self.now.judge are c.requires.there c.in_ok-line.ensures.0 l read.parts read.long read.run right.0 there
-    c.in_ok-excess.excess c.read_parts.new.self c.take.new.self c.in-Err.refusal q (Err c.in_err-check_places.field-0.0) c.in_ok-excess.ensures.judge c.requires.next c.requires.bounds kept c.in-Err.ensures.taken
+    c.in_ok-excess.excess c.read_parts.new.self c.take.new.self c.in-Err.refusal q (Err c.in_err-check_places.field-0.0) c.in_ok-excess.ensures.judge c.requires.next
+    c.requires.bounds kept c.in-Err.ensures.taken
     (c.in_err-check_places.ensures kind list so_far read.ready.at c.node_count-nodes.ensures long placed))
 
 pub returns-in-Err-clause-taken : goal.returns-in-Err-clause-taken
@@ -125,7 +128,9 @@ returns-in-Err-clause-taken g c =
     let read = c.in_ok-excess.ensures.read kind (count - (k + 1)) headed.at in
     let kept = read.kept n (sym c.requires.room.rows_are) in
     let so_far : List NodeProof = are.lines ++ line_of line.node line.scale read.parts ∷ [] in
-    let placed : ArePlacedTo list so_far c.in_ok-least.least = subst (ArePlacedTo list so_far) (sym c.in_ok-least.ensures.next) (taken-placed n list kind m j h count k c.args.least line.node line.scale line.count c.args.self.now.judge are c.requires.there c.in_ok-line.ensures.0 l read.parts read.long read.run right.0 there) in
+    let placed : ArePlacedTo list so_far c.in_ok-least.least = subst (ArePlacedTo list so_far) (sym c.in_ok-least.ensures.next)
+    (taken-placed n list kind m j h count k c.args.least line.node line.scale line.count c.args.self.now.judge are c.requires.there c.in_ok-line.ensures.0 l
+    read.parts read.long read.run right.0 there) in
     let long : length so_far ≡ k + 1 = one-line are.lines (line_of line.node line.scale read.parts) ∙ ap (λ (i : ℕ). i + 1) are.long in
     taken-refused n list kind m j h count k c.args.least line.node line.scale line.count c.args.self.now.judge are c.requires.there c.in_ok-line.ensures.0 l read.parts read.long read.run right.0 there
     c.in_ok-excess.excess c.read_parts.new.self c.take.new.self c.in-Err.refusal q (Ok tt) c.in_ok-excess.ensures.judge c.requires.next c.requires.bounds kept c.in-Err.ensures.taken
@@ -149,5 +154,8 @@ returns-clause-taken g c =
     let read = c.in_ok-excess.ensures.read kind (count - (k + 1)) headed.at in
     let kept = read.kept n (sym c.requires.room.rows_are) in
     subst (λ (i : ℕ). AreLinesTaken n list kind m l count (k + 1) i c.take.new.self.judge) (sym c.in_ok-least.ensures.next)
-    (taken-more n list kind m j h count k c.args.least line.node line.scale line.count c.args.self.now.judge are c.requires.there c.in_ok-line.ensures.0 l read.parts read.long read.run right.0 there c.take.new.self.judge read.ready
-    (λ all more e placed. c.in_default.ensures.taken all (taken-next n list kind m j h count k c.args.least line.node line.scale line.count c.args.self.now.judge are c.requires.there c.in_ok-line.ensures.0 l read.parts read.long read.run right.0 there c.in_ok-excess.excess c.read_parts.new.self c.in_ok-excess.ensures.judge c.requires.next c.requires.bounds kept all more e placed)))
+    (taken-more n list kind m j h count k c.args.least line.node line.scale line.count c.args.self.now.judge are c.requires.there c.in_ok-line.ensures.0 l read.parts
+    read.long read.run right.0 there c.take.new.self.judge read.ready
+    (λ all more e placed. c.in_default.ensures.taken all
+    (taken-next n list kind m j h count k c.args.least line.node line.scale line.count c.args.self.now.judge are c.requires.there c.in_ok-line.ensures.0 l read.parts
+    read.long read.run right.0 there c.in_ok-excess.excess c.read_parts.new.self c.in_ok-excess.ensures.judge c.requires.next c.requires.bounds kept all more e placed)))

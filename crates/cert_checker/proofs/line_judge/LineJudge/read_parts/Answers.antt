@@ -18,7 +18,8 @@ loop-i-init g c =
       refl,
       refl,
       c.clear.ensures.capacity,
-      λ kind behind at. parts-none kind behind m c.args.line.count c.args.self.now.rows c.args.line.scale _ _ _ record { at = at; used_up = c.requires.asks.2.used_up } c.clear.ensures.items refl refl refl,
+      λ kind behind at. parts-none kind behind m c.args.line.count c.args.self.now.rows c.args.line.scale _ _ _
+          record { at = at; used_up = c.requires.asks.2.used_up } c.clear.ensures.items refl refl refl,
     )
 
 pub returns-in_err-part-clause-read : goal.returns-in_err-part-clause-read

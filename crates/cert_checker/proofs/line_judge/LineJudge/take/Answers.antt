@@ -26,4 +26,5 @@ returns-clause-taken c =
     let after : Judge = record c.add.new.self { next = c.add.new.self.next + 1 } in
     λ all next. line-taken n c.args.tree.now c.args.node _ c.args.excess c.args.self.now c.go_on.new.self all c.requires.tree c.requires.there reach
     c.in_ok-shown.shown seen c.add.new.self after (c.in_ok-go_on.ensures.judged n all c.requires.tree reach) c.go_on.ensures.next next c.in_ok-shown.ensures.shown
-    c.value.ensures.bounds c.value.ensures.next c.value.ensures.fits c.in_ok-add.ensures.added refl (ap (λ (i : ℕ). i + 1) c.add.ensures.next) (subst (Fits n) (sym c.add.ensures.scratch) c.value.ensures.fits)
+    c.value.ensures.bounds c.value.ensures.next c.value.ensures.fits c.in_ok-add.ensures.added refl (ap (λ (i : ℕ). i + 1) c.add.ensures.next)
+    (subst (Fits n) (sym c.add.ensures.scratch) c.value.ensures.fits)

@@ -11,8 +11,11 @@ yields-at {steps = steps} {v = v} {ys = ys} e h = subst (λ s. YieldsList steps 
 
 pub returns-clause-nodes : goal.returns-clause-nodes
 returns-clause-nodes c =
-    let all : YieldsList (TakesFirst deref) deref c.iter.result c.iter.result = YieldsList-from_shown (TakesFirst deref) deref (λ s. s) (λ s t h. ap (λ xs. length xs) h.0) (λ s x t h. h) c.iter.result in
-    let begun : YieldsList (TakesFirst deref) deref c.iter.result c.args.self.now = subst (λ (xs : List OpenLeaf). YieldsList (TakesFirst deref) deref c.iter.result xs) (c.iter.ensures.rest ∙ c.self.view_is) all in
+    let all : YieldsList (TakesFirst deref) deref c.iter.result c.iter.result = YieldsList-from_shown (TakesFirst deref) deref (λ s. s) (λ s t h. ap (λ xs. length xs) h.0)
+    (λ s x t h. h) c.iter.result in
+    let begun : YieldsList (TakesFirst deref) deref c.iter.result c.args.self.now = subst (λ (xs : List OpenLeaf). YieldsList (TakesFirst deref) deref c.iter.result xs)
+    (c.iter.ensures.rest ∙ c.self.view_is) all in
     items_from_collect c.collect.result c.collect.ensures.ran
-    (YieldsList-from_map _ (λ (leaf : OpenLeaf). leaf.node) (yields-at c.map.ensures.source (YieldsList-from_take c.args.most (yields-at c.take.ensures.source begun) c.take.ensures.count)) c.map.ensures.closure
+    (YieldsList-from_map _ (λ (leaf : OpenLeaf). leaf.node)
+    (yields-at c.map.ensures.source (YieldsList-from_take c.args.most (yields-at c.take.ensures.source begun) c.take.ensures.count)) c.map.ensures.closure
     (λ x r q k. search rules))

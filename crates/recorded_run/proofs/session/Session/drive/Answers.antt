@@ -34,7 +34,8 @@ steps-preserved g c =
     record {
       session = done.session;
       way = way-more n c.args.orders (searched c.args.self.now.search) (searched s) (searched then.search) c.steps.invariant.way
-          (next-step n c.args.orders (searched s) s.options c.steps.invariant.session.options s.repaired s.tree.kept.cuts c.steps.invariant.session.search.tree.kept.counted (searched then.search) c.in-Do.entry due in_order done.taken);
+          (next-step n c.args.orders (searched s) s.options c.steps.invariant.session.options s.repaired s.tree.kept.cuts c.steps.invariant.session.search.tree.kept.counted
+          (searched then.search) c.in-Do.entry due in_order done.taken);
       left = λ tells.
           let was = c.steps.invariant.left (subst IsTrue c.record.ensures.same_disk.same_telling tells) in
           let put = done.recorded was.0 was.2 was.1 was.3 was.4 in
@@ -79,7 +80,8 @@ returns-in_err-entry-clause-recorded g c =
       last = so.last;
       begins = so.begins;
       any_moment = so.any_moment;
-      held = λ memory. recorded-stands (net_of c.args.net.now) text so.last c.steps.self.journal.gate (searched c.steps.self.search) (g.D.Disk.reads c.steps.disk) (g.D.Disk.may_leave c.steps.disk) so.held;
+      held = λ memory. recorded-stands (net_of c.args.net.now) text so.last c.steps.self.journal.gate (searched c.steps.self.search) (g.D.Disk.reads c.steps.disk)
+          (g.D.Disk.may_leave c.steps.disk) so.held;
     })
 
 pub returns-in_err-record-in-Do-clause-recorded : goal.returns-in_err-record-in-Do-clause-recorded
@@ -116,7 +118,8 @@ returns-in-Closed-clause-run g c =
       entries = c.steps.invariant.way.entries;
       steps = c.steps.invariant.way.steps;
       made = c.steps.invariant.way.made;
-      end = next-closed (net_of c.args.net.now) c.args.orders (searched s) s.options c.steps.invariant.session.options s.repaired s.tree.kept.cuts c.steps.invariant.session.search.tree.kept.counted (rw c.in-Closed.is at c.in_ok-entry.ensures.next);
+      end = next-closed (net_of c.args.net.now) c.args.orders (searched s) s.options c.steps.invariant.session.options s.repaired s.tree.kept.cuts
+          c.steps.invariant.session.search.tree.kept.counted (rw c.in-Closed.is at c.in_ok-entry.ensures.next);
     }
 
 pub returns-in-Closed-clause-recorded : goal.returns-in-Closed-clause-recorded
@@ -131,7 +134,8 @@ returns-in-Stopped-clause-run g c =
       entries = c.steps.invariant.way.entries;
       steps = c.steps.invariant.way.steps;
       made = c.steps.invariant.way.made;
-      end = next-stopped (net_of c.args.net.now) c.args.orders (searched s) s.options c.steps.invariant.session.options s.repaired s.tree.kept.cuts c.steps.invariant.session.search.tree.kept.counted (rw c.in-Stopped.is at c.in_ok-entry.ensures.next);
+      end = next-stopped (net_of c.args.net.now) c.args.orders (searched s) s.options c.steps.invariant.session.options s.repaired s.tree.kept.cuts
+          c.steps.invariant.session.search.tree.kept.counted (rw c.in-Stopped.is at c.in_ok-entry.ensures.next);
     }
 
 pub returns-in-Stopped-clause-recorded : goal.returns-in-Stopped-clause-recorded
@@ -146,7 +150,8 @@ returns-in-Stuck-clause-run g c =
       entries = c.steps.invariant.way.entries;
       steps = c.steps.invariant.way.steps;
       made = c.steps.invariant.way.made;
-      end = next-stuck (net_of c.args.net.now) c.args.orders (searched s) s.options c.steps.invariant.session.options s.repaired s.tree.kept.cuts c.steps.invariant.session.search.tree.kept.counted (rw c.in-Stuck.is at c.in_ok-entry.ensures.next);
+      end = next-stuck (net_of c.args.net.now) c.args.orders (searched s) s.options c.steps.invariant.session.options s.repaired s.tree.kept.cuts
+          c.steps.invariant.session.search.tree.kept.counted (rw c.in-Stuck.is at c.in_ok-entry.ensures.next);
     }
 
 pub returns-in-Stuck-clause-recorded : goal.returns-in-Stuck-clause-recorded
