@@ -1,7 +1,9 @@
 //! Entries of a search, and why one is refused.
 
 ghost use Rattle.std.specs.Prelude.{◌≡◌};
-ghost use Rattle.box_tree.specs.EntryFaults.{of_split, rank as fault_rank};
+ghost use Rattle.pool_model.specs.Network.{Net};
+ghost use Rattle.row_model.specs.Entries.{Entry as ShownEntry, Searched};
+ghost use Rattle.box_tree.specs.EntryFaults.{of_split, rank as fault_rank, Holds as IsThere};
 ghost use Rattle.box_tree.specs.declared.entry.EntryFault.TheVariants as entry_faults;
 
 use box_space::{Proof, Split};
@@ -48,6 +50,10 @@ pub enum EntryFault {
 
 impl Ranked for EntryFault {
     ghost rank = { fault_rank };
+
+    ghost Subject = { Net × Searched × ShownEntry };
+
+    ghost Holds = { λ s. IsThere s.0 s.1 s.2 };
 }
 
 impl From<SplitFault> for EntryFault {

@@ -1,7 +1,9 @@
 //! Why a certificate is refused.
 
-ghost use Rattle.std.specs.Prelude.{◌≡◌, ◌∷◌};
-ghost use Rattle.cert_checker.specs.Refusals.{about, number};
+ghost use Rattle.std.specs.Prelude.{◌≡◌};
+ghost use Rattle.pool_model.specs.Network.{Net};
+ghost use Rattle.cert_format.specs.Cert.{Cert};
+ghost use Rattle.cert_checker.specs.Refusals.{rank as cause_rank, Refuses};
 ghost use Rattle.cert_checker.specs.declared.refusal.Refusal.TheVariants as refusals;
 
 use cert_format::TextFault;
@@ -40,7 +42,11 @@ pub enum Refusal {
 }
 
 impl Ranked for Refusal {
-    ghost rank = { λ r. number r ∷ about r };
+    ghost rank = { cause_rank };
+
+    ghost Subject = { Net × Cert };
+
+    ghost Holds = { λ s. Refuses s.0 s.1 };
 }
 
 impl From<Memory> for Refusal {

@@ -1,6 +1,6 @@
 //! The law at one type.
 
-ghost use Rattle.std.specs.Prelude.{[], ◌∷◌};
+ghost use Rattle.std.specs.Prelude.{[], ◌∷◌, ◌≤◌, ℕ};
 
 use crate::{Ranked, first_fault_law};
 
@@ -8,6 +8,10 @@ struct Numbered(u32);
 
 impl Ranked for Numbered {
     ghost rank = { λ f. f.0 ∷ [] };
+
+    ghost Subject = { ℕ };
+
+    ghost Holds = { λ least f. least ≤ f.0 };
 }
 
 #[test]

@@ -1,8 +1,11 @@
 //! Why the rows of a file are no network.
 
 ghost use Rattle.std.specs.Prelude.{◌≡◌};
+ghost use Rattle.pool_model.specs.Rows.{Rows};
+ghost use Rattle.network_parts.specs.FirstFault.{rank as fault_rank, Holds as IsThere};
 ghost use Rattle.network_parts.specs.declared.fault.NetFault.TheVariants.{Memory};
 
+use faults::Ranked;
 use std::alloc::{AllocError, AllocFailed};
 
 /// What a row, a name or a fault is about.
@@ -46,6 +49,14 @@ pub enum NetFault {
     LeastAboveMost(u32),
     /// There was not enough memory. This may come before any other.
     Memory,
+}
+
+impl Ranked for NetFault {
+    ghost rank = { fault_rank };
+
+    ghost Subject = { Rows };
+
+    ghost Holds = { IsThere };
 }
 
 impl NetFault {

@@ -1,7 +1,9 @@
 //! The rules that a written plan may break.
 
-ghost use Rattle.std.specs.Prelude.{◌≡◌, ◌∷◌};
-ghost use Rattle.plan_core.specs.Checks.{number, about};
+ghost use Rattle.std.specs.Prelude.{◌≡◌};
+ghost use Rattle.pool_model.specs.Network.{Net};
+ghost use Rattle.pool_model.specs.Plan.{Written};
+ghost use Rattle.plan_core.specs.Checks.{number, rank as fault_rank, Breaks};
 
 use faults::Ranked;
 
@@ -27,7 +29,11 @@ pub enum PlanFault {
 }
 
 impl Ranked for PlanFault {
-    ghost rank = { λ f. number f ∷ about f };
+    ghost rank = { fault_rank };
+
+    ghost Subject = { Net × Written };
+
+    ghost Holds = { λ s. Breaks s.0 s.1 };
 }
 
 impl PlanFault {

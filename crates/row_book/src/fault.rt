@@ -1,9 +1,14 @@
 //! Why multipliers on rows show nothing.
 
 ghost use Rattle.std.specs.Prelude.{◌≡◌};
+ghost use Rattle.pool_model.specs.Network.{Net};
+ghost use Rattle.row_model.specs.Boxes.{Box};
+ghost use Rattle.row_model.specs.Multipliers.{Proof};
+ghost use Rattle.row_book.specs.Faults.{rank as fault_rank, Holds as IsThere};
 ghost use Rattle.row_book.specs.declared.fault.ProofFault.TheVariants as faults;
 
 use exact_num::Wide as PassesLimit;
+use faults::Ranked;
 
 /// Why a proof is not in order in a box. All parts are looked at for the first cause before the second, and so on.
 #[derive(Clone, Copy, Debug, PartialEq, Eq)]
@@ -20,6 +25,14 @@ pub enum ProofFault {
     Wide,
     /// The scale is 0, and the number is at most 0.
     ShowsNothing,
+}
+
+impl Ranked for ProofFault {
+    ghost rank = { fault_rank };
+
+    ghost Subject = { Net × Box × Proof };
+
+    ghost Holds = { λ s. IsThere s.0 s.1 s.2 };
 }
 
 impl From<PassesLimit> for ProofFault {

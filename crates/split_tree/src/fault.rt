@@ -1,6 +1,9 @@
 //! Why a split can't come next.
 
-ghost use Rattle.split_tree.specs.Faults.{rank as fault_rank};
+ghost use Rattle.std.specs.Prelude.{List};
+ghost use Rattle.pool_model.specs.Network.{Net};
+ghost use Rattle.row_model.specs.Trees.{Split};
+ghost use Rattle.split_tree.specs.Faults.{rank as fault_rank, Holds as IsThere};
 
 use faults::Ranked;
 
@@ -19,4 +22,8 @@ pub enum SplitFault {
 
 impl Ranked for SplitFault {
     ghost rank = { fault_rank };
+
+    ghost Subject = { Net × List Split × Split };
+
+    ghost Holds = { λ s. IsThere s.0 s.1 s.2 };
 }
