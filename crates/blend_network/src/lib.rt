@@ -17,18 +17,20 @@
 //! Where the rows come from, and what text they were, is left to the crates above.
 //!
 //! Proofs above may cite, of `proofs/`, what holds of the rows that a network is written as: `CanonicalArcs`, `CanonicalFaults`,
-//! `CanonicalSizes`.
+//! `CanonicalSizes`. Also `Margins`: how large margins and the reach bound are at the most.
 #![tactic(auto, unfolding(pool_model::specs::Network::net_of))]
 
 mod counts;
 mod keys;
 mod laws;
+mod lesser;
 mod limits;
 mod network;
 
 pub use counts::Counts;
 pub use keys::Key;
 pub use laws::canonical_law;
+pub use lesser::lesser_of;
 pub use limits::{Limit, LimitSide};
 pub use network::Network;
 pub use network_parts::{Kind, NetFault, Parts, PoolRow, ProductRow, SourceRow};

@@ -20,7 +20,7 @@ pub fn raised(bound: Option<i128>, shown: Option<Shown>) -> Option<i128>
 }
 
 /// The lesser of two bounds, where there are some.
-pub fn lesser(a: Option<i128>, b: Option<i128>) -> Option<i128>
+pub fn lesser_bound(a: Option<i128>, b: Option<i128>) -> Option<i128>
     ensures { result ≡ lesser_of a b }
 {
     match (a, b) {

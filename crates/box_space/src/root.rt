@@ -2,7 +2,6 @@
 
 ghost use Rattle.std.specs.Prelude.{◌≡◌, ◌<◌, IfOk, pos, unwrap_or};
 ghost use Rattle.pool_model.specs.Network.{IsLimited, net_of};
-ghost use Rattle.pool_model.specs.Starting as starting;
 ghost use Rattle.pool_model.specs.Starting.{least_below};
 ghost use Rattle.row_model.specs.Boxes as boxes;
 ghost use Rattle.row_model.specs.Boxes.{root_low, root_high, greatest_below};
@@ -11,7 +10,7 @@ ghost use Rattle.box_space.specs.Views.{shown_coord, AreRoot, AreEnds};
 
 use crate::boxes::BoxEnds;
 use crate::coordinates::{Coord, coord_at, coords};
-use blend_network::Network;
+use blend_network::{Network, lesser_of};
 use edge_io::Memory;
 use std::alloc::Global;
 
@@ -61,7 +60,7 @@ fn quality_range(net: &Network, pool: u32, quality: u32) -> (i64, i64)
     let mut greatest = None;
     for feed in 0..counts.feeds {
         let fed = fed_quality(net, pool, quality, feed);
-        least = lesser(least, fed);
+        least = lesser_of(least, fed);
         greatest = greater(greatest, fed);
     }
     (least.unwrap_or(0), greatest.unwrap_or(0))
@@ -78,16 +77,6 @@ fn fed_quality(net: &Network, pool: u32, quality: u32, feed: u32) -> Option<i64>
         Some(net.source_quality(source, quality))
     } else {
         None
-    }
-}
-
-fn lesser(a: Option<i64>, b: Option<i64>) -> Option<i64>
-    ensures { result ≡ starting.lesser a b }
-{
-    match (a, b) {
-        (None, b) => b,
-        (Some(a), None) => Some(a),
-        (Some(a), Some(b)) => Some(a.min(b)),
     }
 }
 

@@ -138,7 +138,7 @@ fn ends_of(net: &Network, v: &BoxView, variable: Variable) -> (i128, i128)
     match variable {
         Variable::Feed(feed) => {
             let (source, pool) = net.feed(feed);
-            (0, lesser(net.source_max(source), net.pool_max(pool)))
+            (0, least_of(net.source_max(source), net.pool_max(pool)))
         }
         Variable::Out(out) => {
             let flow = flow_coordinate(net, out);
@@ -146,13 +146,16 @@ fn ends_of(net: &Network, v: &BoxView, variable: Variable) -> (i128, i128)
         }
         Variable::Direct(direct) => {
             let (source, product) = net.direct(direct);
-            (0, lesser(net.source_max(source), net.product_max(product)))
+            (
+                0,
+                least_of(net.source_max(source), net.product_max(product)),
+            )
         }
         Variable::Path(path) => {
             let (feed, out) = net.path(path);
             let (source, _) = net.feed(feed);
             let flow = flow_coordinate(net, out);
-            (0, lesser(net.source_max(source), v.high_at(flow)))
+            (0, least_of(net.source_max(source), v.high_at(flow)))
         }
         Variable::Proportion(feed) => (v.low_at(feed).into(), v.high_at(feed).into()),
         Variable::Quality(pool, quality) => {
@@ -163,7 +166,8 @@ fn ends_of(net: &Network, v: &BoxView, variable: Variable) -> (i128, i128)
     }
 }
 
-fn lesser(a: i64, b: i64) -> i128
+/// The lesser of two numbers.
+fn least_of(a: i64, b: i64) -> i128
     ensures { result ≡ int_min a b }
 {
     a.min(b).into()

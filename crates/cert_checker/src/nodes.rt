@@ -4,7 +4,7 @@ ghost use Rattle.std.specs.Prelude.{◌≡◌, ◌<◌, ◌^◌, length, get_or,
 ghost use Rattle.pool_model.specs.Starting.{least_below};
 ghost use Rattle.row_model.specs.Trees.{is_cut};
 
-use bounds::lesser;
+use bounds::lesser_bound;
 use split_tree::SplitTree;
 
 /// The least bound of the nodes that no split cuts and that may hold a plan.
@@ -15,7 +15,7 @@ pub(crate) fn least_bound(tree: &SplitTree, bounds: &[Option<i128>]) -> Option<i
     let mut least = None;
     for node in 0..bounds.len() {
         if !tree.is_cut(node as u32) {
-            least = lesser(least, bounds[node]);
+            least = lesser_bound(least, bounds[node]);
         }
     }
     least

@@ -2,12 +2,11 @@
 
 ghost use Rattle.std.specs.Prelude.{◌≡◌, IfOk};
 ghost use Rattle.pool_model.specs.Network.{net_of};
-ghost use Rattle.pool_model.specs.Starting as starting;
 ghost use Rattle.box_space.specs.Views.{shown_proof};
 ghost use Rattle.dual_rounding.specs.Price as prices;
 
 use crate::multipliers::add_part;
-use blend_network::Network;
+use blend_network::{Network, lesser_of};
 use box_space::Proof;
 use std::alloc::{AllocError, Global};
 
@@ -37,18 +36,7 @@ fn feed_cost(net: &Network, pool: u32) -> i64
         } else {
             None
         };
-        least = lesser(least, cost);
+        least = lesser_of(least, cost);
     }
     least.unwrap_or(0)
-}
-
-/// The lesser of two costs that may be absent.
-fn lesser(a: Option<i64>, b: Option<i64>) -> Option<i64>
-    ensures { result ≡ starting.lesser a b }
-{
-    match (a, b) {
-        (None, b) => b,
-        (Some(a), None) => Some(a),
-        (Some(a), Some(b)) => Some(a.min(b)),
-    }
 }

@@ -50,8 +50,8 @@ impl<R: Files> FileShelf<R> {
     }
 }
 
-/// One read of a file; one that a signal broke off is tried again.
-pub(crate) fn read_once<F: Read>(file: &mut F, into: &mut [u8]) -> io::Result<usize>
+/// One read of a file, and how many bytes it gave; one that a signal broke off is tried again.
+pub fn read_once<F: Read>(file: &mut F, into: &mut [u8]) -> io::Result<usize>
     ensures { IfOk result (λ n. n ≤ length into.new) }
 {
     for _ in 0..u64::MAX {

@@ -1,8 +1,8 @@
 //! A shelf of one file, which lies in memory and is open.
 
-ghost use Rattle.std.specs.Prelude.{◌≡◌, ◌+◌, ◌-◌, ◌^◌, ◌≤◌, [], ◌∷◌, ◌++◌, Some, length, take, min, bytes_eq, IfOk, OnOk, IsOk};
-ghost use Rattle.edge_io.specs.Counts.{Grows};
-ghost use Rattle.edge_io.specs.Files.{file_of, HasMore};
+ghost use Rattle.std.specs.Prelude.{◌≡◌, ◌+◌, ◌-◌, ◌^◌, ◌≤◌, [], ◌∷◌, ◌++◌, Some, Err, length, vec_len, take, min, bytes_eq, IfOk, OnOk, OnErr, IsOk, IsTrue};
+ghost use Rattle.edge_io.specs.Counts.{Grows, Rose};
+ghost use Rattle.edge_io.specs.Files.{HasFile, IsTooLong, file_of, HasMore};
 ghost use Rattle.edge_io.specs.Opened.{IsAllOf};
 ghost use Rattle.edge_io.specs.SliceShelves.{bytes_of, rest_of, taken_of};
 
@@ -45,7 +45,23 @@ impl<'a> Shelf for SliceShelf<'a> {
 
     ghost admits = { λ _ name. bytes_eq [] name };
 
-    fn read_all(&mut self, alloc: Global, _name: &str, most: usize) -> Result<Vec<u8>, ShelfFault> {
+    fn read_all(&mut self, alloc: Global, _name: &str, most: usize) -> Result<Vec<u8>, ShelfFault>
+        // What every shelf does; of failures the count stands at 0.
+        requires admits { IsTrue (bytes_eq [] _name.now) }
+        ensures found { IfOk result (λ v. HasFile (Some (([], bytes_of self.old) ∷ [])) _name.now v.items) }
+        ensures short { IfOk result (λ v. vec_len v ≤ most) }
+        ensures failed { result ≡ Err ShelfFault.Failed → Rose 0 0 }
+        ensures too_long { result ≡ Err ShelfFault.TooLong →
+            IsTooLong (Some (([], bytes_of self.old) ∷ [])) _name.now most (taken_of self.old) (taken_of self.new) }
+        ensures same_files { bytes_of self.new ≡ bytes_of self.old }
+        ensures same_rest { rest_of self.new ≡ rest_of self.old }
+        ensures taken_grows { Grows (taken_of self.old) (taken_of self.new) }
+        ensures faults_grow { Grows 0 0 }
+
+        // The bytes of a file that is given are counted.
+        ensures counted { IfOk result (λ v. taken_of self.new ≡ min (taken_of self.old + vec_len v) (2 ^ 64 - 1)) }
+        ensures uncounted { OnErr result (taken_of self.new ≡ taken_of self.old) }
+    {
         if self.bytes.len() > most {
             return Err(ShelfFault::TooLong);
         }

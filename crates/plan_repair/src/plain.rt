@@ -43,7 +43,7 @@ fn outflows(alloc: Global, net: &Network, point: &[i128]) -> Result<Vec<u64>, Me
     let mut flows = Vec::new(alloc);
     for out in 0..outs {
         let (pool, product) = net.out(out);
-        let most = lesser(net.pool_max(pool), net.product_max(product));
+        let most = lesser_maximum(net.pool_max(pool), net.product_max(product));
         flows.push(millionths(most, point[(feeds + out) as usize]))?;
     }
     Ok(flows)
@@ -58,7 +58,7 @@ fn directs(alloc: Global, net: &Network, point: &[i128]) -> Result<Vec<u64>, Mem
     let mut flows = Vec::new(alloc);
     for direct in 0..directs {
         let (source, product) = net.direct(direct);
-        let most = lesser(net.source_max(source), net.product_max(product));
+        let most = lesser_maximum(net.source_max(source), net.product_max(product));
         flows.push(millionths(most, point[(feeds + outs + direct) as usize]))?;
     }
     Ok(flows)
@@ -73,13 +73,13 @@ pub(crate) fn feed_flow(net: &Network, point: &[i128], feed: u32) -> u128
 {
     let (source, pool) = net.feed(feed);
     within(
-        lesser(net.source_max(source), net.pool_max(pool)),
+        lesser_maximum(net.source_max(source), net.pool_max(pool)),
         point[feed as usize],
     )
 }
 
 /// The lesser of two maxima.
-fn lesser(a: i64, b: i64) -> u64
+fn lesser_maximum(a: i64, b: i64) -> u64
     ensures value { result ≡ min (unsigned_abs a) (unsigned_abs b) }
     ensures size { result ≤ 2 ^ 63 }
 {

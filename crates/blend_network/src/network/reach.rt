@@ -3,11 +3,12 @@
 ghost use Rattle.std.specs.Prelude.{◌≡◌, ◌<◌, ◌≤◌, ◌*◌, ◌^◌, ℤ, pos, ◌*ℤ◌, ◌≤ℤ◌, unsigned_abs};
 ghost use Rattle.std.specs.Option.{ForSome};
 ghost use Rattle.pool_model.specs.Network.{net_of, IsWithin};
-ghost use Rattle.pool_model.specs.Starting.{lesser, pool_cost, reach_cost, margin, reach_bound};
+ghost use Rattle.pool_model.specs.Starting.{pool_cost, reach_cost, margin, reach_bound};
 ghost use Rattle.blend_network.specs.Reach.{direct_cost, through_cost};
 ghost use Rattle.network_parts.specs.Faults.{IsUpTo};
 
 use super::Network;
+use crate::lesser::lesser_of;
 
 impl Network {
     /// No plan costs less than this, in picos: each product full, at its best margin over the sources that reach it. A
@@ -28,7 +29,7 @@ impl Network {
     fn reach_cost(&self, product: u32) -> Option<i64>
         ensures { result ≡ reach_cost (net_of self.now) product }
     {
-        lesser_cost(self.direct_cost(product), self.through_cost(product))
+        lesser_of(self.direct_cost(product), self.through_cost(product))
     }
 
     /// The least cost of the sources that reach the product directly.
@@ -43,7 +44,7 @@ impl Network {
             } else {
                 None
             };
-            least = lesser_cost(least, cost);
+            least = lesser_of(least, cost);
         }
         least
     }
@@ -60,7 +61,7 @@ impl Network {
             } else {
                 None
             };
-            least = lesser_cost(least, cost);
+            least = lesser_of(least, cost);
         }
         least
     }
@@ -77,20 +78,9 @@ impl Network {
             } else {
                 None
             };
-            least = lesser_cost(least, cost);
+            least = lesser_of(least, cost);
         }
         least
-    }
-}
-
-/// The lesser of two costs that may be absent.
-fn lesser_cost(a: Option<i64>, b: Option<i64>) -> Option<i64>
-    ensures { result ≡ lesser a b }
-{
-    match (a, b) {
-        (Some(x), Some(y)) => Some(x.min(y)),
-        (Some(x), None) => Some(x),
-        (None, other) => other,
     }
 }
 
