@@ -72,7 +72,8 @@ module _ (n : Net) (s : Searched) (split : Split) (left right : Option Proof) (i
       ∙ ap (λ (o : Option Shown). if fresh then raised (bound_after n s.tree u (split_at splits u).leaf) o else bound_after n new_tree u node) (own-old node k)
       ∙ ap (λ (o : Option ℤ). if fresh then raised (bound_after n s.tree u (split_at splits u).leaf) (own n s.tree node) else o) (bound-before u node (omega arith) k)
 
-  bound-old : (node : ℕ) → node < nodes s.tree.splits → node_bound n (after s (split_of split left right)).tree node ≡ node_bound n s.tree node
+  -- a node that stood before keeps its bound
+  pub bound-old : (node : ℕ) → node < nodes s.tree.splits → node_bound n (after s (split_of split left right)).tree node ≡ node_bound n s.tree node
   bound-old node h =
       let t = length s.tree.splits in
       let new_tree = (after s (split_of split left right)).tree in
@@ -95,14 +96,14 @@ module _ (n : Net) (s : Searched) (split : Split) (left right : Option Proof) (i
       ∙ ap (λ (c : Box). raised (node_bound n s.tree split.leaf) (option_map (shown_by n c) (new_tree.proof node))) box
       ∙ ap (λ (o : Option Proof). raised (node_bound n s.tree split.leaf) (option_map (shown_by n b) o)) shows
 
-  bound-left : split.leaf < nodes s.tree.splits → node_bound n (after s (split_of split left right)).tree (left_node (length s.tree.splits))
+  pub bound-left : split.leaf < nodes s.tree.splits → node_bound n (after s (split_of split left right)).tree (left_node (length s.tree.splits))
       ≡ raised (node_bound n s.tree split.leaf) (option_map (shown_by n (left_of (box_of n s.tree.splits split.leaf) split.coord split.cut)) left)
   bound-left there =
       let t = length s.tree.splits in
       bound-new (left_node t) (left_of (box_of n s.tree.splits split.leaf) split.coord split.cut) left (cc (same_node (left_node t))) there (box_left n s.tree.splits split)
       (chosen (left_node t) (left_node t) left (if left_node t == right_node t then right else s.tree.proof (left_node t)) refl)
 
-  bound-right : split.leaf < nodes s.tree.splits → node_bound n (after s (split_of split left right)).tree (right_node (length s.tree.splits))
+  pub bound-right : split.leaf < nodes s.tree.splits → node_bound n (after s (split_of split left right)).tree (right_node (length s.tree.splits))
       ≡ raised (node_bound n s.tree split.leaf) (option_map (shown_by n (right_of (box_of n s.tree.splits split.leaf) split.coord split.cut)) right)
   bound-right there =
       let t = length s.tree.splits in

@@ -35,7 +35,7 @@ none (x ∷ xs) h e =
     let yes : (x.leaf == 0) ≡ true = ap (λ (i : ℕ). i == 0) first in
     absurd (cc (yes, e))
 
-no_splits : (n : Net) (tree : Tree) → IsTree n tree → is_cut tree.splits 0 ≡ false → length tree.splits ≡ 0
+pub no_splits : (n : Net) (tree : Tree) → IsTree n tree → is_cut tree.splits 0 ≡ false → length tree.splits ≡ 0
 no_splits n tree is uncut = none tree.splits (λ h. let there = (is.splits 0 h).leaf.there in omega (arith, there)) uncut
 
 -- the bound of the one node

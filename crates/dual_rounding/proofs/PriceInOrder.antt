@@ -1,10 +1,10 @@
 -- The price proof is in order in each proper box.
-use Rattle.std.proofs.Common.{◌≡◌, ◌≢◌, ℕ, zero, suc, ◌+◌, ◌-◌, ◌*◌, ◌^◌, ◌<◌, ◌≤◌, max, min, nat_lt, Bool, true, false, if◌then◌else◌, Option, Some, None, ◌==◌}
-use Rattle.std.proofs.Common.{List, [], ◌∷◌, ◌++◌, map, length, get_or, All, ℤ, pos, neg_ℤ, ◌-ℤ◌, ◌*ℤ◌, ◌≤ℤ◌, unsigned_abs, ◌⊎◌, inl, inr, arith, refl, sym, ap, subst, ◌∙◌}
-use Rattle.std.specs.Prelude.{unwrap_or, filter}
+use Rattle.std.proofs.Common.{◌≡◌, ◌≢◌, ℕ, zero, suc, ◌+◌, ◌-◌, ◌*◌, ◌^◌, ◌<◌, ◌≤◌, max, min, nat_lt, Bool, true, false, if◌then◌else◌, Some, None, ◌==◌}
+use Rattle.std.proofs.Common.{List, [], ◌∷◌, ◌++◌, length, All, ℤ, pos, neg_ℤ, unsigned_abs, ◌⊎◌, inl, inr, arith, refl, sym, ap, subst, ◌∙◌}
+use Rattle.std.specs.Prelude.{filter}
 use Rattle.std.specs.List.{sum_by, flat_map, AllPairs}
 use Rattle.std.proofs.Math.Nat.{mul-le-mul_left, mul-le-mul_right}
-use Rattle.std.proofs.lemmas.Int.{ints, clamps}
+use Rattle.std.proofs.lemmas.Int.{ints}
 use Rattle.std.proofs.lemmas.Bool.Decides.{nat_tests}
 use Rattle.std.proofs.lemmas.List.{length-map, length-append}
 use Rattle.std.proofs.lemmas.List.Elements.{All-filter, All-weaker, All-head, All-tail, filter_passes}
@@ -14,15 +14,16 @@ use Rattle.integers.specs.Numbers.{tabulate, numbers_at}
 use Rattle.integers.specs.Sums.{sum_below}
 use Rattle.integers.proofs.ByNode.{sum_below-most}
 use Rattle.integers.proofs.Tabulate.{length-tabulate, get_or-tabulate, All-tabulate}
-use Rattle.pool_model.specs.Network.{Net, IsLimited, IsWithin}
-use Rattle.pool_model.specs.Starting.{lesser, least_below, pool_cost}
-use Rattle.pool_model.specs.Paths.{Path, feed_paths, pool_paths, paths_below, paths_of}
-use Rattle.row_model.specs.Boxes.{Box, IsProper, root, root_low, root_high, flow, coord_at, coords, flow_number}
+use Rattle.pool_model.specs.Network.{Net, IsLimited}
+use Rattle.pool_model.specs.Starting.{pool_cost}
+use Rattle.pool_model.specs.Paths.{Path, feed_paths, pool_paths, paths_below}
+use Rattle.row_model.specs.Boxes.{Box, IsProper, root, flow_number}
 use Rattle.row_model.specs.Variables.{PerVariable, none, variables, path_count, by_number, costs, lows, highs}
-use Rattle.row_model.specs.Catalogue.{Row, Kind, equal, when, row_count, rows, row_at, catalogue, network_families, p_families, q_families, pq_families, balance_row}
-use Rattle.row_model.specs.Multipliers.{Part, Proof, IsInOrder, IsRising, IsSigned, weight, rest_weight, constant_weight, coef, number}
-use Rattle.row_model.proofs.Numbering.{HoldsByKind, by_number-each, coord_at-flow}
+use Rattle.row_model.specs.Catalogue.{Row, rows, row_at, network_families, p_families, q_families, pq_families, balance_row}
+use Rattle.row_model.specs.Multipliers.{Part, IsInOrder, IsRising, IsSigned, weight, rest_weight, constant_weight, coef}
+use Rattle.row_model.proofs.Numbering.{by_number-each}
 use Rattle.row_book.proofs.Families.{row_count-append, row_in-front}
+use Rattle.row_book.proofs.NearEnds.{within, few_least, few_unwrapped, few_if, ends-near}
 use Rattle.row_book.proofs.NetworkRows.{at_balance}
 use Rattle.dual_rounding.specs.Price.{is_nonzero, nonzero, feed_cost, price_part, price_proof}
 
@@ -77,40 +78,16 @@ rising n i j lt in' = pairs i j record { row = 0; mult = pos 0 } lt in'
 
 -- ---- sizes
 
-abbrev IsFew : Option ℤ → Type 0
-IsFew None = Unit {0}
-IsFew (Some z) = unsigned_abs z ≤ 10 ^ 12
-
-few-lesser : (a b : Option ℤ) → IsFew a → IsFew b → IsFew (lesser a b)
-few-lesser None b h k = k
-few-lesser (Some a) None h k = h
-few-lesser (Some a) (Some b) h k = omega (arith, ints, clamps)
-
-few-least : (f : ℕ → Option ℤ) (n : ℕ) → ((i : ℕ) → i < n → IsFew (f i)) → IsFew (least_below f n)
-few-least f zero h = tt
-few-least f (suc n) h = few-lesser (least_below f n) (f n) (few-least f n (λ i lt. h i (omega arith))) (h n (omega arith))
-
-few-if : (test : Bool) (z : ℤ) → unsigned_abs z ≤ 10 ^ 12 → IsFew (if test then Some z else None)
-few-if true z h = h
-few-if false z h = tt
-
-few-unwrapped : (a : Option ℤ) → IsFew a → unsigned_abs (unwrap_or a (pos 0)) ≤ 10 ^ 12
-few-unwrapped None h = omega arith
-few-unwrapped (Some z) h = h
-
-within : (z : ℤ) → IsWithin (10 ^ 12) z → unsigned_abs z ≤ 10 ^ 12
-within z (low, high) = omega (arith, ints)
-
 cost-few : (n : Net) (i : ℕ) → IsLimited n → i < n.sources → unsigned_abs (n.source_cost i) ≤ 10 ^ 12
-cost-few n i limited lt = within (n.source_cost i) (limited.source_costs i lt)
+cost-few n i limited lt = within (10 ^ 12) (n.source_cost i) (omega arith) (limited.source_costs i lt)
 
 price-few : (n : Net) (j : ℕ) → IsLimited n → j < n.products → unsigned_abs (n.price j) ≤ 10 ^ 12
-price-few n j limited lt = within (n.price j) (limited.prices j lt)
+price-few n j limited lt = within (10 ^ 12) (n.price j) (omega arith) (limited.prices j lt)
 
 feed_cost-few : (n : Net) (l : ℕ) → IsLimited n → unsigned_abs (feed_cost n l) ≤ 10 ^ 12
-feed_cost-few n l limited = few-unwrapped (pool_cost n l)
-    (few-least (λ e. if n.feed_pool e == l then Some (n.source_cost (n.feed_source e)) else None) n.feeds
-    (λ e lt. few-if (n.feed_pool e == l) (n.source_cost (n.feed_source e)) (cost-few n (n.feed_source e) limited (limited.feed_sources e lt))))
+feed_cost-few n l limited = few_unwrapped (pool_cost n l)
+    (few_least (λ e. if n.feed_pool e == l then Some (n.source_cost (n.feed_source e)) else None) n.feeds
+    (λ e lt. few_if (n.feed_pool e == l) (n.source_cost (n.feed_source e)) (cost-few n (n.feed_source e) limited (limited.feed_sources e lt))))
 
 -- ---- variables that are flows along arcs
 
@@ -163,30 +140,11 @@ balance-small n l v lt = by_number-each n IsUnit (balance_row n l).coefs flows r
 IsEnd : ℤ → ℤ → Type 0
 IsEnd a u = unsigned_abs u * unsigned_abs a ≤ 10 ^ 14
 
-record AreFlowEnds (low high : ℤ) : Type 0 where
-  pub low_end : unsigned_abs low ≤ 10 ^ 14
-  pub high_end : unsigned_abs high ≤ 10 ^ 14
-
-flow-ends : (n : Net) (b : Box) (o : ℕ) → IsLimited n → IsProper n b → o < n.outs → AreFlowEnds (b.low (flow_number n o)) (b.high (flow_number n o))
-flow-ends n b o limited proper lt =
-    let place : flow_number n o < coords n = omega arith in
-    let is = coord_at-flow n o lt in
-    between (b.low (flow_number n o)) (b.high (flow_number n o)) (min (n.pool_max (n.out_pool o)) (n.product_max (n.out_product o)))
-    (subst (λ c. root_low n c ≤ℤ b.low (flow_number n o)) is (proper.low (flow_number n o) place)) (proper.in_order (flow_number n o) place)
-    (subst (λ c. b.high (flow_number n o) ≤ℤ root_high n c) is (proper.high (flow_number n o) place))
-    (lesser_of (n.pool_max (n.out_pool o)) (n.product_max (n.out_product o)) (limited.product_maxima (n.out_product o) (limited.out_products o lt)))
-  where
-    between : (low high : ℤ) (m : ℕ) → pos 0 ≤ℤ low → low ≤ℤ high → high ≤ℤ pos m → m ≤ 10 ^ 12 → AreFlowEnds low high
-    between low high m h i j k = record { low_end = omega (arith, ints); high_end = omega (arith, ints) }
-
-    lesser_of : (a b : ℕ) → b ≤ 10 ^ 12 → min a b ≤ 10 ^ 12
-    lesser_of a b h = omega arith
-
 lows-small : (n : Net) (b : Box) → IsLimited n → IsProper n b → (v : ℕ) → v < variables n → flow_at n v * unsigned_abs (by_number n (lows n b) v) ≤ 10 ^ 14
 unfolding IsEnd
 lows-small n b limited proper v lt = by_number-each n IsEnd (lows n b) flows record {
   x = λ e h. omega arith;
-  y = λ o h. let ends = flow-ends n b o limited proper h in omega (arith, ends.low_end);
+  y = λ o h. let ends = ends-near n b limited proper (flow_number n o) (omega arith) in omega (arith, ends.low);
   z = λ e h. omega arith;
   w = λ p h. omega arith;
   proportion = λ e h. omega arith;
@@ -198,7 +156,7 @@ highs-small : (n : Net) (b : Box) → IsLimited n → IsProper n b → (v : ℕ)
 unfolding IsEnd
 highs-small n b limited proper v lt = by_number-each n IsEnd (highs n b) flows record {
   x = λ e h. lesser_of (n.source_max (n.feed_source e)) (n.pool_max (n.feed_pool e)) (limited.source_maxima (n.feed_source e) (limited.feed_sources e h));
-  y = λ o h. let ends = flow-ends n b o limited proper h in omega (arith, ends.high_end);
+  y = λ o h. let ends = ends-near n b limited proper (flow_number n o) (omega arith) in omega (arith, ends.high);
   z = λ e h. lesser_of (n.source_max (n.direct_source e)) (n.product_max (n.direct_product e)) (limited.source_maxima (n.direct_source e) (limited.direct_sources e h));
   w = λ p h. omega arith;
   proportion = λ e h. omega arith;

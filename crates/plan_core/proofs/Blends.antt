@@ -36,7 +36,7 @@ all_zero : (a : ℤ) (r : ℕ) (m p : ℤ) → a *ℤ pos (r * 0) ≡ m *ℤ (p 
 all_zero a r m p = rw (mul-zero, *ℤ-zero, *ℤ-zero, *ℤ-zero) refl
 
 -- the product of the factors of all pools
-abbrev factors : Net → Written → ℤ
+abbrev pub factors : Net → Written → ℤ
 factors n w = pos (product_below (factor n (plan_of n w)) n.pools)
 
 -- one out: its pool's other factors times its mix are all factors times what the weights give
@@ -62,7 +62,7 @@ out-plan_of n w k o lt in_pools positive =
     ]
 
 -- the quality that reaches a product is the factors of all pools times what the check adds up
-inflow-plan_of : (n : Net) (w : Written) (j k : ℕ) → ((o : ℕ) → o < n.outs → n.out_pool o < n.pools) → 0 < w.base → quality_inflow n (plan_of n w) j k ≡ factors n w *ℤ written_quality n w j k
+pub inflow-plan_of : (n : Net) (w : Written) (j k : ℕ) → ((o : ℕ) → o < n.outs → n.out_pool o < n.pools) → 0 < w.base → quality_inflow n (plan_of n w) j k ≡ factors n w *ℤ written_quality n w j k
 inflow-plan_of n w j k arcs positive =
     let m = factors n w in
     let through = λ (o : ℕ). weighed n w (n.out_pool o) k *ℤ pos (written_out w o) in

@@ -1,3 +1,2 @@
 -- Lemmas on the flows and qualities of plans.
-pub mod Blending
 pub mod Rooms

@@ -22,8 +22,9 @@ use Rattle.search_run.specs.Runs.{AreSteps, IsRun}
 use Rattle.search_run.specs.declared.orders.Orders.{Orders}
 use Rattle.search_run.specs.declared.ended.Ended.{Ended}
 use Rattle.search_run.proofs.Covering.{lt-then-lt, written-base}
-use Rattle.search_run.proofs.NodeBounds.{bound-old, bound-left, bound-right}
-use Rattle.search_run.proofs.Proofs.{no-splits, cut-more, where-node}
+use Rattle.box_tree.proofs.Growing.{bound-old, bound-left, bound-right}
+use Rattle.box_tree.proofs.Rooting.{no_splits}
+use Rattle.search_run.proofs.Proofs.{cut-more, where-node}
 use Rattle.pool_cli.specs.Resumed.{IsAtLeast, IsNoDearer, GivesPlan, IsNoWorse}
 
 -- ---- bounds
@@ -124,7 +125,7 @@ module _ (n : Net) (s : Searched) (split : Split) (left right : Option Proof) (i
 
 module _ (n : Net) (s : Searched) (proof : Proof) (is : IsTree n s.tree) (in_order : IsRootInOrder n s proof) where
   none : length s.tree.splits ≡ 0
-  none = no-splits n s.tree is in_order.uncut
+  none = no_splits n s.tree is in_order.uncut
 
   abbrev rooted : Tree
   rooted = (after s (root_proof proof)).tree

@@ -32,7 +32,7 @@ code_of statuses.NotAJournal = 33
 
 -- what a line says of a reason: its number, and where rows are refused the number of their fault behind it
 abbrev pub reason_of : ReadNet → List ℕ
-reason_of (Net fault) = codes "9 " ++ signed_decimal (pos (faults.number fault))
+reason_of (Net fault) = signed_decimal (pos (causes.number (Net fault))) ++ (codes " " ++ signed_decimal (pos (faults.number fault)))
 reason_of cause = signed_decimal (pos (causes.number cause))
 
 -- the line on standard error

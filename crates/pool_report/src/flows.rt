@@ -11,8 +11,7 @@ ghost use Rattle.text_pieces.specs.Rounding.{rounded_down as down};
 ghost use Rattle.pool_report.specs.Lines.{direct_line, feed_line, flow_line, out_line};
 ghost use Rattle.pool_report.specs.Report.{flow_lines};
 
-use crate::names::{pool_name, product_name, source_name};
-use blend_network::Network;
+use blend_network::{Kind, Network};
 use edge_io::{Sink, WriteFault};
 use plan_core::WrittenPlan;
 use plan_flows::{denominator, direct_flow, feed_flow, out_flow};
@@ -49,6 +48,7 @@ fn write_feeds<K: Sink>(net: &Network, plan: &WrittenPlan, out: &mut K) -> Resul
 }
 
 /// What flows along a feed.
+#[tactic(auto, unfolding(pool_model::specs::Network::net_of))]
 fn write_feed<K: Sink>(
     net: &Network,
     plan: &WrittenPlan,
@@ -62,8 +62,10 @@ fn write_feed<K: Sink>(
     ensures faults_grow { Grows (K.faults out.old) (K.faults out.new) }
 {
     let (source, pool) = net.feed(feed);
+    let from = net.name(Kind::Source, source);
+    let to = net.name(Kind::Pool, pool);
     let flow = units(feed_flow(net, plan, feed), plan);
-    write_flow(flow, source_name(net, source), pool_name(net, pool), out)
+    write_flow(flow, from, to, out)
 }
 
 /// A line for each out.
@@ -81,6 +83,7 @@ fn write_outs<K: Sink>(net: &Network, plan: &WrittenPlan, out: &mut K) -> Result
 }
 
 /// What flows along an out.
+#[tactic(auto, unfolding(pool_model::specs::Network::net_of))]
 fn write_out<K: Sink>(
     net: &Network,
     plan: &WrittenPlan,
@@ -94,8 +97,10 @@ fn write_out<K: Sink>(
     ensures faults_grow { Grows (K.faults out.old) (K.faults out.new) }
 {
     let (pool, product) = net.out(arc);
+    let from = net.name(Kind::Pool, pool);
+    let to = net.name(Kind::Product, product);
     let flow = units(out_flow(net, plan, arc), plan);
-    write_flow(flow, pool_name(net, pool), product_name(net, product), out)
+    write_flow(flow, from, to, out)
 }
 
 /// A line for each direct.
@@ -113,6 +118,7 @@ fn write_directs<K: Sink>(net: &Network, plan: &WrittenPlan, out: &mut K) -> Res
 }
 
 /// What flows along a direct.
+#[tactic(auto, unfolding(pool_model::specs::Network::net_of))]
 fn write_direct<K: Sink>(
     net: &Network,
     plan: &WrittenPlan,
@@ -126,13 +132,10 @@ fn write_direct<K: Sink>(
     ensures faults_grow { Grows (K.faults out.old) (K.faults out.new) }
 {
     let (source, product) = net.direct(arc);
+    let from = net.name(Kind::Source, source);
+    let to = net.name(Kind::Product, product);
     let flow = units(direct_flow(net, plan, arc), plan);
-    write_flow(
-        flow,
-        source_name(net, source),
-        product_name(net, product),
-        out,
-    )
+    write_flow(flow, from, to, out)
 }
 
 /// A flow over the plan's denominator, in millionths of a unit, rounded down.

@@ -12,13 +12,7 @@
 mod claims;
 mod flows;
 mod means;
-mod names;
 mod slacks;
 mod writing;
 
 pub use writing::report;
-
-#[cfg(test)]
-mod expected;
-#[cfg(test)]
-mod tests;

@@ -11,8 +11,7 @@ ghost use Rattle.pool_report.specs.Amounts.{mean_of};
 ghost use Rattle.pool_report.specs.Lines.{mean_line, mean_lines};
 ghost use Rattle.pool_report.specs.Report.{quality_lines};
 
-use crate::names::{product_name, quality_name};
-use blend_network::Network;
+use blend_network::{Kind, Network};
 use edge_io::{Sink, WriteFault, write_whole};
 use plan_core::WrittenPlan;
 use plan_flows::{mean, product_flow};
@@ -80,6 +79,7 @@ fn write_each_mean<K: Sink>(
 }
 
 /// A product's mean of a quality.
+#[tactic(auto, unfolding(pool_model::specs::Network::net_of))]
 fn write_mean<K: Sink>(
     net: &Network,
     plan: &WrittenPlan,
@@ -102,9 +102,9 @@ fn write_mean<K: Sink>(
             Piece::Words(b"quality "),
             Piece::Column(whole_mean(net, plan, product, quality)),
             Piece::Words(b" "),
-            Piece::Words(product_name(net, product).as_bytes()),
+            Piece::Words(net.name(Kind::Product, product).as_bytes()),
             Piece::Words(b": "),
-            Piece::Words(quality_name(net, quality).as_bytes()),
+            Piece::Words(net.name(Kind::Quality, quality).as_bytes()),
             Piece::Words(b"\n"),
         ],
     )

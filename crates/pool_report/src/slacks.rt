@@ -11,8 +11,7 @@ ghost use Rattle.text_pieces.specs.Rounding.{rounded_down as down};
 ghost use Rattle.pool_report.specs.Lines.{pool_slack_line, product_slack_line, slack_line, source_slack_line};
 ghost use Rattle.pool_report.specs.Report.{slack_lines};
 
-use crate::names::{pool_name, product_name, source_name};
-use blend_network::Network;
+use blend_network::{Kind, Network};
 use edge_io::{Sink, WriteFault};
 use plan_core::WrittenPlan;
 use plan_flows::{denominator, pool_flow, product_flow, source_flow};
@@ -49,6 +48,7 @@ fn write_sources<K: Sink>(net: &Network, plan: &WrittenPlan, out: &mut K) -> Res
 }
 
 /// How much more a source could send.
+#[tactic(auto, unfolding(pool_model::specs::Network::net_of))]
 fn write_source<K: Sink>(
     net: &Network,
     plan: &WrittenPlan,
@@ -62,7 +62,7 @@ fn write_source<K: Sink>(
     ensures faults_grow { Grows (K.faults out.old) (K.faults out.new) }
 {
     let more = room(net.source_max(source), source_flow(net, plan, source), plan);
-    write_slack(more, source_name(net, source), out)
+    write_slack(more, net.name(Kind::Source, source), out)
 }
 
 /// A line for each pool.
@@ -80,6 +80,7 @@ fn write_pools<K: Sink>(net: &Network, plan: &WrittenPlan, out: &mut K) -> Resul
 }
 
 /// How much more could flow through a pool.
+#[tactic(auto, unfolding(pool_model::specs::Network::net_of))]
 fn write_pool<K: Sink>(
     net: &Network,
     plan: &WrittenPlan,
@@ -93,7 +94,7 @@ fn write_pool<K: Sink>(
     ensures faults_grow { Grows (K.faults out.old) (K.faults out.new) }
 {
     let more = room(net.pool_max(pool), pool_flow(net, plan, pool), plan);
-    write_slack(more, pool_name(net, pool), out)
+    write_slack(more, net.name(Kind::Pool, pool), out)
 }
 
 /// A line for each product.
@@ -111,6 +112,7 @@ fn write_products<K: Sink>(net: &Network, plan: &WrittenPlan, out: &mut K) -> Re
 }
 
 /// How much more a product could take.
+#[tactic(auto, unfolding(pool_model::specs::Network::net_of))]
 fn write_product<K: Sink>(
     net: &Network,
     plan: &WrittenPlan,
@@ -128,7 +130,7 @@ fn write_product<K: Sink>(
         product_flow(net, plan, product),
         plan,
     );
-    write_slack(more, product_name(net, product), out)
+    write_slack(more, net.name(Kind::Product, product), out)
 }
 
 /// What is left of so many millionths, in millionths of a unit, rounded down.

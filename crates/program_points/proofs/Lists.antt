@@ -13,11 +13,12 @@ use Rattle.program_model.specs.Points.{SameFlows, SameCost, proportion_flows, qu
 use Rattle.std.specs.Prelude.{Result, Ok, Err, IfOk}
 use Rattle.program_model.proofs.FormQ.{point_of_q-point_of_pq}
 use Rattle.program_model.proofs.SameFlows.{cost-same}
+use Rattle.plan_core.specs.Weighed.{weighed}
 use Rattle.program_points.specs.declared.points.PropPoint.{PropPoint}
 use Rattle.program_points.specs.declared.points.QualPoint.{QualPoint}
 use Rattle.program_points.specs.Views.{shown_prop, shown_qual}
 use Rattle.program_points.specs.Held.{IsHeldOfQ, IsHeldOfPq, IsHeldOfP}
-use Rattle.program_points.specs.Written.{path_flow, weighed, quality_of, mixed_of, written_proportions, written_qualities, ArePropsOf, AreQualsOf}
+use Rattle.program_points.specs.Written.{path_flow, quality_of, mixed_of, written_proportions, written_qualities, ArePropsOf, AreQualsOf}
 use Rattle.program_points.proofs.SamePoints.{AreEqualProportions, AreEqualQualities, equal-same, point_of_q-equal, point_of_p-equal}
 use Rattle.program_points.proofs.WrittenQ.{written-point_of_q}
 use Rattle.program_points.proofs.WrittenP.{written-point_of_p}

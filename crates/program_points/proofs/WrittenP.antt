@@ -14,7 +14,8 @@ use Rattle.row_model.specs.Boxes.{qual, root_low, root_high}
 use Rattle.row_model.proofs.RootBox.{root_low-quality, root_high-quality}
 use Rattle.program_model.specs.Programs.{IsPointOfP, direct_mix, mixed_inflow}
 use Rattle.program_model.proofs.Means.{mean_inflow, by_means-blends}
-use Rattle.program_points.specs.Written.{weighed, written_qualities}
+use Rattle.plan_core.specs.Weighed.{weighed}
+use Rattle.program_points.specs.Written.{written_qualities}
 use Rattle.program_points.proofs.WrittenQ.{has_qualities-written}
 
 -- the quality that flows into a pool flows out of it

@@ -6,16 +6,14 @@ use Rattle.integers.proofs.Order.{le-cancel}
 use Rattle.integers.proofs.AtKey.{int_sum_at-same, int_sum_at-mul, sum_at-mul}
 use Rattle.integers.proofs.ByNode.{sum_at-same_key}
 use Rattle.pool_model.specs.Network.{Net, IsLimited}
-use Rattle.pool_model.specs.Plan.{Written, weight, written_out, written_outflow, IsWritten, plan_of, Obeys, outflow, product_inflow}
+use Rattle.pool_model.specs.Plan.{Written, weight, written_out, written_outflow, IsWritten, plan_of, Obeys, product_inflow}
 use Rattle.row_model.specs.Variables.{path_count, path_feed, path_out}
 use Rattle.row_model.proofs.PathSums.{paths_at_key, natural_paths_at_feed}
 use Rattle.program_model.specs.Programs.{IsPointOfQ, direct_mix, path_inflow}
 use Rattle.program_model.proofs.Means.{HasQualities, mean_inflow, by_means-blends}
-use Rattle.program_points.specs.Written.{path_flow, weighed, written_proportions}
-
--- what a pool sends out
-outflow-written : (n : Net) (w : Written) (l : ℕ) → outflow n (plan_of n w) l ≡ w.base * written_outflow n w l
-outflow-written n w l = sum_at-mul n.out_pool l w.base (written_out w) n.outs
+use Rattle.plan_core.specs.Weighed.{weighed}
+use Rattle.plan_core.proofs.Blends.{outflow-plan_of}
+use Rattle.program_points.specs.Written.{path_flow, written_proportions}
 
 -- a pool's mean quality is that of its weights
 pub has_qualities-written : (n : Net) (w : Written) → HasQualities n (plan_of n w) w.base (weighed n w)
@@ -28,7 +26,7 @@ has_qualities-written n w = record {
       (λ e le is. ap (λ i. quality e *ℤ pos (weight w e * written_outflow n w i)) is ∙ turned (quality e) (pos (weight w e)) (pos t))
       ∙ int_sum_at-mul n.feed_pool l (pos t) (λ e. quality e *ℤ pos (weight w e)) n.feeds)
       ∙ last (pos w.base) (pos t) (weighed n w l k)
-      ∙ ap (λ z. weighed n w l k *ℤ pos z) (sym (outflow-written n w l));
+      ∙ ap (λ z. weighed n w l k *ℤ pos z) (sym (outflow-plan_of n w l));
 }
   where
     turned : (q r t : ℤ) → q *ℤ (r *ℤ t) ≡ t *ℤ (q *ℤ r)

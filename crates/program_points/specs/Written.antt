@@ -1,11 +1,11 @@
 -- The points of a written plan: over both of its bases, with its weights as proportions.
 use Rattle.std.specs.Prelude.{◌≡◌, ℕ, ◌*◌, ◌/◌, ◌%◌, ℤ, pos, ◌*ℤ◌}
-use Rattle.integers.specs.Sums.{int_sum_at}
 use Rattle.integers.specs.Numbers.{tabulate}
 use Rattle.pool_model.specs.Network.{Net}
 use Rattle.pool_model.specs.Plan.{Written, weight, written_out, plan_of}
 use Rattle.row_model.specs.Variables.{path_count, path_feed, path_out}
 use Rattle.program_model.specs.Points.{ProportionPoint, QualityPoint}
+use Rattle.plan_core.specs.Weighed.{weighed}
 use Rattle.program_points.specs.declared.points.PropPoint.{PropPoint}
 use Rattle.program_points.specs.declared.points.QualPoint.{QualPoint}
 
@@ -13,11 +13,7 @@ use Rattle.program_points.specs.declared.points.QualPoint.{QualPoint}
 abbrev pub path_flow : Net → Written → ℕ → ℕ
 path_flow n w a = weight w (path_feed n a) * written_out w (path_out n a)
 
--- a pool's quality by the weights of its feeds
-abbrev pub weighed : Net → Written → ℕ → ℕ → ℤ
-weighed n w l k = int_sum_at n.feed_pool l (λ e. n.source_quality (n.feed_source e) k *ℤ pos (weight w e)) n.feeds
-
--- the same by the number of a pool's quality, and of a mixed variable: a pool's quality times its out's flow
+-- a pool's quality by its number, and a mixed variable by its own: a pool's quality times its out's flow
 abbrev pub quality_of : Net → Written → ℕ → ℤ
 quality_of n w i = weighed n w (i / n.qualities) (i % n.qualities)
 

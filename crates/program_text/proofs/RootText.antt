@@ -16,12 +16,12 @@ use Rattle.box_space.specs.declared.boxes.BoxEnds.{BoxEnds}
 use Rattle.box_space.specs.declared.boxes.BoxView.{BoxView}
 use Rattle.box_space.specs.declared.coordinates.Form.{Form}
 use Rattle.box_space.specs.declared.coordinates.Form.TheVariants.{P, Q, Pq}
-use Rattle.program_text.specs.Pieces.{each_below}
+use Rattle.text_pieces.specs.Pieces.{each_below}
 use Rattle.program_text.specs.Names.{has_symbol, name_of}
 use Rattle.program_text.specs.Lines.{row_head, row_line, row_lines, terms_text, ends_line, ends_text, ends_lines, mixed_line, path_line, cost_line}
 use Rattle.program_text.specs.Programs.{network_rows, exact_rows_of_p, exact_rows_of_q, first_of_q, first_of_pq, head_line, first_lines, network_lines, p_lines}
 use Rattle.program_text.specs.Programs.{q_lines, pq_lines, family_lines, program_in}
-use Rattle.program_text.proofs.Each.{each_below-same}
+use Rattle.text_pieces.proofs.Each.{each_below-same}
 
 -- ---- rows
 

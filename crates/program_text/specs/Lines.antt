@@ -7,7 +7,7 @@ use Rattle.row_model.specs.Variables.{variables, by_number, costs, lows, highs, 
 use Rattle.row_model.specs.Catalogue.{Kind, at_least, equal}
 use Rattle.row_book.specs.PartRows.{kind_at, coef_at, constant_at}
 use Rattle.box_space.specs.declared.coordinates.Form.{Form}
-use Rattle.program_text.specs.Pieces.{joined, each_below}
+use Rattle.text_pieces.specs.Pieces.{joined, each_below}
 use Rattle.program_text.specs.Names.{letter_of, name_of, has_symbol}
 use Rattle.program_text.specs.declared.names.Symbol.{Symbol}
 use Rattle.program_text.specs.declared.names.Symbol.TheVariants as symbols

@@ -1,18 +1,8 @@
--- Texts put together from pieces.
-use Rattle.std.specs.Prelude.{ℕ, zero, suc, List, [], ◌∷◌, ◌++◌}
-use Rattle.std.specs.List.{flat_map}
+-- The texts of pieces.
+use Rattle.std.specs.Prelude.{ℕ, List, [], ◌∷◌}
 use Rattle.std.specs.Fmt.{signed_decimal}
 use Rattle.program_text.specs.declared.pieces.Piece.{Piece}
 use Rattle.program_text.specs.declared.pieces.Piece.TheVariants.{Words, Letter, Number}
-
--- texts, one behind the other
-abbrev pub joined : List (List ℕ) → List ℕ
-joined texts = flat_map (λ text. text) texts
-
--- the texts of the first so many numbers, one behind the other
-abbrev pub each_below : (ℕ → List ℕ) → ℕ → List ℕ
-each_below text zero = []
-each_below text (suc n) = each_below text n ++ text n
 
 -- the text of a piece
 abbrev pub piece_text : Piece → List ℕ

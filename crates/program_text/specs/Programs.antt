@@ -8,7 +8,7 @@ use Rattle.row_model.specs.Variables.{path_count}
 use Rattle.row_model.specs.Catalogue.{network_families, p_families, q_families, pq_families, row_count}
 use Rattle.box_space.specs.declared.coordinates.Form.{Form}
 use Rattle.box_space.specs.declared.coordinates.Form.TheVariants.{P, Q, Pq}
-use Rattle.program_text.specs.Pieces.{each_below}
+use Rattle.text_pieces.specs.Pieces.{each_below}
 use Rattle.program_text.specs.Lines.{cost_line, ends_lines, row_lines, mixed_line, path_line}
 
 -- ---- numbers of rows

@@ -20,7 +20,7 @@ use crate::fault::RunFault;
 use blend_network::Network;
 use box_tree::Entry;
 use disk_model::Disk;
-use node_journal::{Journal, JournalFault, largest_payload};
+use node_journal::{Journal, JournalFault};
 use search_core::{Next, Search};
 use search_run::{Ended, Orders, next_by};
 use std::alloc::Global;
@@ -62,7 +62,6 @@ impl Session {
         ensures failed { IsErrOf result (RunFault.Journal journal_faults.Disk) → Rose (D.faults disk.old) (D.faults disk.new) }
         ensures same_disk { IsSameDisk D.faults D.tells D.admits disk.old disk.new }
     {
-        let _largest = largest_payload(net);
         self.journal.append(disk, &entry)?;
         match self.search.take(net, entry) {
             Ok(()) => Ok(()),

@@ -1,5 +1,6 @@
 -- Lemmas behind the proofs.
 pub mod Families
+pub mod NearEnds
 pub mod RowSizes
 pub mod Placing
 pub mod RowCount
@@ -17,4 +18,3 @@ pub mod Passing
 pub mod Least
 pub mod Costs
 pub mod AgreedFaults
-pub mod Narrowing

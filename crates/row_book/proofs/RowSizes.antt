@@ -1,12 +1,10 @@
 -- Every coefficient of every row is at most 10^14 in size.
-use Rattle.std.proofs.Common.{◌≡◌, ℕ, zero, suc, ◌+◌, ◌*◌, ◌/◌, ◌%◌, ◌^◌, ◌<◌, ◌≤◌, min, Bool, true, false}
-use Rattle.std.proofs.Common.{◌==◌, if◌then◌else◌, ◌++◌, length, get_or, Option, Some, None, ℤ, pos, neg_ℤ, ◌-ℤ◌, ◌≤ℤ◌, unsigned_abs, arith}
-use Rattle.std.specs.Prelude.{unwrap_or}
-use Rattle.std.proofs.lemmas.Int.{ints, clamps}
+use Rattle.std.proofs.Common.{◌≡◌, ℕ, ◌+◌, ◌*◌, ◌/◌, ◌%◌, ◌^◌, ◌<◌, ◌≤◌, Bool, true, false}
+use Rattle.std.proofs.Common.{◌==◌, if◌then◌else◌, ◌++◌, length, get_or, Option, Some, ℤ, pos, neg_ℤ, ◌-ℤ◌, unsigned_abs, arith}
+use Rattle.std.proofs.lemmas.Int.{ints}
 use Rattle.std.proofs.lemmas.List.Elements.{All-get_or}
 use Rattle.pool_model.specs.Network.{Net, IsLimited, IsWithin}
-use Rattle.pool_model.specs.Starting.{lesser, least_below}
-use Rattle.row_model.specs.Boxes.{Box, Coord, coords, coord_at, root_low, root_high, IsProper, greater, greatest_below, fed_quality, prop_number, qual_number, flow_number}
+use Rattle.row_model.specs.Boxes.{Box, coords, IsProper, prop_number, qual_number, flow_number}
 use Rattle.row_model.specs.Variables.{PerVariable, path_count, path_feed, path_out, variables, by_number}
 use Rattle.row_model.specs.Envelopes.{Ends, Side, side}
 use Rattle.pool_model.specs.Limits.{Limit, limits, no_limit, most_limits, least_limits}
@@ -15,9 +13,10 @@ use Rattle.row_model.specs.Catalogue.{Row, when, rows, row_at, catalogue, networ
 use Rattle.row_model.specs.Catalogue.{minimum_row, mixing_row, mixed_most_row, mixed_least_row, quality_ends, quality_envelope_row, proportions_row}
 use Rattle.row_model.specs.Catalogue.{feed_row, path_most_row, path_least_row, proportion_ends, proportion_envelope_row, out_row, share_row}
 use Rattle.integers.proofs.Grids.{grid-below, grid-row, grid-column}
-use Rattle.row_model.proofs.Numbering.{at_coord, HoldsByKind, by_number-each}
+use Rattle.row_model.proofs.Numbering.{HoldsByKind, by_number-each}
 use Rattle.row_model.proofs.PathSums.{path_feed-below, path_out-below}
 use Rattle.row_book.proofs.Families.{HoldsOfEach, each_row, each-append}
+use Rattle.row_book.proofs.NearEnds.{within, AreNear, quality-few, ends-near}
 
 -- at most 10^14 in size
 abbrev pub IsSmall : ℤ → Type 0
@@ -39,9 +38,6 @@ small_if false c h = nothing
 small_when : (i k : ℕ) (c : ℤ) → IsSmall c → IsSmall (when i k c)
 small_when i k c h = small_if (i == k) c h
 
-within : (size : ℕ) (z : ℤ) → size ≤ 10 ^ 12 → IsWithin size z → unsigned_abs z ≤ 10 ^ 12
-within size z h (low, high) = omega (arith, ints)
-
 widen : (z : ℤ) → unsigned_abs z ≤ 10 ^ 12 → IsSmall z
 widen z h = omega arith
 
@@ -50,79 +46,6 @@ turned z h = omega (arith, ints)
 
 apart : (a b : ℤ) → unsigned_abs a ≤ 10 ^ 12 → unsigned_abs b ≤ 10 ^ 12 → IsSmall (a -ℤ b)
 apart a b h k = omega (arith, ints)
-
-between : (low z high : ℤ) → unsigned_abs low ≤ 10 ^ 12 → unsigned_abs high ≤ 10 ^ 12 → low ≤ℤ z → z ≤ℤ high → unsigned_abs z ≤ 10 ^ 12
-between low z high a b h k = omega (arith, ints)
-
--- ---- the ends of a box
-
-IsFew : Option ℤ → Type 0
-IsFew None = Unit {0}
-IsFew (Some z) = unsigned_abs z ≤ 10 ^ 12
-
-few_lesser : (a b : Option ℤ) → IsFew a → IsFew b → IsFew (lesser a b)
-unfolding IsFew
-few_lesser None b h k = k
-few_lesser (Some a) None h k = h
-few_lesser (Some a) (Some b) h k = omega (arith, ints, clamps)
-
-few_greater : (a b : Option ℤ) → IsFew a → IsFew b → IsFew (greater a b)
-unfolding IsFew
-few_greater None b h k = k
-few_greater (Some a) None h k = h
-few_greater (Some a) (Some b) h k = omega (arith, ints, clamps)
-
-few_least : (f : ℕ → Option ℤ) (n : ℕ) → ((i : ℕ) → i < n → IsFew (f i)) → IsFew (least_below f n)
-unfolding IsFew
-few_least f zero h = tt
-few_least f (suc n) h = few_lesser (least_below f n) (f n) (few_least f n (λ i lt. h i (omega arith))) (h n (omega arith))
-
-few_greatest : (f : ℕ → Option ℤ) (n : ℕ) → ((i : ℕ) → i < n → IsFew (f i)) → IsFew (greatest_below f n)
-unfolding IsFew
-few_greatest f zero h = tt
-few_greatest f (suc n) h = few_greater (greatest_below f n) (f n) (few_greatest f n (λ i lt. h i (omega arith))) (h n (omega arith))
-
-few_unwrapped : (a : Option ℤ) → IsFew a → unsigned_abs (unwrap_or a (pos 0)) ≤ 10 ^ 12
-unfolding IsFew
-few_unwrapped None h = omega arith
-few_unwrapped (Some z) h = h
-
-few_if : (test : Bool) (z : ℤ) → unsigned_abs z ≤ 10 ^ 12 → IsFew (if test then Some z else None)
-unfolding IsFew
-few_if true z h = h
-few_if false z h = tt
-
-pub record AreNear (least greatest : ℤ) : Type 0 where
-  pub low : unsigned_abs least ≤ 10 ^ 12
-  pub high : unsigned_abs greatest ≤ 10 ^ 12
-
-quality-few : (n : Net) (e k : ℕ) → IsLimited n → e < n.feeds → k < n.qualities → unsigned_abs (n.source_quality (n.feed_source e) k) ≤ 10 ^ 12
-quality-few n e k limited lt hk = within (10 ^ 11) (n.source_quality (n.feed_source e) k) (omega arith) (limited.source_qualities (n.feed_source e) k (limited.feed_sources e lt) hk)
-
-root-near : (n : Net) → IsLimited n → (c : ℕ) → c < coords n → AreNear (root_low n (coord_at n c)) (root_high n (coord_at n c))
-root-near n limited = at_coord n (λ (c : Coord). AreNear (root_low n c) (root_high n c))
-    (λ e lt. record { low = omega arith; high = omega arith })
-    (λ l k hl hk. record {
-      low = few_unwrapped (least_below (fed_quality n l k) n.feeds)
-          (few_least (fed_quality n l k) n.feeds (λ e lt. few_if (n.feed_pool e == l) (n.source_quality (n.feed_source e) k) (quality-few n e k limited lt hk)));
-      high = few_unwrapped (greatest_below (fed_quality n l k) n.feeds)
-          (few_greatest (fed_quality n l k) n.feeds (λ e lt. few_if (n.feed_pool e == l) (n.source_quality (n.feed_source e) k) (quality-few n e k limited lt hk)));
-    })
-    (λ o lt. record { low = omega arith; high = lesser_of (n.pool_max (n.out_pool o)) (n.product_max (n.out_product o)) (limited.product_maxima (n.out_product o) (limited.out_products o lt)) })
-  where
-    lesser_of : (a b : ℕ) → b ≤ 10 ^ 12 → min a b ≤ 10 ^ 12
-    lesser_of a b h = omega arith
-
-ends-near : (n : Net) (b : Box) → IsLimited n → IsProper n b → (c : ℕ) → c < coords n → AreNear (b.low c) (b.high c)
-ends-near n b limited proper c lt =
-    let r = root-near n limited c lt in
-    let a = proper.in_order c lt in
-    let d = proper.low c lt in
-    let e = proper.high c lt in
-    record {
-      low = between (root_low n (coord_at n c)) (b.low c) (root_high n (coord_at n c)) r.low r.high d (omega (arith, ints));
-      high = between (root_low n (coord_at n c)) (b.high c) (root_high n (coord_at n c)) r.low r.high (omega (arith, ints)) e;
-    }
 
 -- ---- sides of envelopes
 

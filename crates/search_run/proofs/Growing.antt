@@ -9,12 +9,13 @@ use Rattle.row_model.specs.Multipliers.{Proof, shown_by}
 use Rattle.row_model.specs.Trees.{Split, no_split, Tree, IsTree, nodes, left_node, right_node, is_cut, box_of, node_bound, leaf_bound, tree_bound, raised, IsLeastLeaf}
 use Rattle.row_model.specs.Entries.{Searched, root_proof, split_of, after}
 use Rattle.row_model.proofs.EntryLaw.{length-more, box_before, box_left, box_right}
+use Rattle.box_tree.proofs.Growing.{bound-old, bound-left, bound-right}
+use Rattle.box_tree.proofs.Rooting.{no_splits}
 use Rattle.dual_rounding.specs.Price.{IsPriced}
 use Rattle.search_run.specs.Steps.{IsOfForm, IsCut}
 use Rattle.search_run.specs.Found.{IsPricedAt, IsGrown}
 use Rattle.search_run.specs.declared.orders.Orders.{Orders}
-use Rattle.search_run.proofs.NodeBounds.{bound-old, bound-left, bound-right}
-use Rattle.search_run.proofs.Proofs.{proof-rooted, proof-split, no-splits, where-node}
+use Rattle.search_run.proofs.Proofs.{proof-rooted, proof-split, where-node}
 
 -- at the beginning nothing is added
 pub grown-start : (n : Net) (o : Orders) (t : Tree) → IsGrown n o t t
@@ -45,7 +46,7 @@ grown-root n o begun s p is unproved uncut form g = record {
     | inl a ↦ inr (subst (IsOfForm n o.form) a.1 form)
     | inr b ↦ g.named node q b
   ];
-  priced = λ node h k. absurd (omega (arith, h, k, no-splits n s.tree is uncut));
+  priced = λ node h k. absurd (omega (arith, h, k, no_splits n s.tree is uncut));
 }
 
 -- the bound of the least leaf is the tree's

@@ -1,4 +1,3 @@
-pub mod NodeBounds
 pub mod Proofs
 mod Growing
 mod Rooting

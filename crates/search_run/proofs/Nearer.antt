@@ -18,12 +18,12 @@ use Rattle.box_tree.specs.declared.entry.Entry.{Entry}
 use Rattle.box_tree.specs.declared.entry.Entry.TheVariants.{Root, SplitOf, Improve}
 use Rattle.box_tree.proofs.Improving.{IsLess}
 use Rattle.branching.specs.Rows.{View}
+use Rattle.plan_repair.specs.Choices.{is_less}
 use Rattle.search_core.specs.Searches.{Costed, Searching, searched, IsStartOf, IsSearchOf}
 use Rattle.search_core.specs.Cases.{IsBetterStart, HasNoBetterStart, IsRepairedAfter, IsRootOpen}
 use Rattle.search_core.specs.Next.{IsEntry}
 use Rattle.search_core.proofs.Starting.{better, no-better, none-better}
-use Rattle.cli_words.specs.declared.request.RuleName.{RuleName}
-use Rattle.search_run.specs.Left.{counted, is_less, start_left, unproved, root_left, repair_left, left}
+use Rattle.search_run.specs.Left.{counted, start_left, unproved, root_left, repair_left, left}
 use Rattle.search_run.proofs.Covering.{none-after-start, none-after-plan}
 use Rattle.search_run.proofs.Proofs.{root-proof, cut-more}
 

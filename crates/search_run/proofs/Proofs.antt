@@ -1,11 +1,10 @@
 -- Which proof a node has after an entry, and which nodes there are.
-use Rattle.std.proofs.Common.{◌≡◌, ℕ, suc, ◌+◌, ◌*◌, ◌<◌, ◌⊎◌, inl, inr, ◌==◌, ◌||◌, if◌then◌else◌, List, [], ◌∷◌, ◌++◌, length, Bool, true, false, Option, Some, arith, refl, sym, ap, ◌∙◌}
+use Rattle.std.proofs.Common.{◌≡◌, ℕ, suc, ◌+◌, ◌*◌, ◌<◌, ◌⊎◌, inl, inr, ◌==◌, ◌||◌, if◌then◌else◌, List, [], ◌∷◌, ◌++◌, Bool, true, false, Option, Some, arith, refl, sym, ap, ◌∙◌}
 use Rattle.std.specs.Prelude.{unwrap_or}
 use Rattle.std.proofs.lemmas.List.Folds.{list_any-append}
 use Rattle.integers.proofs.AtKey.{same_or_other, chosen, passed}
-use Rattle.pool_model.specs.Network.{Net}
 use Rattle.row_model.specs.Multipliers.{Proof}
-use Rattle.row_model.specs.Trees.{Split, Tree, IsTree, split_at, left_node, right_node, is_cut}
+use Rattle.row_model.specs.Trees.{Split, left_node, right_node, is_cut}
 
 -- after a proof of the root
 pub proof-rooted : (proof : Proof) (old : ℕ → Option Proof) (node : ℕ) (q : Proof) → (if node == 0 then Some proof else old node) ≡ Some q → ((node ≡ 0) × (proof ≡ q)) ⊎ (old node ≡ Some q)
@@ -30,18 +29,6 @@ proof-split left right old t node q e = elim (same_or_other node (left_node t)) 
 pub root-proof : (left right : Option Proof) (old : ℕ → Option Proof) (t : ℕ) → (if 0 == left_node t then left else (if 0 == right_node t then right else old 0)) ≡ old 0
 root-proof left right old t =
     passed 0 (left_node t) left (if 0 == right_node t then right else old 0) (omega arith) ∙ passed 0 (right_node t) right (old 0) (omega arith)
-
--- a tree whose root is not cut has no splits
-none-cut : (splits : List Split) → (0 < length splits → (split_at splits 0).leaf < 1) → is_cut splits 0 ≡ false → length splits ≡ 0
-none-cut [] h e = refl
-none-cut (x ∷ xs) h e =
-    let lt = h (omega arith) in
-    let first : x.leaf ≡ 0 = omega (arith, lt) in
-    let yes : (x.leaf == 0) ≡ true = ap (λ (i : ℕ). i == 0) first in
-    absurd (cc (yes, e))
-
-pub no-splits : (n : Net) (tree : Tree) → IsTree n tree → is_cut tree.splits 0 ≡ false → length tree.splits ≡ 0
-no-splits n tree is uncut = none-cut tree.splits (λ h. let there = (is.splits 0 h).leaf.there in omega (arith, there)) uncut
 
 -- a node is cut by the splits before the last one, or by that
 or-none : (b : Bool) → (b || false) ≡ b

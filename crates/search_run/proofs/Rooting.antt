@@ -14,7 +14,7 @@ use Rattle.search_core.specs.Cases.{IsRootOpen, IsRootProof, HasNoRootProof}
 use Rattle.search_run.specs.Steps.{IsCut}
 use Rattle.search_run.specs.Found.{IsPricedAt}
 use Rattle.search_run.specs.declared.orders.Orders.{Orders}
-use Rattle.search_run.proofs.Proofs.{no-splits}
+use Rattle.box_tree.proofs.Rooting.{no_splits}
 use Rattle.search_run.proofs.Growing.{priced-old}
 
 abbrev pub IsRootDone : Net → Searched → Type 0
@@ -34,7 +34,7 @@ some-same a b e = cc
 pub root-proved : (n : Net) (form : Form) (s : Searched) (p : Proof) → IsTree n s.tree → IsRootProof n form s p → IsPricedAt n (after s (root_proof p)).tree 0
 root-proved n form s p is r =
     let t = (after s (root_proof p)).tree in
-    let none = no-splits n s.tree is r.is_open.1 in
+    let none = no_splits n s.tree is r.is_open.1 in
     let before : node_bound n s.tree 0 ≡ Some (reach_bound n) = root-bound n s.tree (length s.tree.splits) none
     ∙ ap (λ (o : Option Proof). raised (Some (reach_bound n)) (option_map (shown_by n (box_of n s.tree.splits 0)) o)) r.is_open.0 in
     let least : r.least ≡ reach_bound n = some-same r.least (reach_bound n) (sym r.bounded ∙ before) in

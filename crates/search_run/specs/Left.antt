@@ -1,13 +1,10 @@
 -- How many steps a search has left, at the most.
-use Rattle.std.specs.Prelude.{ℕ, ◌+◌, ◌-◌, ◌*◌, length, Bool, if◌then◌else◌, Option, Some, None, pos, ◌*ℤ◌, int_lt}
+use Rattle.std.specs.Prelude.{ℕ, ◌+◌, ◌-◌, ◌*◌, length, Bool, if◌then◌else◌, Option, Some, None}
 use Rattle.plan_core.specs.declared.plan.Cost.{Cost}
 use Rattle.row_model.specs.Multipliers.{Proof}
 use Rattle.row_model.specs.Trees.{is_cut}
+use Rattle.plan_repair.specs.Choices.{is_less}
 use Rattle.search_core.specs.Searches.{Costed, Searching, searched}
-
--- a cost is less than another one, as fractions
-abbrev pub is_less : Cost → Cost → Bool
-is_less a b = int_lt (pos b.base *ℤ a.num) (pos a.base *ℤ b.num)
 
 abbrev pub counted : Bool → ℕ
 counted b = if b then 1 else 0

@@ -1,5 +1,5 @@
 -- The texts of numbers, written one behind the other.
-use Rattle.std.proofs.Common.{◌≡◌, ℕ, zero, suc, ◌+◌, ◌<◌, ◌⊎◌, inl, inr, List, [], ◌++◌, Option, add-one, append_assoc, arith, sym, ap, ◌∙◌}
+use Rattle.std.proofs.Common.{◌≡◌, ℕ, zero, suc, ◌+◌, ◌<◌, ◌⊎◌, inl, inr, List, [], ◌++◌, Option, add-one, append_assoc, arith, refl, sym, ap, ◌∙◌}
 use Rattle.std.proofs.lemmas.List.{append-nil}
 use Rattle.edge_io.specs.Writing.{behind, TookFront}
 use Rattle.edge_io.proofs.Writes.{behind-then, front-at}
@@ -36,3 +36,8 @@ more-each text i old mid new e f = rw add-one (f ∙ behind-then old mid (each_b
 -- all texts
 pub all-each : (text : ℕ → List ℕ) (i n : ℕ) (old new : Option (List ℕ)) → i ≡ n → new ≡ behind old (each_below text i) → new ≡ behind old (each_below text n)
 all-each text i n old new is e = e ∙ ap (λ (k : ℕ). behind old (each_below text k)) is
+
+-- the same texts
+pub each_below-same : (f g : ℕ → List ℕ) (n : ℕ) → ((i : ℕ) → i < n → f i ≡ g i) → each_below f n ≡ each_below g n
+each_below-same f g zero h = refl
+each_below-same f g (suc n) h = ap (λ (w : List ℕ). w ++ f n) (each_below-same f g n (λ i lt. h i (omega arith))) ∙ ap (λ (w : List ℕ). each_below g n ++ w) (h n (omega arith))

@@ -5,7 +5,7 @@ use Rattle.integers.specs.Sums.{product_below}
 use Rattle.pool_model.specs.Network.{net_of}
 use Rattle.pool_model.specs.Plan.{factor, plan_of}
 use Rattle.plan_core.specs.Views.{shown_plan}
-use Rattle.plan_flows.proofs.Blending.{inflow-plan_of}
+use Rattle.plan_core.proofs.Blends.{inflow-plan_of}
 use Rattle.plan_flows.proofs.Rooms.{room-obeys}
 use Rattle.plan_flows.proofs.means.mean.Goals as goal
 

@@ -12,12 +12,12 @@ use Rattle.pool_cli.proofs.status.write_rows_fault.Goals as goal
 pub returns-in_err-write_whole-clause-wrote : goal.returns-in_err-write_whole-clause-wrote
 returns-in_err-write_whole-clause-wrote g c =
     let p = err_from_is_err_and c.from_residual.result c.from_residual.ensures.1 in
-    rw p.1 (front-first (g.K.Sink.taken c.args.err.now) (codes "9 ") (signed_decimal (pos (faults.number c.args.fault.now))) (g.K.Sink.taken c.write_whole.new.out) c.in_err-write_whole.ensures.wrote)
+    rw p.1 (front-first (g.K.Sink.taken c.args.err.now) (codes " ") (signed_decimal (pos (faults.number c.args.fault.now))) (g.K.Sink.taken c.write_whole.new.out) c.in_err-write_whole.ensures.wrote)
 
 pub returns-clause-wrote : goal.returns-clause-wrote
 returns-clause-wrote g c =
     let fits : FitsSigned w128 c.from.result = search rules in
     let number : to_z w128 (of_z w128 c.from.result) ≡ pos (faults.number c.args.fault.now) = to_z-of_z w128 c.from.result fits ∙ c.from.ensures ∙ ap pos c.number.ensures in
     let wrote = subst (λ (z : ℤ). Wrote c.write_number.result (g.K.Sink.taken c.write_whole.new.out) (signed_decimal z) (g.K.Sink.taken c.write_number.new.out)) number c.write_number.ensures.wrote in
-    wrote-behind c.write_number.result (g.K.Sink.taken c.args.err.now) (codes "9 ") (g.K.Sink.taken c.write_whole.new.out)
+    wrote-behind c.write_number.result (g.K.Sink.taken c.args.err.now) (codes " ") (g.K.Sink.taken c.write_whole.new.out)
     (signed_decimal (pos (faults.number c.args.fault.now))) (g.K.Sink.taken c.write_number.new.out) c.in_ok-write_whole.ensures.wrote wrote

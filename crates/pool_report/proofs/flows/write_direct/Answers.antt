@@ -1,4 +1,4 @@
-use Rattle.std.proofs.Common.{◌≡◌, ℕ, ℤ, pos, FitsSigned, rules, ap, ◌∙◌}
+use Rattle.std.proofs.Common.{◌≡◌, ℕ, pos, FitsSigned, rules, ap, ◌∙◌}
 use Rattle.std.proofs.lemmas.Int.{to_z-of_z}
 use mir.Syntax.{w128}
 use Rattle.edge_io.proofs.Writes.{wrote-same}
@@ -18,7 +18,7 @@ returns-clause-wrote g c =
     let plan = plan_of n (shown_plan c.args.plan.now) in
     let fits : FitsSigned w128 c.units-flow.result = search rules in
     let flow : c.units-flow.result ≡ units plan (plan.direct c.args.arc) = c.units-flow.ensures ∙ ap (λ (z : ℕ). rounded_down (pos z) plan.base) c.direct_flow.ensures.flow in
-    let from : c.source_name.result.now ≡ source_name c.args.net.now (n.direct_source c.args.arc) = c.source_name.ensures ∙ ap (source_name c.args.net.now) c.direct-source.ensures.source in
-    let to : c.product_name.result.now ≡ product_name c.args.net.now (n.direct_product c.args.arc) = c.product_name.ensures ∙ ap (product_name c.args.net.now) c.direct-source.ensures.product in
-    wrote-same c.write_flow.result (g.K.Sink.taken c.args.out.now) (flow_line c.units-flow.result c.source_name.result.now c.product_name.result.now) (direct_line c.args.net.now plan c.args.arc)
+    let from : c.name-from.result.now ≡ source_name c.args.net.now (n.direct_source c.args.arc) = c.name-from.ensures ∙ ap (source_name c.args.net.now) c.direct-source.ensures.source in
+    let to : c.name-to.result.now ≡ product_name c.args.net.now (n.direct_product c.args.arc) = c.name-to.ensures ∙ ap (product_name c.args.net.now) c.direct-source.ensures.product in
+    wrote-same c.write_flow.result (g.K.Sink.taken c.args.out.now) (flow_line c.units-flow.result c.name-from.result.now c.name-to.result.now) (direct_line c.args.net.now plan c.args.arc)
     (g.K.Sink.taken c.write_flow.new.out) (flow_line-same _ _ _ _ _ _ flow from to) (simp to_z-of_z at c.write_flow.ensures.wrote)

@@ -23,5 +23,5 @@ returns-clause-wrote g c =
     (simp to_z-of_z at c.room-more.ensures)
     ∙ ap (λ (z : ℤ). rounded_down (pos base *ℤ z -ℤ pos c.pool_flow.result) base) c.pool_max.ensures
     ∙ ap (λ (z : ℕ). rounded_down (pos (base * most) -ℤ pos z) base) c.pool_flow.ensures.flow in
-    wrote-same c.write_slack.result (g.K.Sink.taken c.args.out.now) (slack_line c.room-more.result c.pool_name.result.now) (pool_slack_line c.args.net.now plan c.args.pool)
-    (g.K.Sink.taken c.write_slack.new.out) (slack_line-same _ _ _ _ more c.pool_name.ensures) (simp to_z-of_z at c.write_slack.ensures.wrote)
+    wrote-same c.write_slack.result (g.K.Sink.taken c.args.out.now) (slack_line c.room-more.result c.name.result.now) (pool_slack_line c.args.net.now plan c.args.pool)
+    (g.K.Sink.taken c.write_slack.new.out) (slack_line-same _ _ _ _ more c.name.ensures) (simp to_z-of_z at c.write_slack.ensures.wrote)

@@ -3,7 +3,7 @@ use Rattle.std.proofs.lemmas.Result.{err_from_is_err_and}
 use Rattle.edge_io.proofs.Writes.{front-first, wrote-behind}
 use Rattle.pool_model.specs.Network.{net_of}
 use Rattle.box_space.specs.Views.{shown_box}
-use Rattle.program_text.specs.Pieces.{each_below}
+use Rattle.text_pieces.specs.Pieces.{each_below}
 use Rattle.program_text.specs.Lines.{row_lines, path_line}
 use Rattle.program_text.specs.Programs.{first_of_q, exact_rows_of_q}
 use Rattle.program_text.proofs.formulation.write_q.Goals as goal

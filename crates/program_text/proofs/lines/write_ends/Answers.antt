@@ -5,7 +5,7 @@ use Rattle.row_model.specs.Variables.{variables}
 use Rattle.box_space.specs.Views.{shown_box}
 use Rattle.program_text.specs.Lines.{ends_text}
 use Rattle.edge_io.proofs.Counting.{grows-then}
-use Rattle.program_text.proofs.Each.{front-each, more-each}
+use Rattle.text_pieces.proofs.Each.{front-each, more-each}
 use Rattle.program_text.proofs.lines.write_ends.Goals as goal
 
 pub returns-in_err-write_ends_of-clause-wrote : goal.returns-in_err-write_ends_of-clause-wrote

@@ -3,7 +3,7 @@ use Rattle.edge_io.specs.Counts.{Grows}
 use Rattle.edge_io.specs.Writing.{behind}
 use Rattle.pool_model.specs.Network.{net_of}
 use Rattle.box_space.specs.Views.{shown_box}
-use Rattle.program_text.specs.Pieces.{each_below}
+use Rattle.text_pieces.specs.Pieces.{each_below}
 use Rattle.program_text.specs.Lines.{ends_text}
 use Rattle.program_text.proofs.lines.write_ends.Given as goal
 

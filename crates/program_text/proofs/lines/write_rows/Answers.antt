@@ -3,7 +3,7 @@ use Rattle.std.proofs.lemmas.Result.{err_from_is_err_and}
 use Rattle.pool_model.specs.Network.{net_of}
 use Rattle.box_space.specs.Views.{shown_box}
 use Rattle.program_text.specs.Lines.{row_line}
-use Rattle.program_text.proofs.Each.{front-each}
+use Rattle.text_pieces.proofs.Each.{front-each}
 use Rattle.program_text.proofs.lines.write_rows.Goals as goal
 
 pub returns-in_err-write_row-clause-wrote : goal.returns-in_err-write_row-clause-wrote

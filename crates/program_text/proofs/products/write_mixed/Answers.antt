@@ -2,7 +2,7 @@ use Rattle.std.proofs.Common.{ℕ, ◌*◌, ◌<◌, ap, arith}
 use Rattle.std.proofs.lemmas.Result.{err_from_is_err_and}
 use Rattle.pool_model.specs.Network.{net_of}
 use Rattle.program_text.specs.Lines.{mixed_line}
-use Rattle.program_text.proofs.Each.{front-each}
+use Rattle.text_pieces.proofs.Each.{front-each}
 use Rattle.program_text.proofs.products.write_mixed.Goals as goal
 
 pub returns-in_err-write_mixed_at-clause-wrote : goal.returns-in_err-write_mixed_at-clause-wrote

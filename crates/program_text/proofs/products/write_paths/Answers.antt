@@ -3,7 +3,7 @@ use Rattle.std.proofs.lemmas.Result.{err_from_is_err_and}
 use Rattle.pool_model.specs.Network.{net_of}
 use Rattle.row_model.specs.Variables.{path_count}
 use Rattle.program_text.specs.Lines.{path_line}
-use Rattle.program_text.proofs.Each.{front-each}
+use Rattle.text_pieces.proofs.Each.{front-each}
 use Rattle.program_text.proofs.products.write_paths.Goals as goal
 
 pub returns-in_err-write_path-clause-wrote : goal.returns-in_err-write_path-clause-wrote

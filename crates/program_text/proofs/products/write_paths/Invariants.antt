@@ -2,7 +2,7 @@ use Rattle.std.proofs.Common.{◌≡◌}
 use Rattle.edge_io.specs.Counts.{Grows}
 use Rattle.edge_io.specs.Writing.{behind}
 use Rattle.pool_model.specs.Network.{net_of}
-use Rattle.program_text.specs.Pieces.{each_below}
+use Rattle.text_pieces.specs.Pieces.{each_below}
 use Rattle.program_text.specs.Lines.{path_line}
 use Rattle.program_text.proofs.products.write_paths.Given as goal
 

@@ -1,5 +1,7 @@
-use Rattle.std.proofs.Common.{sym, ◌∙◌, arith}
+use Rattle.std.proofs.Common.{arith}
+use Rattle.pool_model.specs.Network.{net_of}
 use Rattle.box_tree.specs.Views.{shown_entry}
+use Rattle.node_journal.proofs.ShortPayloads.{short_payload, narrow_entry}
 use Rattle.search_core.specs.Searches.{searched}
 use Rattle.recorded_run.proofs.session.Session.record.Goals as goal
 
@@ -7,9 +9,10 @@ pub append-requires-clause-short : goal.append-requires-clause-short
 append-requires-clause-short g c =
     omega (
       arith,
-      c.largest_payload-largest.ensures.enough (searched c.args.self.now.search) (shown_entry c.args.entry) c.requires.in_order,
-      c.largest_payload-largest.ensures.value ∙ sym c.requires.session.largest,
+      short_payload (net_of c.args.net.now) (searched c.args.self.now.search) (shown_entry c.args.entry) c.requires.in_order,
+      c.requires.session.largest,
     )
 
 pub append-requires-clause-narrow : goal.append-requires-clause-narrow
-append-requires-clause-narrow g c = c.largest_payload-largest.ensures.narrow (searched c.args.self.now.search) (shown_entry c.args.entry) c.requires.in_order
+append-requires-clause-narrow g c =
+    narrow_entry (net_of c.args.net.now) (searched c.args.self.now.search) (shown_entry c.args.entry) c.requires.session.search.limited c.requires.in_order
