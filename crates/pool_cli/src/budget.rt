@@ -12,9 +12,7 @@ use blend_network::Network;
 use cli_words::SolveWords;
 use row_book::rows;
 use search_run::Orders;
-
-/// How many splits there may be.
-const MOST_SPLITS: u64 = 20_000;
+use split_tree::MAX_SPLITS;
 
 /// How many rows a certificate may speak of, node by node.
 const MOST_ROWS: u64 = 32_000_000;
@@ -43,5 +41,5 @@ fn is_within_budget(net: &Network, nodes: u64) -> bool
     ensures { IsTrue result ↔ IsWithinBudget (net_of net.now) nodes }
 {
     let rows = rows(net);
-    nodes <= MOST_SPLITS && (2 * nodes + 1) * u64::from(rows) <= MOST_ROWS
+    nodes <= MAX_SPLITS as u64 && (2 * nodes + 1) * u64::from(rows) <= MOST_ROWS
 }

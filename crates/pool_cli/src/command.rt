@@ -32,7 +32,7 @@ use std::alloc::Global;
 /// `solve NET` prints the certificate of the network in the file NET; with `--journal FILE` it goes on from the entries in that file,
 /// and records each entry there before it is taken. `check NET CERT` prints what the certificate in the file CERT says of the network in
 /// the file NET, or why it is refused, and `report NET CERT` tells it to a person. `formulate NET` prints an exact program of the
-/// network in the file NET, and `make N` the network of the number N.
+/// network in the file NET, `make N` the network of the number N, and `trial N` how a search of that network went.
 pub fn run<S: Shelf, K: Sink, D: Disk>(
     alloc: Global,
     words: &[String],
@@ -58,8 +58,8 @@ pub fn run<S: Shelf, K: Sink, D: Disk>(
     requires journal { (s : Solving) (file : List ℕ) → Asks (map string_bytes words.now) (solve s) → s.journal ≡ Some file → IsTrue (D.admits disk.old file) }
 
     // What the sink took: under `Closed`, `Stopped`, `Stuck`, `Infeasible` and `Undecided` the text of a certificate that answers the
-    // words, under `Accepted` and `Refused` the line on the certificate that they name, under `Done` the report, the program or the network, under
-    // `WriteFault` a front of such a text, and under every other status nothing.
+    // words, under `Accepted` and `Refused` the line on the certificate that they name, under `Done` the report, the program, the network
+    // or the four lines of the trial, under `WriteFault` a front of such a text, and under every other status nothing.
     ensures took { (asked : Asked) → Asks (map string_bytes words.now) asked → Took (AnswersAs (S.files shelf.old) asked) result (K.taken out.old) (K.taken out.new) }
     ensures unanswered { IsUnanswered result → K.taken out.new ≡ K.taken out.old }
 

@@ -171,17 +171,27 @@ fn write_reason<K: Sink>(cause: &ReadNet, err: &mut K) -> Result<(), WriteFault>
     ensures faults_grow { Grows (K.faults err.old) (K.faults err.new) }
 {
     match cause {
-        ReadNet::Net(fault) => write_rows_fault(fault, err),
+        ReadNet::Net(fault) => write_refused_rows(cause.number(), fault, err),
         cause => write_number(err, i128::from(cause.number())),
     }
 }
 
-/// Writes the number of that cause, and behind it the number of the rows' fault.
-fn write_rows_fault<K: Sink>(fault: &NetFault, err: &mut K) -> Result<(), WriteFault>
-    ensures wrote { Wrote result (K.taken err.old) (codes "9 " ++ signed_decimal (pos (faults.number fault.now))) (K.taken err.new) }
+/// Writes the number of the cause, and behind it the number of the rows' fault.
+fn write_refused_rows<K: Sink>(cause: u32, fault: &NetFault, err: &mut K) -> Result<(), WriteFault>
+    ensures wrote { Wrote result (K.taken err.old) (signed_decimal (pos cause) ++ (codes " " ++ signed_decimal (pos (faults.number fault.now)))) (K.taken err.new) }
     ensures failed { OnErr result (Rose (K.faults err.old) (K.faults err.new)) }
     ensures faults_grow { Grows (K.faults err.old) (K.faults err.new) }
 {
-    write_whole(err, b"9 ")?;
+    write_number(err, i128::from(cause))?;
+    write_rows_fault(fault, err)
+}
+
+/// Writes a space and the number of the rows' fault.
+fn write_rows_fault<K: Sink>(fault: &NetFault, err: &mut K) -> Result<(), WriteFault>
+    ensures wrote { Wrote result (K.taken err.old) (codes " " ++ signed_decimal (pos (faults.number fault.now))) (K.taken err.new) }
+    ensures failed { OnErr result (Rose (K.faults err.old) (K.faults err.new)) }
+    ensures faults_grow { Grows (K.faults err.old) (K.faults err.new) }
+{
+    write_whole(err, b" ")?;
     write_number(err, i128::from(fault.number()))
 }
