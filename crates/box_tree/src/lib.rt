@@ -10,14 +10,16 @@
 //! `specs/Counts.antt` what is counted; `specs/EntryFaults.antt` says when a fault holds, and
 //! `specs/Kept.antt` when a tree is a network's. The splits and the boxes of nodes are those of `split_tree`. Which leaf to split,
 //! and where, is left to the crates above.
+//!
+//! Proofs above may cite, of `proofs/`: `Improving` (kept costs compare as the plans do, and what is kept with a cheaper plan is a
+//! network's again), `Refusals` (no fault comes before the first one that is found, and an entry with a fault is not in order),
+//! `Growing` (the bounds of nodes after a split) and `Rooting` (a tree whose root is not cut has no splits).
 #![tactic(auto)]
 
 mod apply;
 mod entry;
 mod leaves;
 mod splitting;
-#[cfg(test)]
-mod tests;
 mod tree;
 
 pub use entry::{Entry, EntryFault};

@@ -20,13 +20,13 @@
 //!
 //! `specs/Rows.antt` says what a view is, `specs/Rules.antt` what is kept of a rule and what a pick is, `specs/Known.antt` which row
 //! the four rules answer. Which leaf is cut, and how the rows of its view come about, is left to the crates above.
+//!
+//! Proofs above may cite `proofs/Pushed.antt`: the rows of a view, with one more behind them.
 #![tactic(auto)]
 
 mod known;
 mod pick;
 mod rule;
-#[cfg(test)]
-mod tests;
 mod view;
 
 pub use known::{fewest, first_open, most_violated, widest};

@@ -10,6 +10,10 @@
 //! It rests on the text, on the rules of plans and on the rows of the relaxations, and on nothing of the search that made
 //! the certificate. `specs/Refusals.antt` says when each refusal comes, `specs/Answers.antt` what an answer says of a text, and
 //! `specs/Streams.antt` what one says of a file.
+//!
+//! Proofs above may cite, of `proofs/`: `Followed` (what a valid certificate claims follows), `Order` (the first cause to refuse a
+//! certificate, and that a valid one has none), `Streaming` (the answer of a stream, from what was walked) and `Lowest` (a tree's
+//! bound is at least the reach bound).
 #![tactic(auto)]
 
 mod checking;
@@ -30,6 +34,3 @@ pub use laws::valid_law;
 pub use refusal::Refusal;
 pub use stream::{StreamRefusal, check_stream};
 pub use verdict::Verdict;
-
-#[cfg(test)]
-mod tests;

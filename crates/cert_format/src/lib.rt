@@ -8,6 +8,9 @@
 //! pieces.
 //!
 //! Whether what a certificate claims is true is left to the checker; `specs/Valid.antt` says when it is.
+//!
+//! Proofs above may cite, of `proofs/`: `LineLaws` and `CertLaws` (each line, and the whole, is read as it is spelled) and `Outcomes`
+//! (what the readers come to; no certificate's text begins another's).
 #![tactic(auto)]
 
 mod certificate;
@@ -24,6 +27,3 @@ pub use laws::text_law;
 pub use ranges::cert_law;
 pub use reading::read_cert;
 pub use writing::write_cert;
-
-#[cfg(test)]
-mod tests;

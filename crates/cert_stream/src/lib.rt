@@ -6,6 +6,9 @@
 //! more: so an item is read by a pure function of these bytes.
 //!
 //! Whether a certificate is true is left to the checker, which judges each item as it comes.
+//!
+//! Proofs above may cite, of `proofs/`: `Calls` (calls that follow on one another, put together) and `Runs` (what calls from the
+//! start of a file say of the file).
 #![tactic(auto)]
 
 mod cert_reader;
@@ -18,6 +21,3 @@ pub use cert_reader::CertReader;
 pub use fault::ItemFault;
 pub use items::Item;
 pub use laws::{run_law, stream_law};
-
-#[cfg(test)]
-mod tests;

@@ -9,7 +9,8 @@
 //! readers as functions on lists of bytes, which the contracts name. `proofs/Laws.antt` puts them together: a reader that is
 //! made of readers of formats reads a format, and its fault is at the faulty line.
 //! Proofs above may cite it, and beside it `PieceLaws` (words and numbers within a line), `NumberLaws` (the numbers of each type)
-//! and `Each` (a count of items).
+//! and `Each` (a count of items). Also `LineLemmas` (lines, one behind another), `WindowLaws` (a reader that sees only the first
+//! bytes of a text reads what it reads in the whole, if no spelling is longer) and `Windows` (how many bytes words and numbers take).
 #![tactic(auto)]
 
 mod fault;

@@ -22,6 +22,3 @@ mod values;
 
 pub use reading::read_words;
 pub use request::{Request, RuleName, SolveWords, WordsFault};
-
-#[cfg(test)]
-mod tests;

@@ -31,6 +31,3 @@ pub use fail_disk::FailDisk;
 pub use file_disk::FileDisk;
 pub use mem_disk::MemDisk;
 pub use wild_disk::WildDisk;
-
-#[cfg(test)]
-mod tests;

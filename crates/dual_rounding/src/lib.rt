@@ -13,18 +13,17 @@
 //! `specs/Programs.antt` says what a program is, `specs/Price.antt` and `specs/Tried.antt` which proofs are tried, and
 //! `specs/Answers.antt` what the answer is. How a program is solved is left to `lp_simplex`, which boxes are looked at to the
 //! layer above.
+//!
+//! Proofs above may cite, of `proofs/`: `FormRows` (the rows of a form, by rising number) and `Priced` (a bound that rounding raised
+//! is at least what the price proof shows).
 #![tactic(auto)]
 
-#[cfg(test)]
-mod instances;
 mod laws;
 mod multipliers;
 mod price;
 mod program;
 mod relaxation;
 mod rounding;
-#[cfg(test)]
-mod tests;
 
 pub use laws::price_law;
 pub use program::lp_of;

@@ -24,7 +24,7 @@ mod std_sink;
 mod writing;
 
 pub use fault::{Memory, OpenFault, ReadFailed, ShelfFault, SinkFailed, WriteFault};
-pub use file_shelf::FileShelf;
+pub use file_shelf::{FileShelf, read_once};
 pub use mem_shelf::MemShelf;
 pub use mem_sink::MemSink;
 pub use shelf::Shelf;
@@ -32,6 +32,3 @@ pub use sink::Sink;
 pub use slice_shelf::SliceShelf;
 pub use std_sink::StdSink;
 pub use writing::{write_number, write_whole};
-
-#[cfg(test)]
-mod tests;

@@ -8,6 +8,8 @@
 //!   mean lies between its limits.
 //!
 //! `specs/Flows.antt` says which plan flows stand for, and `specs/Qualities.antt` what they bring. No call takes memory.
+//!
+//! Proofs above may cite `proofs/Totals.antt`: sums over the numbers of a key, with one term more, and how large they are.
 #![tactic(auto)]
 
 mod carried;

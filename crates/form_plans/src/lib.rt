@@ -20,8 +20,3 @@ mod slices;
 
 pub use fault::FormFault;
 pub use flow_checks::flows_fit;
-
-#[cfg(test)]
-mod quality_tests;
-#[cfg(test)]
-mod tests;

@@ -6,6 +6,8 @@
 //! the set as the list of its leaves, in order (`specs/Order.antt`).
 //!
 //! Which leaves belong into the set is left to the layer above.
+//!
+//! Proofs above may cite `proofs/Sets.antt`: what a set has with a leaf more, or with one less.
 #![tactic(auto)]
 
 mod leaf;

@@ -17,6 +17,10 @@
 //! The layer above may use the clauses of these calls, and the laws of `laws.rt`: a file stands for one list, one that holds a
 //! list is one that the journal may leave, and entries in order are taken back. It is left to it to attach the file, to make the
 //! entries, and to open the journal again after a failure.
+//!
+//! Proofs above may cite, of `proofs/`: `Births` (what a crash leaves while a journal is born), `Decided` (a file has one fault at
+//! most, and none where it stands for entries), `Runs` (calls of a disk, one after another) and `ShortPayloads` (how long the payloads
+//! of entries in order are, and that their counts fit).
 #![tactic(auto)]
 
 mod birth;
@@ -32,8 +36,6 @@ mod page;
 mod reading;
 mod records;
 mod synced;
-#[cfg(test)]
-mod tests;
 mod writing;
 
 pub use fault::JournalFault;

@@ -9,6 +9,10 @@
 //! those that obey, with its cost. They alone take memory.
 //!
 //! Which plan to write is left to the crates above, and so is the text of a plan.
+//!
+//! Proofs above may cite, of `proofs/`: `Blends` (what flows in the plan that a written plan stands for and of what quality, and that
+//! the check by pool weights is its blending law), `Supply` (what all sources send out flows into all products, and how large a plan's
+//! numbers are), `Firsts` (the first feed of a pool) and `Tables` (sums by node, with one arc more).
 #![tactic(auto)]
 
 mod cheapest;
@@ -20,8 +24,6 @@ mod plan;
 mod qualities;
 mod starting;
 mod sums;
-#[cfg(test)]
-mod tests;
 
 pub use cheapest::{Start, cheapest_start};
 pub use check::check_plan;

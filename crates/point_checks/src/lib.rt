@@ -6,6 +6,8 @@
 //!
 //! `specs/Slices.antt` says which point of `program_model` the lists stand for, and `specs/Checks.antt` what the tests look at,
 //! part by part. No call takes memory.
+//!
+//! Proofs above may cite `proofs/Tests.antt`: tests of a fact at each number below a count, and of facts that are the same.
 #![tactic(auto)]
 
 mod prop_checks;

@@ -5,11 +5,16 @@
 //!   by number, and its limits), `Plan` (when a plan obeys and what it costs; written plans), `Starting` (the plans that the
 //!   solver tries first, and the reach bound), `Paths` and `Limits` (the paths, and the limits that are set, as lists), `Claim` (what a
 //!   certificate says of every plan). `Worked` has examples.
-//! - The laws: `reach_bound_law`, `paths_law` and `starting_plans_law`. A proof cites the lemmas behind them, in `proofs/`.
+//! - The laws: `reach_bound_law`, `paths_law` and `starting_plans_law`.
 //! - Worked facts, which the checker computes from the definitions: `worked_plans` (which plans of known networks obey, and what
 //!   they cost), `worked_rules` (each rule broken by the least amount), `worked_bounds`.
 //!
 //! It leaves to others: reading files, weights of pools without products over all pools, and everything that searches.
+//!
+//! Proofs above may cite, of `proofs/`: `Reach` (no plan that obeys costs less than the reach bound), `Paths` and `Limits` (what the
+//! two lists have, and how many), `Starts` and `StartOrder` (the starting plans: what they cost, when they obey, and each by its
+//! number), `Shipments` (plans that send one amount from one source to one product) and `AllBelow` (tests of each number below a
+//! count).
 #![tactic(auto)]
 
 mod laws;

@@ -7,6 +7,9 @@
 //! `plan_law` says that the plan of a point, where its bases are within the limits, is well written, has the point's flows and its
 //! cost, and obeys. `least_law` says that every written plan with the point's flows has multiples of the plan's bases: where one of
 //! them passes its limit, no written plan has the point's flows.
+//!
+//! Proofs above may cite, of `proofs/`: `Bounds` (how large the numbers of points are) and `PlanFlows` (the plan of a point has the
+//! point's flows, and obeys).
 #![tactic(auto)]
 
 mod laws;

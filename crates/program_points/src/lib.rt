@@ -19,6 +19,3 @@ pub mod q;
 mod qualities;
 
 pub use points::{PropPoint, QualPoint};
-
-#[cfg(test)]
-mod tests;

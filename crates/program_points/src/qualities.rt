@@ -5,7 +5,8 @@ ghost use Rattle.integers.specs.Numbers.{tabulate};
 ghost use Rattle.pool_model.specs.Network.{net_of};
 ghost use Rattle.pool_model.specs.Plan.{IsWritten, Obeys, plan_of, written_out};
 ghost use Rattle.plan_core.specs.Views.{shown_plan};
-ghost use Rattle.program_points.specs.Written.{mixed_of, quality_of, weighed};
+ghost use Rattle.plan_core.specs.Weighed.{weighed};
+ghost use Rattle.program_points.specs.Written.{mixed_of, quality_of};
 
 use blend_network::{Key, Network};
 use edge_io::Memory;

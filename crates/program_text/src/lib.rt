@@ -20,8 +20,3 @@ mod terms;
 
 pub use fault::FormulationFault;
 pub use formulation::write_formulation;
-
-#[cfg(test)]
-mod expected;
-#[cfg(test)]
-mod tests;

@@ -5,7 +5,7 @@ ghost use Rattle.edge_io.specs.Counts.{Grows, Rose};
 ghost use Rattle.edge_io.specs.Writing.{Wrote};
 ghost use Rattle.pool_model.specs.Network.{net_of};
 ghost use Rattle.row_model.specs.Variables.{path_count};
-ghost use Rattle.program_text.specs.Pieces.{each_below};
+ghost use Rattle.text_pieces.specs.Pieces.{each_below};
 ghost use Rattle.program_text.specs.Lines.{mixed_line, path_line, product_line};
 
 use crate::names::{Name, Symbol, cells, in_grid, named};

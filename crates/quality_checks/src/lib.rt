@@ -5,6 +5,8 @@
 //!
 //! `specs/Slices.antt` says which point of `program_model` the lists stand for, and `specs/Checks.antt` what the tests look at,
 //! part by part. No call takes memory.
+//!
+//! Proofs above may cite `proofs/QualPoints.antt`: what the tests of a point show of it, and how large its numbers are.
 #![tactic(auto)]
 
 mod checks;

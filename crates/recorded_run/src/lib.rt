@@ -6,14 +6,14 @@
 //!
 //! `specs/Sessions.antt` says what stands on the disk between two steps, and which files a crash leaves. What the steps are, is said in
 //! `search_run`, and what a journal is, in `node_journal`. The layer above attaches the file, and prints what was found.
+//!
+//! Proofs above may cite `proofs/Causes.antt`: a file has one cause to be refused at most, and none where its entries are in order.
 #![tactic(auto)]
 
 mod fault;
 mod replay;
 mod rules;
 mod session;
-#[cfg(test)]
-mod tests;
 
 pub use fault::RunFault;
 pub use rules::run_recorded;

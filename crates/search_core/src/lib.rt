@@ -29,6 +29,9 @@
 //!   gets the greatest number.
 //!
 //! Trees and their entries are those of `box_tree`, programs and proofs those of `dual_rounding`, cut rules those of `branching`.
+//!
+//! Proofs above may cite, of `proofs/`: `FormCoords` (the rows of a view, one coordinate of the form after another) and `Starting`
+//! (whether the cheapest starting plan is better than what a tree has).
 #![tactic(auto)]
 
 mod bench;
@@ -44,8 +47,6 @@ mod score;
 mod search;
 mod splitting;
 mod square_root;
-#[cfg(test)]
-mod tests;
 mod violation;
 
 pub use next::Next;

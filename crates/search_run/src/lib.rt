@@ -11,14 +11,16 @@
 //!
 //! What the next step is, is left to `search_core`; which row a rule picks, to `branching`; what is printed of a tree, to the crates
 //! above.
+//!
+//! Proofs above may cite, of `proofs/`: `Stepping` (what comes next is a step of the run, or its end), `Nearer` (each step leaves
+//! fewer steps), `Covering` (no starting plan is better than the best plan), `Ending` (what holds at the end of a run) and `Proofs`
+//! (which nodes there are after an entry, and which of them are cut).
 #![tactic(auto)]
 
 mod driving;
 mod ended;
 mod orders;
 mod rules;
-#[cfg(test)]
-mod tests;
 
 pub use driving::run_search;
 pub use ended::{Ended, Outcome};

@@ -6,6 +6,9 @@
 //!
 //! The layer above may use the clauses of these, and `each_below` of `specs/Pieces.antt` with its lemmas for a line of each number. It leaves to others what a
 //! line says.
+//!
+//! Proofs above may cite, of `proofs/`: `Each` (the texts of numbers, written one behind the other) and `Floors` (the number that
+//! rounding means is the only one).
 #![tactic(auto)]
 
 mod decimals;

@@ -10,8 +10,6 @@
 
 mod certificate;
 mod laws;
-#[cfg(test)]
-mod tests;
 
 pub use certificate::certificate_of;
 pub use laws::found_law;

@@ -9,6 +9,3 @@
 mod trial;
 
 pub use trial::{Trial, write_trial};
-
-#[cfg(test)]
-mod tests;

@@ -1,12 +1,10 @@
 //! `check` of a certificate with as many splits as there may be, and with one more. What else is refused stands in `worked_runs`.
 
-use disk_model::MemDisk;
 use edge_io::MemSink;
-use pool_cli::run;
 use std::alloc::{AllocError, Global};
 use std::test::Fail;
 use worked_networks::TWO_FEEDS;
-use worked_runs::{shelf_of, words_of};
+use worked_runs::ended_on;
 
 /// The zero plan of two sources that feed a pool, over so many splits: number t cuts node 2t at t + 1 millionths of what flows from the
 /// pool to the product.
@@ -23,11 +21,8 @@ fn chain(alloc: Global, splits: u32) -> Result<String, AllocError> {
 
 /// The line of the check on that certificate.
 fn line_on(alloc: Global, splits: u32, line: &mut MemSink) -> Result<u8, AllocError> {
-    let words = words_of(alloc, "check net cert")?;
     let text = chain(alloc, splits)?;
-    let mut shelf = shelf_of(alloc, TWO_FEEDS, text.as_bytes())?;
-    let mut disk = MemDisk::new(alloc, Vec::new(alloc));
-    Ok(run(alloc, &words, &mut shelf, line, &mut disk).code())
+    Ok(ended_on(alloc, "check net cert", TWO_FEEDS, text.as_bytes(), line)?.code())
 }
 
 #[test]

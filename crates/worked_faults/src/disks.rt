@@ -4,11 +4,13 @@ ghost use Rattle.std.specs.Prelude.{IsTrue};
 
 use disk_model::{Disk, FailDisk, MemDisk, WildDisk};
 use edge_io::MemSink;
-use pool_cli::{Status, run, write_message};
+use pool_cli::{Status, write_message};
 use std::alloc::{AllocError, Global};
 use std::test::Fail;
+use worked_certificates::FULL;
+use worked_devices::disk_of;
 use worked_networks::ONE_DIRECT;
-use worked_runs::{FULL, disk_of, shelf_of, words_of};
+use worked_runs::{ended, shelf_of};
 
 /// How many calls of the disk a run makes on an empty file: attach, sync, len, eight of a birth and four of an entry.
 const CALLS: u64 = 15;
@@ -17,9 +19,8 @@ const CALLS: u64 = 15;
 fn solved<D: Disk>(alloc: Global, disk: &mut D, sink: &mut MemSink) -> Result<Status, AllocError>
     requires { (name : _) → IsTrue (D.admits disk.old name) }
 {
-    let words = words_of(alloc, "solve net --journal j")?;
     let mut shelf = shelf_of(alloc, ONE_DIRECT, b"")?;
-    Ok(run(alloc, &words, &mut shelf, sink, disk))
+    ended(alloc, "solve net --journal j", &mut shelf, sink, disk)
 }
 
 /// Whether a run over this disk prints the certificate.

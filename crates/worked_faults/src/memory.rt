@@ -4,11 +4,11 @@
 use super::sinks::LINE;
 use disk_model::MemDisk;
 use edge_io::MemSink;
-use pool_cli::run;
 use std::alloc::{AllocError, Global};
 use std::test::Fail;
+use worked_certificates::{FULL, TREE};
 use worked_networks::{HAVERLY_1, ONE_DIRECT, TWO_FEEDS};
-use worked_runs::{FULL, TREE, shelf_of, words_of};
+use worked_runs::{ended, shelf_of};
 
 /// The line on `TREE`.
 const TREE_LINE: &str = "accepted gap cost 0 base 1 bound -300000000000000 gap 300000000000000\n";
@@ -22,9 +22,8 @@ fn code_of(
     sink: &mut MemSink,
     disk: &mut MemDisk,
 ) -> Result<u8, AllocError> {
-    let words = words_of(alloc, asked)?;
     let mut shelf = shelf_of(alloc, network, certificate)?;
-    Ok(run(alloc, &words, &mut shelf, sink, disk).code())
+    Ok(ended(alloc, asked, &mut shelf, sink, disk)?.code())
 }
 
 /// Whether a fault of this code may leave this in the sink, where the whole text is to be written.

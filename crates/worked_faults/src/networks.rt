@@ -1,20 +1,15 @@
 //! `solve` on network files that mean harm: brackets, numbers at the ends of their ranges, odd spellings, names that are none.
 
-use disk_model::MemDisk;
 use edge_io::MemSink;
-use pool_cli::run;
 use std::alloc::{AllocError, Global};
 use std::test::Fail;
 use worked_networks::ONE_DIRECT;
-use worked_runs::{shelf_of, words_of};
+use worked_runs::ended_on;
 
 /// The status of `solve net` over a file of this text.
 fn status_of(alloc: Global, network: &str) -> Result<String, AllocError> {
-    let words = words_of(alloc, "solve net")?;
-    let mut shelf = shelf_of(alloc, network, b"")?;
     let mut sink = MemSink::new(alloc, Vec::new(alloc));
-    let mut disk = MemDisk::new(alloc, Vec::new(alloc));
-    let status = run(alloc, &words, &mut shelf, &mut sink, &mut disk);
+    let status = ended_on(alloc, "solve net", network, b"", &mut sink)?;
     format!(in alloc; "{status:?}")
 }
 

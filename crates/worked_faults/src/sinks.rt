@@ -1,12 +1,11 @@
 //! Runs over a sink that takes so many bytes and no more, for every number of bytes below the text's length.
 
-use disk_model::MemDisk;
 use edge_io::MemSink;
-use pool_cli::run;
-use std::alloc::{AllocError, Global};
+use std::alloc::Global;
 use std::test::Fail;
+use worked_certificates::FULL;
 use worked_networks::ONE_DIRECT;
-use worked_runs::{FULL, shelf_of, words_of};
+use worked_runs::ended_on;
 
 /// The line on the certificate, and what a person reads of it.
 pub(crate) const LINE: &str =
@@ -20,26 +19,18 @@ const REPORT: &str =
 const PROGRAM: &str =
     "program pq\nmin z0 -3000000\nends z0 0 100000000\nrow 0 ge 100000000 z0 -1\nrow 1 ge 100000000 z0 -1\nrow 2 ge 0 z0 1\nrow 4 ge 0\nend\n";
 
-/// The code of these words over a sink.
-fn code_over(alloc: Global, asked: &str, sink: &mut MemSink) -> Result<u8, AllocError> {
-    let words = words_of(alloc, asked)?;
-    let mut shelf = shelf_of(alloc, ONE_DIRECT, FULL.as_bytes())?;
-    let mut disk = MemDisk::new(alloc, Vec::new(alloc));
-    Ok(run(alloc, &words, &mut shelf, sink, &mut disk).code())
-}
-
 /// Whether a sink that is full before the text's end has exactly the front that it has room for, and one that is full at the end all
 /// of it.
 fn is_cut_at_each_byte(alloc: Global, asked: &str, text: &str) -> Result<bool, Fail> {
     for room in 0..text.len() {
         let mut sink = MemSink::limit(alloc, room as u64)?;
-        let code = code_over(alloc, asked, &mut sink)?;
+        let code = ended_on(alloc, asked, ONE_DIRECT, FULL.as_bytes(), &mut sink)?.code();
         if code != 21 || Some(sink.taken()) != text.as_bytes().get(..room) {
             return Ok(false);
         }
     }
     let mut sink = MemSink::limit(alloc, text.len() as u64)?;
-    let code = code_over(alloc, asked, &mut sink)?;
+    let code = ended_on(alloc, asked, ONE_DIRECT, FULL.as_bytes(), &mut sink)?.code();
     Ok(code == 0 && sink.taken() == text.as_bytes())
 }
 

@@ -11,8 +11,17 @@ use blend_network::Network;
 use network_json::{ReadNet, read_network};
 use std::alloc::Global;
 
+mod literature;
+mod small;
 #[cfg(test)]
 mod tests;
+
+pub use literature::{ADHYA_1, ADHYA_4, BEN_TAL_4, FOULDS_2, HAVERLY_1, HAVERLY_2, HAVERLY_3};
+pub use small::{
+    A_THIRD, AS_TRIALS, CANONICAL_ONE_DIRECT, COLD, DEMANDED, EMPTY, FAR_APART, IDLE, JOURNAL_HEAD,
+    JOURNAL_RECORD, ONE_DIRECT, ONE_IN_A_PRIME, ONE_PATH, SOUR_DIRECT, TOO_SOUR, TORN, TWO_FEEDS,
+    TWO_POOLS, TWO_PRODUCTS, WASTEWATER,
+};
 
 /// The network that the text is a file of.
 pub fn network(alloc: Global, text: &str) -> Result<Network, ReadNet>
@@ -21,98 +30,3 @@ pub fn network(alloc: Global, text: &str) -> Result<Network, ReadNet>
 {
     read_network(alloc, text.as_bytes())
 }
-
-/// Nothing at all.
-pub const EMPTY: &str = r#"{"version":1,"sources":[],"products":[],"arcs":[]}"#;
-
-/// Source A sells up to 100 of sulfur 3 at 6, and product X pays 9 for up to 100 of sulfur up to 3.
-pub const ONE_DIRECT: &str =
-    r#"{"version":1,"qualities":["sulfur"],"sources":[{"name":"A","cost":6,"max":100,"quality":{"sulfur":3}}],
-"products":[{"name":"X","price":9,"max":100,"most":{"sulfur":3}}],"arcs":[["A","X"]]}"#;
-
-/// The same, but X must take 10 and stands sulfur up to 2: no plan obeys.
-pub const SOUR_DIRECT: &str =
-    r#"{"version":1,"qualities":["sulfur"],"sources":[{"name":"A","cost":6,"max":100,"quality":{"sulfur":3}}],
-"products":[{"name":"X","price":9,"min":10,"max":100,"most":{"sulfur":2}}],"arcs":[["A","X"]]}"#;
-
-/// The same as `ONE_DIRECT`, through pool P.
-pub const ONE_PATH: &str =
-    r#"{"version":1,"qualities":["sulfur"],"sources":[{"name":"A","cost":6,"max":100,"quality":{"sulfur":3}}],
-"pools":[{"name":"P"}],"products":[{"name":"X","price":9,"max":100,"most":{"sulfur":3}}],"arcs":[["A","P"],["P","X"]]}"#;
-
-/// Sources A and B feed pool P, which sends at most 100 to X, of any quality.
-pub const TWO_FEEDS: &str =
-    r#"{"version":1,"qualities":["sulfur"],"sources":[{"name":"A","cost":6,"quality":{"sulfur":3}},
-{"name":"B","cost":16,"quality":{"sulfur":1}}],"pools":[{"name":"P"}],
-"products":[{"name":"X","price":9,"max":100}],"arcs":[["A","P"],["B","P"],["P","X"]]}"#;
-
-/// Haverly's first network: sources A and B feed pool P, which sends to X and Y, and so does C.
-pub const HAVERLY_1: &str = r#"{"version":1,"title":"Haverly 1","qualities":["sulfur"],
-"sources":[{"name":"A","cost":6,"quality":{"sulfur":3}},
-{"name":"B","cost":16,"quality":{"sulfur":1}},
-{"name":"C","cost":10,"quality":{"sulfur":2}}],
-"pools":[{"name":"P"}],
-"products":[{"name":"X","price":9,"max":100,"most":{"sulfur":"2.5"}},
-{"name":"Y","price":15,"max":200,"most":{"sulfur":"1.5"}}],
-"arcs":[["A","P"],["B","P"],["P","X"],["P","Y"],["C","X"],["C","Y"]]}"#;
-
-/// The second: X takes up to 600.
-pub const HAVERLY_2: &str = r#"{"version":1,"title":"Haverly 2","qualities":["sulfur"],
-"sources":[{"name":"A","cost":6,"quality":{"sulfur":3}},
-{"name":"B","cost":16,"quality":{"sulfur":1}},
-{"name":"C","cost":10,"quality":{"sulfur":2}}],
-"pools":[{"name":"P"}],
-"products":[{"name":"X","price":9,"max":600,"most":{"sulfur":"2.5"}},
-{"name":"Y","price":15,"max":200,"most":{"sulfur":"1.5"}}],
-"arcs":[["A","P"],["B","P"],["P","X"],["P","Y"],["C","X"],["C","Y"]]}"#;
-
-/// The third: B costs 13.
-pub const HAVERLY_3: &str = r#"{"version":1,"title":"Haverly 3","qualities":["sulfur"],
-"sources":[{"name":"A","cost":6,"quality":{"sulfur":3}},
-{"name":"B","cost":13,"quality":{"sulfur":1}},
-{"name":"C","cost":10,"quality":{"sulfur":2}}],
-"pools":[{"name":"P"}],
-"products":[{"name":"X","price":9,"max":100,"most":{"sulfur":"2.5"}},
-{"name":"Y","price":15,"max":200,"most":{"sulfur":"1.5"}}],
-"arcs":[["A","P"],["B","P"],["P","X"],["P","Y"],["C","X"],["C","Y"]]}"#;
-
-/// A feeds pool P, and B the pools P and R; P sends to X and Y, and R to Y; A sends to Y, and B to X. There are two
-/// qualities, a minimum, and limits of both sides.
-pub const TWO_POOLS: &str = r#"{"version":1,"qualities":["sulfur","lead"],
-"sources":[{"name":"A","cost":6,"max":40,"quality":{"sulfur":3,"lead":"0.9"}},
-{"name":"B","cost":16,"quality":{"sulfur":1,"lead":"0.5"}}],
-"pools":[{"name":"P"},{"name":"R","max":70}],
-"products":[{"name":"X","price":9,"min":5,"max":100,"least":{"sulfur":"1.5","lead":"0.6"},"most":{"sulfur":"2.5"}},
-{"name":"Y","price":15,"max":200,"most":{"lead":"0.8"}}],
-"arcs":[["A","P"],["B","R"],["B","P"],["P","X"],["R","Y"],["P","Y"],["A","Y"],["B","X"]]}"#;
-
-/// One source and one product, whose sulfur is 2^36 millionths apart, and a direct that carries up to 2^39.
-pub const FAR_APART: &str = r#"{"version":1,"qualities":["sulfur"],
-"sources":[{"name":"S","cost":0,"max":"549755.813888","quality":{"sulfur":"-68719.476736"}}],
-"products":[{"name":"T","price":0,"max":"549755.813888","most":{"sulfur":0}}],"arcs":[["S","T"]]}"#;
-
-/// As many nodes and arcs as the networks of trials have: ten sources, each of which feeds two of three pools; each pool sends
-/// to each of six products, and six sources send to a product each. There are two qualities.
-pub const AS_TRIALS: &str = r#"{"version":1,"qualities":["K0","K1"],
-"sources":[{"name":"S0","cost":5,"quality":{"K0":1,"K1":2}},
-{"name":"S1","cost":5,"quality":{"K0":1,"K1":2}},
-{"name":"S2","cost":5,"quality":{"K0":1,"K1":2}},
-{"name":"S3","cost":5,"quality":{"K0":1,"K1":2}},
-{"name":"S4","cost":5,"quality":{"K0":1,"K1":2}},
-{"name":"S5","cost":5,"quality":{"K0":1,"K1":2}},
-{"name":"S6","cost":5,"quality":{"K0":1,"K1":2}},
-{"name":"S7","cost":5,"quality":{"K0":1,"K1":2}},
-{"name":"S8","cost":5,"quality":{"K0":1,"K1":2}},
-{"name":"S9","cost":5,"quality":{"K0":1,"K1":2}}],
-"pools":[{"name":"P0"},{"name":"P1"},{"name":"P2"}],
-"products":[{"name":"X0","price":15,"max":50,"most":{"K0":"1.5","K1":"2.5"}},
-{"name":"X1","price":15,"max":50,"most":{"K0":"1.5","K1":"2.5"}},
-{"name":"X2","price":15,"max":50,"most":{"K0":"1.5","K1":"2.5"}},
-{"name":"X3","price":15,"max":50,"most":{"K0":"1.5","K1":"2.5"}},
-{"name":"X4","price":15,"max":50,"most":{"K0":"1.5","K1":"2.5"}},
-{"name":"X5","price":15,"max":50,"most":{"K0":"1.5","K1":"2.5"}}],
-"arcs":[["S0","P0"],["S0","P1"],["S1","P1"],["S1","P2"],["S2","P0"],["S2","P2"],["S3","P0"],["S3","P1"],["S4","P1"],
-["S4","P2"],["S5","P0"],["S5","P2"],["S6","P0"],["S6","P1"],["S7","P1"],["S7","P2"],["S8","P0"],["S8","P2"],
-["S9","P0"],["S9","P1"],["P0","X0"],["P1","X0"],["P2","X0"],["S0","X0"],["P0","X1"],["P1","X1"],["P2","X1"],
-["S1","X1"],["P0","X2"],["P1","X2"],["P2","X2"],["S2","X2"],["P0","X3"],["P1","X3"],["P2","X3"],["S3","X3"],
-["P0","X4"],["P1","X4"],["P2","X4"],["S4","X4"],["P0","X5"],["P1","X5"],["P2","X5"],["S5","X5"]]}"#;

@@ -16,16 +16,7 @@ use plan_core::{WrittenPlan, cheapest_start, check_plan};
 use plan_repair::repair;
 use std::alloc::Global;
 use std::test::Fail;
-use worked_networks::{HAVERLY_1, HAVERLY_2, HAVERLY_3, network};
-
-/// The fourth network of Ben-Tal, Eiger and Gershovitz: as Haverly's first, with a third feed.
-const BEN_TAL_4: &str = r#"{"version":1,"title":"Ben-Tal 4","qualities":["sulfur"],
-"sources":[{"name":"A","cost":6,"quality":{"sulfur":3}},{"name":"B","cost":16,"quality":{"sulfur":1}},
-{"name":"C","cost":10,"quality":{"sulfur":2}},{"name":"D","cost":15,"quality":{"sulfur":1},"max":50}],
-"pools":[{"name":"P"}],
-"products":[{"name":"X","price":9,"max":100,"most":{"sulfur":"2.5"}},
-{"name":"Y","price":15,"max":200,"most":{"sulfur":"1.5"}}],
-"arcs":[["A","P"],["B","P"],["D","P"],["P","X"],["P","Y"],["C","X"],["C","Y"]]}"#;
+use worked_networks::{BEN_TAL_4, HAVERLY_1, HAVERLY_2, HAVERLY_3, network};
 
 /// An advice of this point, whose flows are in tenths of a unit.
 fn advice(alloc: Global, tenths: &[i64]) -> Result<Advice, Fail> {

@@ -1,27 +1,16 @@
 //! What small runs answer: which words are served, what `solve` prints where no search is needed, what `check` says of certificates
 //! and of each with a line changed, and which side failed. The cases are tables of text, a case a line.
 
-use super::{FULL, TREE, shelf_failing, words_of};
+use super::ended;
 use disk_model::MemDisk;
-use edge_io::MemSink;
-use pool_cli::{Status, run, write_message};
+use edge_io::{MemShelf, MemSink};
+use pool_cli::{Status, write_message};
 use std::alloc::{AllocError, Global};
 use std::test::Fail;
-use worked_networks::{EMPTY, HAVERLY_1, ONE_DIRECT, TWO_FEEDS};
+use worked_certificates::{FULL, certificate_under, changed, name_in};
+use worked_networks::{EMPTY, HAVERLY_1, IDLE, ONE_DIRECT, TOO_SOUR, TWO_FEEDS, TWO_PRODUCTS};
 
-// ---- networks and certificates, by the names of the tables
-
-/// A product that takes nothing.
-const IDLE: &str =
-    r#"{"version":1,"qualities":["sulfur"],"sources":[{"name":"A","cost":6,"max":100,"quality":{"sulfur":3}}],"products":[{"name":"X","price":9,"max":0,"most":{"sulfur":3}}],"arcs":[["A","X"]]}"#;
-
-/// A source of sulfur 3, and a product that must take 10 and takes sulfur of at most 2.
-const TOO_SOUR: &str =
-    r#"{"version":1,"qualities":["sulfur"],"sources":[{"name":"A","cost":1,"quality":{"sulfur":3}}],"products":[{"name":"X","price":2,"min":10,"max":100,"most":{"sulfur":2}}],"arcs":[["A","X"]]}"#;
-
-/// A source that sells at 1, and two products that pay 2 and take 30 and 20.
-const TWO_PRODUCTS: &str =
-    r#"{"version":1,"sources":[{"name":"A","cost":1,"quality":{}}],"products":[{"name":"X","price":2,"max":30},{"name":"Y","price":2,"max":20}],"arcs":[["A","X"],["A","Y"]]}"#;
+// ---- certificates beside those of `worked_certificates`, by the names of the tables
 
 /// `FULL` over a base that is not the plan's.
 const OVER_TWO: &str =
@@ -39,21 +28,10 @@ const NOTHING: &str =
 const ONE_FEED: &str =
     "poolcert 1\nkind gap\nshape 2 1 1 1 2 1 0\nplan 1 1\nweights 1 0\noutflows 100000000\ndirect\nsplits 0\nproofs 0\ncost -300000000000000 1\nbound -300000000000000\ngap 0 1\nend\n";
 
-/// A bound of the first network, without a plan.
-const BOUND: &str =
-    "poolcert 1\nkind bound\nshape 1 0 1 1 0 0 1\nsplits 0\nproofs 0\nbound -300000000000000\nend\n";
-
-/// That no plan obeys, without a proof.
-const NONE: &str = "poolcert 1\nkind none\nshape 1 0 1 1 0 0 1\nsplits 0\nproofs 0\nend\n";
-
 /// The best plan of the first network of Haverly (1978), without a proof.
 const BEST_OF_HAVERLY: &str =
     "poolcert 1\nkind gap\nshape 3 1 2 1 2 2 2\nplan 1 1\nweights 0 1\noutflows 0 100000000\ndirect 0 100000000\nsplits 0\nproofs 0\n\
     cost -400000000000000 1\nbound -2100000000000000\ngap 1700000000000000 1\nend\n";
-
-/// That no plan obeys, by the demand and the quality limit together.
-const NO_PLAN: &str =
-    "poolcert 1\nkind none\nshape 1 0 1 1 0 0 1\nsplits 0\nproofs 1\nproof 0 0 2 2 1000000 3 1\nend\n";
 
 /// Both products take what they can.
 const BOTH_FULL: &str =
@@ -69,19 +47,45 @@ fn text_under(name: &str) -> &'static str {
         "haverly" => HAVERLY_1,
         "sour" => TOO_SOUR,
         "two" => TWO_PRODUCTS,
-        "full" => FULL,
         "over-two" => OVER_TWO,
         "nothing-flows" => NOTHING_FLOWS,
         "nothing" => NOTHING,
         "one-feed" => ONE_FEED,
-        "bound" => BOUND,
-        "none" => NONE,
         "best" => BEST_OF_HAVERLY,
-        "no-plan" => NO_PLAN,
-        "tree" => TREE,
         "both-full" => BOTH_FULL,
-        _ => "",
+        _ => certificate_under(name),
     }
+}
+
+// ---- shelves
+
+/// A shelf with these files, whose call of the number `failing` fails.
+fn shelf_failing(
+    alloc: Global,
+    files: &[(&str, &str)],
+    failing: u64,
+) -> Result<MemShelf, AllocError> {
+    let mut held = Vec::new(alloc);
+    for (name, text) in files {
+        held.push((
+            String::from_str(alloc, name)?,
+            Vec::from_slice(alloc, text.as_bytes())?,
+        ))?;
+    }
+    let mut calls = Vec::new(alloc);
+    calls.push(failing)?;
+    Ok(MemShelf::new(held, calls))
+}
+
+/// How a run of this line ends over a shelf and an empty disk.
+fn ended_over(
+    alloc: Global,
+    line: &str,
+    shelf: &mut MemShelf,
+    sink: &mut MemSink,
+) -> Result<Status, AllocError> {
+    let mut disk = MemDisk::new(alloc, Vec::new(alloc));
+    ended(alloc, line, shelf, sink, &mut disk)
 }
 
 // ---- words
@@ -114,11 +118,9 @@ fn serves_what_it_can(rt: HostRuntime) -> Result<(), Fail> {
     let alloc = rt.alloc();
     for line in WORDS.lines() {
         let (asked, code) = line.split_once(" = ").ok_or("a code")?;
-        let words = words_of(alloc, asked)?;
         let mut shelf = shelf_failing(alloc, &[("net", ONE_DIRECT)], 9)?;
         let mut sink = MemSink::new(alloc, Vec::new(alloc));
-        let mut disk = MemDisk::new(alloc, Vec::new(alloc));
-        let ended = run(alloc, &words, &mut shelf, &mut sink, &mut disk).code();
+        let ended = ended_over(alloc, asked, &mut shelf, &mut sink)?.code();
         assert_eq!(rt; format!(in alloc; "{ended}")?.as_str(), code);
     }
     Ok(())
@@ -147,10 +149,8 @@ fn solved(
     failing: u64,
     sink: &mut MemSink,
 ) -> Result<Status, AllocError> {
-    let words = words_of(alloc, "solve net")?;
     let mut shelf = shelf_failing(alloc, &[("net", file)], failing)?;
-    let mut disk = MemDisk::new(alloc, Vec::new(alloc));
-    Ok(run(alloc, &words, &mut shelf, sink, &mut disk))
+    ended_over(alloc, "solve net", &mut shelf, sink)
 }
 
 #[test]
@@ -246,17 +246,6 @@ feeds tree, proof 3 0 1 11 1 to proof 5 0 1 11 1 = refused place 0
 two both-full = accepted gap cost -50000000000000 base 1 bound -50000000000000 gap 0
 ";
 
-/// The certificate of a name, with the change behind the name, if there is one.
-fn changed(alloc: Global, certificate: &str) -> Result<String, AllocError> {
-    let (name, change) = certificate
-        .split_once(", ")
-        .unwrap_or((certificate, "end to end"));
-    let (old, new) = change.split_once(" to ").unwrap_or((change, ""));
-    let old = old.replace(alloc, "/", "\n")?;
-    let new = new.replace(alloc, "/", "\n")?;
-    text_under(name).replace(alloc, old.as_str(), new.as_str())
-}
-
 /// What `check net cert` answers over these two files, the certificate in pieces of so many bytes: its code and, behind a space,
 /// what it writes. The shelf's call of the number `failing` fails, and so does a second write.
 fn checked(
@@ -266,12 +255,10 @@ fn checked(
     piece: usize,
     failing: u64,
 ) -> Result<String, AllocError> {
-    let words = words_of(alloc, "check net cert")?;
     let mut shelf = shelf_failing(alloc, &[("net", network), ("cert", certificate)], failing)?;
     shelf.pieces(piece.max(1));
     let mut sink = MemSink::new(alloc, [1].to_vec(alloc)?);
-    let mut disk = MemDisk::new(alloc, Vec::new(alloc));
-    let code = run(alloc, &words, &mut shelf, &mut sink, &mut disk).code();
+    let code = ended_over(alloc, "check net cert", &mut shelf, &mut sink)?.code();
     let written = str::from_utf8(sink.taken()).unwrap_or("no text");
     format!(in alloc; "{code} {written}")
 }
@@ -283,7 +270,7 @@ fn accepts_or_names_the_first_cause(rt: HostRuntime) -> Result<(), Fail> {
         let (asked, told) = line.split_once(" = ").ok_or("an answer")?;
         let (network, certificate) = asked.split_once(' ').ok_or("a certificate")?;
         let network = text_under(network);
-        let certificate = changed(alloc, certificate)?;
+        let certificate = changed(alloc, text_under(name_in(certificate)), certificate)?;
         // The calls are: the network, to open the certificate, all of it, and its end. A fifth call would fail.
         let at_once = checked(alloc, network, certificate.as_str(), 65_536, 4)?;
         let by_bytes = checked(alloc, network, certificate.as_str(), 1, u64::MAX)?;
@@ -318,7 +305,11 @@ fn failing_calls(alloc: Global, certificate: &str) -> Result<String, AllocError>
 #[test]
 fn a_read_that_fails_before_the_end_is_a_read_fault(rt: HostRuntime) -> Result<(), Fail> {
     let alloc = rt.alloc();
-    let shapeless = changed(alloc, "full, shape 1 0 1 1 0 0 1 to shape 1 0 1 2 0 0 1")?;
+    let shapeless = changed(
+        alloc,
+        FULL,
+        "full, shape 1 0 1 1 0 0 1 to shape 1 0 1 2 0 0 1",
+    )?;
     let failed = "20 ".repeat(alloc, 26)?;
     assert_eq!(rt; FULL.len(), 160);
     assert_eq!(rt; failing_calls(alloc, FULL)?.as_str(), failed.as_str());

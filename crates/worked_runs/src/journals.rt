@@ -1,22 +1,16 @@
 //! `solve` with a journal: the bytes of a finished one, and files that are refused.
 
-use super::{FULL, disk_of, shelf_of, words_of};
+use super::{ended, shelf_of};
 use disk_model::FailDisk;
 use edge_io::MemSink;
-use pool_cli::run;
 use std::alloc::{AllocError, Global};
 use std::test::Fail;
-use worked_networks::{HAVERLY_1, HAVERLY_2, ONE_DIRECT};
-
-/// What stands before the records of the journal of `ONE_DIRECT`: birth byte, magic, version, and the canonical text behind its length.
-const HEAD: &[u8] =
-    b"\x01POOLJNL\x01\x00\x00\x00\xda{\"arcs\":[[\"A\",\"X\"]],\"pools\":[],\"products\":[{\"least\":{},\"max\":100,\"min\":0,\"most\":{\"sulfur\":3},\
-    \"name\":\"X\",\"price\":9}],\"qualities\":[\"sulfur\"],\"sources\":[{\"cost\":6,\"max\":100,\"name\":\"A\",\"quality\":{\"sulfur\":3}}],\
-    \"version\":1}";
-
-/// The record of the plan that ships 100: an open gate, the length, kind, two bases, no weight, no outflow, and one flow.
-const RECORD: &[u8] =
-    b"\x01\x00\x00\x00\x17\x02\x00\x00\x00\x01\x00\x00\x00\x01\x00\x00\x00\x00\x00\x01\x00\x00\x00\x00\x05\xf5\xe1\x00";
+use worked_certificates::FULL;
+use worked_devices::disk_of;
+use worked_networks::{
+    CANONICAL_ONE_DIRECT as TEXT, HAVERLY_1, HAVERLY_2, JOURNAL_HEAD as HEAD,
+    JOURNAL_RECORD as RECORD, ONE_DIRECT,
+};
 
 /// The code of `solve net --nodes 4 --journal j`, and what it printed.
 fn journaled(
@@ -25,9 +19,15 @@ fn journaled(
     disk: &mut FailDisk,
     sink: &mut MemSink,
 ) -> Result<u8, AllocError> {
-    let words = words_of(alloc, "solve net --nodes 4 --journal j")?;
     let mut shelf = shelf_of(alloc, network, b"")?;
-    Ok(run(alloc, &words, &mut shelf, sink, disk).code())
+    Ok(ended(
+        alloc,
+        "solve net --nodes 4 --journal j",
+        &mut shelf,
+        sink,
+        disk,
+    )?
+    .code())
 }
 
 /// The code over a file of these parts.
@@ -46,6 +46,7 @@ fn the_finished_journal_has_these_bytes(rt: HostRuntime) -> Result<(), Fail> {
     assert_eq!(rt; sink.taken(), FULL.as_bytes());
     let image = disk.image(disk.moment(), 0)?;
     let mut whole = Vec::from_slice(alloc, HEAD)?;
+    whole.extend_from_slice(TEXT)?;
     whole.extend_from_slice(RECORD)?;
     whole.push(0)?;
     assert_eq!(rt; image.as_slice(), whole.as_slice());
@@ -62,11 +63,11 @@ fn a_file_is_refused_by_what_it_is(rt: HostRuntime) -> Result<(), Fail> {
     let bad = code_over(
         alloc,
         ONE_DIRECT,
-        &[HEAD, RECORD, RECORD, b"\x01\x00\x00\x00\x01\x09\x00"],
+        &[HEAD, TEXT, RECORD, RECORD, b"\x01\x00\x00\x00\x01\x09\x00"],
     )?;
     assert_eq!(rt; bad, 31);
     assert_eq!(rt;
-        code_over(alloc, ONE_DIRECT, &[HEAD, RECORD, RECORD, b"\x00"])?,
+        code_over(alloc, ONE_DIRECT, &[HEAD, TEXT, RECORD, RECORD, b"\x00"])?,
         31
     );
     // The journal of the first network of Haverly, under the second and as one of version 7; and a network as the journal.

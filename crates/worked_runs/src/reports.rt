@@ -1,27 +1,16 @@
 //! `report` of a small certificate, of one that is refused, and of what `solve` prints; and `trial`.
 
+use super::ended_on;
 use super::tests::solved;
-use super::{FULL, shelf_of, words_of};
-use disk_model::MemDisk;
-use edge_io::{MemShelf, MemSink};
-use pool_cli::run;
+use edge_io::MemSink;
 use std::alloc::{AllocError, Global};
 use std::test::Fail;
-use worked_networks::ONE_DIRECT;
-
-/// Waste water: a path and a direct earn the same, and the path goes first.
-const OUTLETS: &str =
-    r#"{"version":1,"title":"Outlets of site 4, loads in mg/l, flows in m3/h","qualities":["load"],
-    "sources":[{"name":"W1","cost":1,"max":40,"quality":{"load":120}},{"name":"W2","cost":0,"max":60,"quality":{"load":30}},
-        {"name":"fresh","cost":"0.35","quality":{"load":0}}],
-    "pools":[{"name":"basin 1"},{"name":"basin 2"}],
-    "products":[{"name":"river","price":3,"max":80,"most":{"load":50}},{"name":"sewer","price":1,"max":100,"most":{"load":90}}],
-    "arcs":[["W1","basin 1"],["W2","basin 1"],["W2","basin 2"],["fresh","basin 2"],["basin 1","river"],["basin 1","sewer"],
-        ["basin 2","river"],["basin 2","sewer"],["fresh","river"]]}"#;
+use worked_certificates::{FULL, changed};
+use worked_networks::{ONE_DIRECT, WASTEWATER};
 
 /// `FULL` with a bound that is one pico too high.
-const WRONG_BOUND: &[u8] =
-    b"poolcert 1\nkind gap\nshape 1 0 1 1 0 0 1\nplan 1 1\nweights\noutflows\ndirect 100000000\nsplits 0\nproofs 0\ncost -300000000000000 1\nbound -299999999999999\ngap -1 1\nend\n";
+const WRONG_BOUND: &str =
+    "full, bound -300000000000000 to bound -299999999999999, gap 0 1 to gap -1 1";
 
 /// What a person reads of `FULL`.
 const FULL_REPORT: &[u8] =
@@ -35,10 +24,7 @@ fn reported(
     certificate: &[u8],
     sink: &mut MemSink,
 ) -> Result<u8, AllocError> {
-    let words = words_of(alloc, "report net cert")?;
-    let mut shelf = shelf_of(alloc, network, certificate)?;
-    let mut disk = MemDisk::new(alloc, Vec::new(alloc));
-    Ok(run(alloc, &words, &mut shelf, sink, &mut disk).code())
+    Ok(ended_on(alloc, "report net cert", network, certificate, sink)?.code())
 }
 
 #[test]
@@ -48,7 +34,11 @@ fn a_certificate_is_told_or_refused(rt: HostRuntime) -> Result<(), Fail> {
     assert_eq!(rt; reported(alloc, ONE_DIRECT, FULL.as_bytes(), &mut text)?, 0);
     assert_eq!(rt; text.taken(), FULL_REPORT);
     let mut line = MemSink::new(alloc, Vec::new(alloc));
-    assert_eq!(rt; reported(alloc, ONE_DIRECT, WRONG_BOUND, &mut line)?, 1);
+    let wrong = changed(alloc, FULL, WRONG_BOUND)?;
+    assert_eq!(rt;
+        reported(alloc, ONE_DIRECT, wrong.as_bytes(), &mut line)?,
+        1
+    );
     assert_eq!(rt; line.taken(), b"refused bound\n".as_slice());
     Ok(())
 }
@@ -57,9 +47,9 @@ fn a_certificate_is_told_or_refused(rt: HostRuntime) -> Result<(), Fail> {
 fn what_solve_prints_is_told(rt: HostRuntime) -> Result<(), Fail> {
     let alloc = rt.alloc();
     let mut certificate = MemSink::new(alloc, Vec::new(alloc));
-    solved(alloc, OUTLETS, "--nodes 2", &mut certificate)?;
+    solved(alloc, WASTEWATER, "--nodes 2", &mut certificate)?;
     let mut text = MemSink::new(alloc, Vec::new(alloc));
-    let code = reported(alloc, OUTLETS, certificate.taken(), &mut text)?;
+    let code = reported(alloc, WASTEWATER, certificate.taken(), &mut text)?;
     assert_eq!(rt; code, 0);
     assert!(rt; text.taken().starts_with(b"kind gap\ncost -"));
     Ok(())
@@ -68,14 +58,9 @@ fn what_solve_prints_is_told(rt: HostRuntime) -> Result<(), Fail> {
 #[test]
 fn a_trial_tells_the_same_twice(rt: HostRuntime) -> Result<(), Fail> {
     let alloc = rt.alloc();
-    let words = words_of(alloc, "trial 7")?;
-    let mut shelf = MemShelf::new(Vec::new(alloc), Vec::new(alloc));
     let mut first = MemSink::new(alloc, Vec::new(alloc));
-    let mut disk = MemDisk::new(alloc, Vec::new(alloc));
-    assert_eq!(rt;
-        run(alloc, &words, &mut shelf, &mut first, &mut disk).code(),
-        0
-    );
+    let code = ended_on(alloc, "trial 7", "", b"", &mut first)?.code();
+    assert_eq!(rt; code, 0);
     assert!(rt;
         first
             .taken()
@@ -83,7 +68,7 @@ fn a_trial_tells_the_same_twice(rt: HostRuntime) -> Result<(), Fail> {
     );
     assert!(rt; first.taken().ends_with(b"\ncheck accepted\n"));
     let mut second = MemSink::new(alloc, Vec::new(alloc));
-    run(alloc, &words, &mut shelf, &mut second, &mut disk);
+    ended_on(alloc, "trial 7", "", b"", &mut second)?;
     assert_eq!(rt; first.taken(), second.taken());
     Ok(())
 }

@@ -1,12 +1,10 @@
 //! `solve`, with its options, and `check` of what it prints.
 
-use super::{shelf_of, words_of};
-use disk_model::MemDisk;
+use super::ended_on;
 use edge_io::MemSink;
-use pool_cli::run;
 use std::alloc::{AllocError, Global};
 use std::test::Fail;
-use worked_networks::{HAVERLY_1, HAVERLY_2, HAVERLY_3, SOUR_DIRECT};
+use worked_networks::{HAVERLY_1, HAVERLY_2, HAVERLY_3, ONE_IN_A_PRIME, SOUR_DIRECT, TORN};
 
 /// The code of `solve net` with these options, and what it printed.
 pub(crate) fn solved(
@@ -16,23 +14,7 @@ pub(crate) fn solved(
     sink: &mut MemSink,
 ) -> Result<u8, AllocError> {
     let line = format!(in alloc; "solve net {options}")?;
-    let words = words_of(alloc, line.as_str().trim_end())?;
-    let mut shelf = shelf_of(alloc, network, b"")?;
-    let mut disk = MemDisk::new(alloc, Vec::new(alloc));
-    Ok(run(alloc, &words, &mut shelf, sink, &mut disk).code())
-}
-
-/// The code of `check net cert` on what was printed, and its line.
-fn checked(
-    alloc: Global,
-    network: &str,
-    certificate: &[u8],
-    sink: &mut MemSink,
-) -> Result<u8, AllocError> {
-    let words = words_of(alloc, "check net cert")?;
-    let mut shelf = shelf_of(alloc, network, certificate)?;
-    let mut disk = MemDisk::new(alloc, Vec::new(alloc));
-    Ok(run(alloc, &words, &mut shelf, sink, &mut disk).code())
+    Ok(ended_on(alloc, line.as_str(), network, b"", sink)?.code())
 }
 
 /// The number behind a label of a line, up to the next space.
@@ -63,7 +45,13 @@ fn plan_and_bound_meet_at_the_best_cost(rt: HostRuntime) -> Result<(), Fail> {
         )?;
         assert_eq!(rt; code, 0);
         let mut line = MemSink::new(alloc, Vec::new(alloc));
-        checked(alloc, network, certificate.taken(), &mut line)?;
+        ended_on(
+            alloc,
+            "check net cert",
+            network,
+            certificate.taken(),
+            &mut line,
+        )?;
         let line = str::from_utf8(line.taken())?;
         let cost = number_after(line, "cost ").ok_or("a cost")?;
         let base = number_after(line, "base ").ok_or("a base")?;
@@ -75,19 +63,6 @@ fn plan_and_bound_meet_at_the_best_cost(rt: HostRuntime) -> Result<(), Fail> {
     }
     Ok(())
 }
-
-/// One pool has to serve X, which wants sulfur of at least 2.5, and Y, which stands 1.5. No plan does, since a pool has one quality;
-/// the root box alone doesn't show it.
-const TORN: &str = r#"{"version":1,"qualities":["sulfur"],
-    "sources":[{"name":"A","cost":6,"quality":{"sulfur":3}},{"name":"B","cost":16,"quality":{"sulfur":1}}],"pools":[{"name":"P"}],
-    "products":[{"name":"X","price":9,"min":10,"max":100,"least":{"sulfur":"2.5"}},
-        {"name":"Y","price":15,"min":10,"max":100,"most":{"sulfur":"1.5"}}],
-    "arcs":[["A","P"],["B","P"],["P","X"],["P","Y"]]}"#;
-
-/// X may take one part of A in 65,537, a prime: no plan that can be written takes just that. There is no pool, and so no coordinate.
-const ONE_IN_A_PRIME: &str = r#"{"version":1,"qualities":["sulfur"],
-    "sources":[{"name":"A","cost":1,"quality":{"sulfur":"0.065537"}},{"name":"B","cost":2,"quality":{"sulfur":0}}],
-    "products":[{"name":"X","price":3,"max":100,"most":{"sulfur":"0.000001"}}],"arcs":[["A","X"],["B","X"]]}"#;
 
 /// The network of a name; no text under any other.
 fn network_under(name: &str) -> &'static str {

@@ -1,0 +1,8 @@
+//! Worked journals: the bytes of one, the files that are refused, and stops in each call of the disk, of a journal alone and of a run
+//! of splits that goes on from it.
+#![tactic(auto)]
+
+#[cfg(test)]
+mod files;
+#[cfg(test)]
+mod sessions;

@@ -1,0 +1,97 @@
+//! Words of the command line, and what they ask.
+
+use cli_words::read_words;
+use std::alloc::Global;
+use std::test::Fail;
+
+/// Words, parted at each space, and behind the arrow what they ask.
+const ASKED: &str = "\
+solve net -> Solve(SolveWords { net: \"net\", form: Pq, nodes: 1000, gap: 10000000000, journal: None, rule: Widest })
+solve --nodes 07 net --form=q --gap 0.001 --rule=first --journal j -> Solve(SolveWords { net: \"net\", form: Q, nodes: 7, gap: 1000000000, journal: Some(\"j\"), rule: First })
+solve net --nodes=20001 --rule violated -> Solve(SolveWords { net: \"net\", form: Pq, nodes: 20001, gap: 10000000000, journal: None, rule: Violated })
+solve net --rule=fewest -> Solve(SolveWords { net: \"net\", form: Pq, nodes: 1000, gap: 10000000000, journal: None, rule: Fewest })
+solve --form p --gap=1000000 --nodes 18446744073709551615 --rule widest net -> \
+    Solve(SolveWords { net: \"net\", form: P, nodes: 18446744073709551615, gap: 1000000000000000000, journal: None, rule: Widest })
+solve solve --gap 0 --journal=a=b -> Solve(SolveWords { net: \"solve\", form: Pq, nodes: 1000, gap: 0, journal: Some(\"a=b\"), rule: Widest })
+check net cert -> Check(\"net\", \"cert\")
+report net cert -> Report(\"net\", \"cert\")
+formulate net -> Formulate(\"net\", Pq)
+formulate --form=pq net -> Formulate(\"net\", Pq)
+make 7 -> Make(7)
+trial 00000000000000000007 -> Trial(7)
+";
+
+/// Words that ask nothing, parted at each space.
+const NOT_ASKED: &str = "\
+help
+
+--help
+--version
+solve
+solve net --nodes
+solve net --nodes x
+solve net --gap 1 --gap=1
+solve\x20
+solve net\x20
+solve -net
+solve net --
+solve net -n 3
+solve net --journal\x20
+solve net --journal=
+solve net --journal -j
+solve net --journal=-j
+solve net --form p --form=q
+solve net --form PQ
+solve net --rule best
+solve net --nodes 000000000000000000007
+solve net --nodes 18446744073709551616
+solve net --nodes +7
+solve net --gap 0.0000001
+solve net --gap 1000000.000001
+solve net --gap=-0
+solve net --depth 3
+solve net --=3
+solve net more
+solve --help
+--form p solve net
+check net
+check net cert more
+report net cert --form p
+formulate
+formulate net --nodes 3
+make
+make x
+make 1 2
+trial -1
+";
+
+#[test]
+fn words_that_ask(rt: HostRuntime) -> Result<(), Fail> {
+    for case in ASKED.lines() {
+        let (words, request) = case.split_once(" -> ").ok_or("an arrow")?;
+        assert_eq!(rt; told(rt.alloc(), words)?.as_str(), request);
+    }
+    Ok(())
+}
+
+#[test]
+fn words_that_ask_nothing(rt: HostRuntime) -> Result<(), Fail> {
+    for words in NOT_ASKED.lines() {
+        assert_eq!(rt; told(rt.alloc(), words)?.as_str(), "Usage", "{words}");
+    }
+    let nothing = format!(in rt.alloc(); "{:?}", read_words(rt.alloc(), &[]))?;
+    assert_eq!(rt; nothing.as_str(), "Err(Usage)");
+    Ok(())
+}
+
+/// What the words ask, or why nothing, as text.
+fn told(alloc: Global, line: &str) -> Result<String, Fail> {
+    let mut words = Vec::new(alloc);
+    for word in line.split(' ') {
+        words.push(String::from_str(alloc, word)?)?;
+    }
+    match &read_words(alloc, &words) {
+        Ok(request) => Ok(format!(in alloc; "{request:?}")?),
+        Err(fault) => Ok(format!(in alloc; "{fault:?}")?),
+    }
+}
