@@ -5,7 +5,11 @@ Of README.md, docs/ and examples/README.md: each link and each path that they na
 show is one of examples/, each network that they show is one, and each line on a certificate is that of the second
 checker; docs/ARCHITECTURE.md has a row for each crate; and each
 command that begins with ./pool or tools/ in a line of its own runs as written, in a folder where the repository's own
-files are linked, with the status that stands behind it as `# ends with N`, else 0.
+files are linked, with the status that stands behind it as `# ends with N`, else 0. Where the program isn't built, the first
+of these commands builds it, which takes a while.
+
+Of the pages of the crates (the lines `//!` of src/lib.rt): each file of lemmas of a crate that another crate cites is
+named by its own crate's page.
 """
 
 import re
@@ -20,6 +24,8 @@ TOP = Path(__file__).resolve().parent.parent
 checker = SourceFileLoader("second_checker", str(TOP / "tools" / "second_checker.py")).load_module()
 PAGES = [TOP / "README.md", TOP / "examples" / "README.md", *sorted((TOP / "docs").glob("*.md"))]
 LINK = re.compile(r"\]\(([^)\s]+)\)")
+CRATES = TOP / "crates"
+CITED = re.compile(r"\buse Rattle\.(\w+)\.proofs\.(\w+)")
 PATH = re.compile(r"(?<![\w./*-])((?:docs|examples|tests|tools|crates|\.ci)/[\w./-]*[\w/])(?![\w*])")
 
 
@@ -68,9 +74,41 @@ def other_lines(page):
 
 def crates_left_out(page):
     """Crates that the tables of a page lack."""
-    crates = {path.name for path in (TOP / "crates").iterdir() if (path / "src").is_dir()}
+    crates = {path.name for path in CRATES.iterdir() if (path / "src").is_dir()}
     named = set(re.findall(r"`(\w+)`", " ".join(re.findall(r"(?m)^\| ((?:`\w+`(?:, )?)+) \|", page.read_text()))))
     yield from (f"the crate {name} has no row" for name in sorted(crates - named))
+
+
+def pieces(root):
+    """The paragraphs and the bullets of the page of a crate, by its root file."""
+    lines = [line[3:].strip() for line in root.read_text().splitlines() if line.startswith("//!")]
+    return re.split(r"\n\n|\n(?=- )", "\n".join(lines))
+
+
+def named_lemmas(crate):
+    """The files of lemmas that the page of a crate names: as `proofs/FILE.antt`, or as `FILE` where it speaks of `proofs/`."""
+    root = crate / "src" / "lib.rt"
+    told = [piece for piece in pieces(root) if "`proofs/" in piece] if root.exists() else []
+    return {name for piece in told for name in re.findall(r"`(?:proofs/)?(\w+)(?:\.antt)?`", piece)}
+
+
+def cited_lemmas(crate):
+    """The files of lemmas of other crates that a crate cites: the name of the other crate, and that of the file."""
+    texts = [path for part in ("src", "specs", "proofs") for path in (crate / part).rglob("*") if path.suffix in (".rt", ".antt")]
+    cited = {found for path in texts for found in CITED.findall(path.read_text())}
+    return {(other, file) for other, file in cited if other != crate.name and (CRATES / other / "proofs" / f"{file}.antt").exists()}
+
+
+def unnamed_lemmas():
+    """Files of lemmas that a crate cites and that their own crate's page does not name."""
+    crates = [path for path in sorted(CRATES.iterdir()) if (path / "src").is_dir()]
+    citing = {}
+    for crate in crates:
+        for lemmas in cited_lemmas(crate):
+            citing.setdefault(lemmas, []).append(crate.name)
+    for other, file in sorted(citing):
+        if file not in named_lemmas(CRATES / other):
+            yield f"crates/{other}/src/lib.rt: the page does not name proofs/{file}.antt, which is cited in {', '.join(citing[other, file])}"
 
 
 def commands(page):
@@ -99,6 +137,7 @@ def main():
             judges.append(crates_left_out)
         tried += len(list(commands(page)))
         found += [f"{page.relative_to(TOP)}: {fault}" for judge in judges for fault in judge(page)]
+    found += unnamed_lemmas()
     print(*found, sep="\n", end="\n" if found else "")
     print(f"{len(PAGES)} pages, {tried} commands of theirs, {len(found)} faults")
     return 1 if found else 0
