@@ -18,8 +18,6 @@ mod parts;
 mod paths;
 mod pools;
 mod ranges;
-#[cfg(test)]
-mod tests;
 
 pub use arcs::{Arc, Arcs, Path};
 pub use checks::checked_arcs;

@@ -12,6 +12,8 @@ use network_json::{ReadNet, read_network};
 use std::alloc::Global;
 
 mod literature;
+#[cfg(test)]
+mod rows;
 mod small;
 #[cfg(test)]
 mod tests;

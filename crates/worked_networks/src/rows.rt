@@ -1,6 +1,6 @@
 //! Rows that are refused, each for its first fault.
 
-use super::{Kind, NetFault, Parts, PoolRow, ProductRow, SourceRow, checked_arcs};
+use network_parts::{Kind, NetFault, Parts, PoolRow, ProductRow, SourceRow, checked_arcs};
 use std::alloc::{AllocError, Global};
 use std::test::Fail;
 
