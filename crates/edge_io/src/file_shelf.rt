@@ -1,6 +1,7 @@
 //! Files of the system.
 
 ghost use Rattle.std.specs.Prelude.{◌≡◌, ◌≤◌, None, true, length, IfOk};
+ghost use Rattle.std.specs.Io.KnownBytes.{ReadConsumes};
 ghost use Rattle.edge_io.specs.Counts.{Grows, Rose};
 
 use crate::fault::{OpenFault, ReadFailed, ShelfFault};
@@ -50,9 +51,10 @@ impl<R: Files> FileShelf<R> {
     }
 }
 
-/// One read of a file, and how many bytes it gave; one that a signal broke off is tried again.
+/// One read of a file, and how many bytes it gave; one that a signal broke off is tried again. A read that fails has taken nothing.
 pub fn read_once<F: Read>(file: &mut F, into: &mut [u8]) -> io::Result<usize>
-    ensures { IfOk result (λ n. n ≤ length into.new) }
+    ensures part { IfOk result (λ n. n ≤ length into.new) }
+    ensures bytes { ReadConsumes (F.remaining file.old) (F.remaining file.new) result into.new }
 {
     for _ in 0..u64::MAX {
         match file.read(into) {
