@@ -7,7 +7,7 @@ use Rattle.pool_model.specs.Rows.{Rows, IsRectangular}
 use Rattle.pool_model.specs.Naming.{source_names, pool_names, product_names, source_of, pool_of, product_of, stand_in, network_of}
 use Rattle.pool_model.specs.Network.{Source, Pool, Product, Network, net_of, IsWithin, IsLimited, no_source, no_pool, no_product}
 use Rattle.network_parts.specs.Faults.{row_count, row_limit, IsUpTo, no_source_row, no_pool_row, no_product_row}
-use Rattle.network_parts.specs.Checks.{IsChecked}
+use Rattle.network_parts.specs.Ready.{IsReady}
 use Rattle.network_parts.specs.Views.{shown_path}
 use Rattle.blend_network.specs.Built.{IsBuilt}
 use Rattle.blend_network.specs.Keys.{IsIndexOf}
@@ -38,7 +38,7 @@ amounts_in_order : (a b : ℤ) → pos 0 ≤ℤ a → a ≤ℤ b → unsigned_ab
 amounts_in_order a b h k = omega (arith, ints)
 
 -- the network is within the limits
-pub limited : (r : Rows) (arcs : Arcs) → IsRectangular r → IsChecked r arcs → IsUpTo (10 ^ 14) (stand_in r) → IsLimited (net_of (network_of r))
+pub limited : (r : Rows) (arcs : Arcs) → IsRectangular r → IsReady r arcs → IsUpTo (10 ^ 14) (stand_in r) → IsLimited (net_of (network_of r))
 unfolding net_of
 limited r arcs rect checked up =
     let here_s : (i : ℕ) → i < length (map (source_of (stand_in r)) r.sources) → i < length r.sources = λ i h. omega (arith, length-map r.sources (source_of (stand_in r)), h) in
@@ -94,7 +94,7 @@ limited r arcs rect checked up =
     }
 
 -- the whole of what a network keeps
-pub built : (r : Rows) (arcs : Arcs) → IsRectangular r → IsChecked r arcs → IsLimited (net_of (network_of r)) → (index : List (List (List ℕ))) → IsIndexOf (net_of (network_of r)) index
+pub built : (r : Rows) (arcs : Arcs) → IsRectangular r → IsReady r arcs → IsLimited (net_of (network_of r)) → (index : List (List (List ℕ))) → IsIndexOf (net_of (network_of r)) index
     → (limits : Limits) → AreLimitsOf (net_of (network_of r)) limits → IsBuilt (network_of r) (map shown_path arcs.paths.items) index limits
 unfolding net_of
 built r arcs rect checked limited index is_index limits are_set =

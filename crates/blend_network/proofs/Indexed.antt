@@ -10,7 +10,7 @@ use Rattle.pool_model.specs.Network.{Net, net_of, IsLimited, no_arc}
 use Rattle.pool_model.specs.Paths as path
 use Rattle.pool_model.specs.Paths.{paths_of, no_path, path_at}
 use Rattle.pool_model.proofs.Paths.{path_at-way}
-use Rattle.network_parts.specs.Checks.{AreArcsOf}
+use Rattle.network_parts.specs.Ready.{AreArcsOf}
 use Rattle.blend_network.specs.Keys.{key_of, nodes_of, count_of, groups_by, keys, key_number, IsIndexOf}
 use Rattle.blend_network.specs.Kept.{no_kept_arc, no_kept_path, kept_key, kept_count, IsAlong}
 use Rattle.network_parts.specs.Views.{shown_arc, shown_path}

@@ -6,7 +6,7 @@ use Rattle.std.proofs.lemmas.Option.{none-some}
 use Rattle.integers.proofs.Ring.{mul_comm_ℤ}
 use Rattle.pool_model.specs.Network.{Net}
 use Rattle.pool_model.specs.Plan.{Written, plan_of, cost_of}
-use Rattle.plan_core.specs.Checks.{IsCostOf}
+use Rattle.plan_core.specs.Faults.{IsCostOf}
 use Rattle.plan_core.specs.declared.plan.Cost.{Cost}
 use Rattle.row_model.specs.Entries.{improve, IsCheaper, IsPlanInOrder}
 use Rattle.row_model.proofs.EntryLaw.{searched-kept}

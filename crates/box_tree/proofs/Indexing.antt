@@ -5,13 +5,12 @@ use Rattle.std.specs.Prelude.{◌↔◌}
 use Rattle.std.specs.List.{Contains}
 use Rattle.std.specs.Option.{ForSome}
 use Rattle.std.proofs.lemmas.List.{get_or_past, take_all}
-use Rattle.std.proofs.lemmas.List.Folds.{list_any-append}
 use Rattle.std.proofs.lemmas.Option.{none-some, same_Some}
 use Rattle.integers.proofs.AtKey.{same_or_other}
 use Rattle.leaf_order.specs.Order.{ArePut, IsTakenOut, IsReplaced}
 use Rattle.leaf_order.specs.declared.leaf.OpenLeaf.{OpenLeaf}
 use Rattle.row_model.specs.Trees.{Split, left_node, right_node, nodes, is_cut}
-use Rattle.row_model.proofs.TreeLaw.{same_node, other_leaf, uncut_later}
+use Rattle.row_model.proofs.TreeLaw.{cut_behind, same_node, other_leaf, uncut_later}
 use Rattle.pool_model.specs.Network.{Net}
 use Rattle.split_tree.specs.Splits.{Splits, IsOf as AreCut}
 use Rattle.box_tree.specs.Open.{bound_at, open_leaf, AreIndexed}
@@ -132,27 +131,23 @@ kept-bound_at splits bounds node z = go (is_cut splits node)
     go true e = absurd (none-some z e)
     go false e = e
 
--- one split more cuts one node more
-cut_one-more : (splits : List Split) (s : Split) (node : ℕ) → is_cut (splits ++ s ∷ []) node ≡ (is_cut splits node || ((s.leaf == node) || false))
-cut_one-more splits s node = list_any-append (λ (z : Split). z.leaf == node) splits (s ∷ [])
-
 still-uncut : (splits : List Split) (s : Split) (node : ℕ) → is_cut splits node ≡ false → s.leaf ≢ node → is_cut (splits ++ s ∷ []) node ≡ false
-still-uncut splits s node e d = cut_one-more splits s node ∙ cc (e, other_leaf s.leaf node d)
+still-uncut splits s node e d = cut_behind splits s node ∙ cc (e, other_leaf s.leaf node d)
 
 now-cut : (splits : List Split) (s : Split) → is_cut (splits ++ s ∷ []) s.leaf ≡ true
-now-cut splits s = cut_one-more splits s s.leaf ∙ go (is_cut splits s.leaf)
+now-cut splits s = cut_behind splits s s.leaf ∙ go (is_cut splits s.leaf)
   where
-    go : (b : Bool) → (b || ((s.leaf == s.leaf) || false)) ≡ true
+    go : (b : Bool) → (b || (s.leaf == s.leaf)) ≡ true
     go true = refl
-    go false = cc (same_node s.leaf)
+    go false = same_node s.leaf
 
 same-cut : (splits : List Split) (s : Split) (node : ℕ) → s.leaf ≢ node → is_cut (splits ++ s ∷ []) node ≡ is_cut splits node
-same-cut splits s node d = cut_one-more splits s node ∙ go (is_cut splits node) (s.leaf == node) (other_leaf s.leaf node d)
+same-cut splits s node d = cut_behind splits s node ∙ go (is_cut splits node) (s.leaf == node) (other_leaf s.leaf node d)
   where
-    go : (a b : Bool) → b ≡ false → (a || (b || false)) ≡ a
-    go a b e = ap (λ (c : Bool). a || (c || false)) e ∙ cases a
+    go : (a b : Bool) → b ≡ false → (a || b) ≡ a
+    go a b e = ap (λ (c : Bool). a || c) e ∙ cases a
       where
-        cases : (a : Bool) → (a || (false || false)) ≡ a
+        cases : (a : Bool) → (a || false) ≡ a
         cases true = refl
         cases false = refl
 

@@ -6,7 +6,7 @@ use Rattle.integers.proofs.Ring.{additive}
 use Rattle.faults.proofs.First.{IsClear, lone-first}
 use Rattle.pool_model.specs.Network.{Net}
 use Rattle.pool_model.specs.Plan.{Written, plan_of, IsWritten, Obeys}
-use Rattle.plan_core.specs.Checks as plans
+use Rattle.plan_core.specs.Faults as plans
 use Rattle.plan_core.specs.declared.fault.PlanFault.{PlanFault}
 use Rattle.plan_core.specs.declared.fault.PlanFault.TheVariants.{Shape, WeightSum, SourceOver, PoolOver, ProductOver, ProductUnder, QualityOver, QualityUnder}
 use Rattle.row_model.specs.Boxes.{Box, root}

@@ -4,7 +4,7 @@ use Rattle.std.specs.Option.{ForSome}
 use Rattle.faults.specs.First.{IsFirst}
 use Rattle.pool_model.specs.Network.{Net}
 use Rattle.pool_model.specs.Plan.{Written}
-use Rattle.plan_core.specs.Checks as plans
+use Rattle.plan_core.specs.Faults as plans
 use Rattle.row_model.specs.Boxes.{Box, root, left_of, right_of}
 use Rattle.row_model.specs.Multipliers.{Proof, IsInOrder}
 use Rattle.row_model.specs.Trees.{Split, is_cut, box_of}

@@ -8,7 +8,7 @@ use Rattle.pool_model.specs.Network.{Net, counts_of}
 use Rattle.pool_model.specs.Plan.{Written}
 use Rattle.pool_model.specs.Claim.{Claimed, with_gap, with_bound, no_plan}
 use Rattle.row_model.specs.Trees.{Split, nodes, IsSplitInOrder}
-use Rattle.plan_core.specs.Checks as plans
+use Rattle.plan_core.specs.Faults as plans
 use Rattle.split_tree.specs.Splits.{Splits, IsOf}
 use Rattle.cert_format.specs.Cert.{Cert, NodeProof, FitsShape, IsCert}
 use Rattle.cert_format.specs.declared.reading.Kind.{Kind}

@@ -9,7 +9,7 @@ use Rattle.pool_model.specs.Plan.{Written}
 use Rattle.pool_model.specs.Claim.{Claimed, with_gap, with_bound, no_plan}
 use Rattle.row_model.specs.Multipliers.{Proof, IsInOrder}
 use Rattle.row_model.specs.Trees.{Split, Tree, nodes, box_of, tree_bound}
-use Rattle.plan_core.specs.Checks as plans
+use Rattle.plan_core.specs.Faults as plans
 use Rattle.plan_core.specs.declared.plan.Cost.{Cost}
 use Rattle.plan_core.specs.declared.fault.PlanFault.{PlanFault}
 use Rattle.plan_core.specs.declared.fault.PlanFault.TheVariants as faults

@@ -12,7 +12,7 @@ use Rattle.pool_model.specs.Plan.{Written, plan_of, cost_of}
 use Rattle.pool_model.specs.Starting.{reach_bound}
 use Rattle.row_model.specs.Trees.{Tree, IsTree, tree_bound}
 use Rattle.row_model.proofs.TreeBound.{tree-bound}
-use Rattle.plan_core.specs.Checks.{IsCostOf}
+use Rattle.plan_core.specs.Faults.{IsCostOf}
 use Rattle.plan_core.specs.declared.plan.Cost.{Cost}
 use Rattle.cert_checker.proofs.Lowest.{AtLeast, tree-above}
 

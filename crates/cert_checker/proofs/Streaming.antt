@@ -21,7 +21,7 @@ use Rattle.cert_checker.specs.declared.stream.StreamRefusal.{StreamRefusal}
 use Rattle.cert_checker.specs.declared.stream.StreamRefusal.TheVariants.{Read, TooLong, Refused, Memory}
 use Rattle.cert_checker.specs.declared.verdict.Verdict.{Verdict}
 use Rattle.cert_checker.specs.Refusals.{IsFirstRefusal}
-use Rattle.cert_checker.specs.Streams.{IsAnswer, IsChecked, IsStreamedAs}
+use Rattle.cert_checker.specs.Streams.{IsAnswer, IsStreamAnswer, IsStreamedAs}
 use Rattle.cert_checker.proofs.Followed.{valid-follows}
 use Rattle.cert_checker.proofs.Order.{valid-clear}
 
@@ -41,7 +41,7 @@ no-cert bytes line c faulty spelled = elim (cases_lt (line_feeds bytes) line) [
 
 -- the text was read to its end, and what it claims is valid
 pub answer-valid : (n : Net) (most : ℕ) (rest : Option (List ℕ)) (bytes : List ℕ) (items : List Field) (v : Verdict) → IsLimited n → (t : IsTextOf most rest bytes items)
-    → IsValid n t.cert → v ≡ verdict_of t.cert.claim → IsChecked n rest most (Ok v)
+    → IsValid n t.cert → v ≡ verdict_of t.cert.claim → IsStreamAnswer n rest most (Ok v)
 answer-valid n most rest bytes items v limited t valid verdict = record {
   bytes = bytes;
   are = t.are;
@@ -59,7 +59,7 @@ refused-by n bytes c _ spelled first = record { cert = c; spelled = spelled; fir
 
 -- the text was read to its end, and this is the first cause to refuse it
 pub answer-refused : (n : Net) (most : ℕ) (rest : Option (List ℕ)) (bytes : List ℕ) (items : List Field) (r : Refusal) → (t : IsTextOf most rest bytes items)
-    → IsFirstRefusal n t.cert r → IsChecked n rest most (Err (Refused r))
+    → IsFirstRefusal n t.cert r → IsStreamAnswer n rest most (Err (Refused r))
 answer-refused n most rest bytes items r t first = record {
   bytes = bytes;
   are = t.are;
@@ -68,7 +68,7 @@ answer-refused n most rest bytes items r t first = record {
 
 -- no certificate has the text
 pub answer-faulty : (n : Net) (most : ℕ) (rest : Option (List ℕ)) (s : Reader) (now : Option (List ℕ)) (f : TextFault) → FailsLater (fresh most) rest s now f
-    → IsChecked n rest most (Err (Refused (Text f)))
+    → IsStreamAnswer n rest most (Err (Refused (Text f)))
 answer-faulty n most rest s now f later =
     let bytes = later.ran.took.taken ++ later.fault_is.took.taken in
     let faulty = run-fails most rest later.before later.rest_before later.items s now f later.ran later.fault_is in
@@ -84,13 +84,13 @@ any-rest : (rest : Option (List ℕ)) → (bytes : List ℕ) × IsRest rest byte
 any-rest None = ([], λ x e. absurd cc)
 any-rest (Some r) = (r, λ x e. cc)
 
-pub answer-read : (n : Net) (most : ℕ) (rest : Option (List ℕ)) → IsChecked n rest most (Err Read)
+pub answer-read : (n : Net) (most : ℕ) (rest : Option (List ℕ)) → IsStreamAnswer n rest most (Err Read)
 answer-read n most rest = let a = any-rest rest in record { bytes = a.0; are = a.1; answer_is = tt }
 
-pub answer-memory : (n : Net) (most : ℕ) (rest : Option (List ℕ)) → IsChecked n rest most (Err Memory)
+pub answer-memory : (n : Net) (most : ℕ) (rest : Option (List ℕ)) → IsStreamAnswer n rest most (Err Memory)
 answer-memory n most rest = let a = any-rest rest in record { bytes = a.0; are = a.1; answer_is = tt }
 
-pub answer-long : (n : Net) (most : ℕ) (rest : Option (List ℕ)) → IsMore most rest → IsChecked n rest most (Err TooLong)
+pub answer-long : (n : Net) (most : ℕ) (rest : Option (List ℕ)) → IsMore most rest → IsStreamAnswer n rest most (Err TooLong)
 answer-long n most None more = let long = longer most in record { bytes = long.0; are = λ x e. absurd cc; answer_is = long.1 }
   where
     longer : (m : ℕ) → (bytes : List ℕ) × (m < length bytes)
@@ -100,7 +100,7 @@ answer-long n most (Some r) more = record { bytes = r; are = λ x e. cc; answer_
 
 -- ---- a valid certificate
 
-pub streamed : (n : Net) (most : ℕ) (rest : Option (List ℕ)) (bytes : List ℕ) (c : Cert) (result : Result Verdict StreamRefusal) → IsChecked n rest most result
+pub streamed : (n : Net) (most : ℕ) (rest : Option (List ℕ)) (bytes : List ℕ) (c : Cert) (result : Result Verdict StreamRefusal) → IsStreamAnswer n rest most result
     → rest ≡ Some bytes → length bytes ≤ most
     → Spells bytes c → IsValid n c → result ≢ Err (Refused NoMemory) → IsStreamedAs c.claim result
 streamed n most rest bytes c result checked told short spelled valid other = cases result checked.answer_is other

@@ -2,14 +2,14 @@
 use Rattle.std.proofs.Common.{◌≡◌, ℕ, inl, inr, List, Option, Some, Result, Err, sym, subst}
 use Rattle.pool_model.specs.Network.{Net}
 use Rattle.pool_model.specs.Claim.{Claimed}
-use Rattle.cert_checker.specs.Streams.{IsAnswer, IsChecked, IsStreamedAs}
+use Rattle.cert_checker.specs.Streams.{IsAnswer, IsStreamAnswer, IsStreamedAs}
 use Rattle.cert_checker.specs.declared.refusal.Refusal.{Refusal}
 use Rattle.cert_checker.specs.declared.stream.StreamRefusal.{StreamRefusal}
 use Rattle.cert_checker.specs.declared.stream.StreamRefusal.TheVariants.{Refused}
 use Rattle.cert_checker.specs.declared.verdict.Verdict.{Verdict}
 
 -- the bytes that are told are those that were answered on
-pub text-answer : (n : Net) (bytes : List ℕ) (rest : Option (List ℕ)) (most : ℕ) (answer : Result Verdict StreamRefusal) → rest ≡ Some bytes → IsChecked n rest most answer
+pub text-answer : (n : Net) (bytes : List ℕ) (rest : Option (List ℕ)) (most : ℕ) (answer : Result Verdict StreamRefusal) → rest ≡ Some bytes → IsStreamAnswer n rest most answer
     → IsAnswer n bytes most answer
 text-answer n bytes rest most answer told checked = subst (λ (b : List ℕ). IsAnswer n b most answer) (sym (checked.are bytes told)) checked.answer_is
 

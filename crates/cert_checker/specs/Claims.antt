@@ -3,7 +3,7 @@ use Rattle.std.specs.Prelude.{◌≡◌, ◌≢◌, ◌⊎◌, Option, None, Som
 use Rattle.std.specs.Int.{w128}
 use Rattle.pool_model.specs.Network.{Net}
 use Rattle.pool_model.specs.Claim.{Claimed, with_gap, with_bound, no_plan}
-use Rattle.plan_core.specs.Checks.{IsCostOf}
+use Rattle.plan_core.specs.Faults.{IsCostOf}
 use Rattle.plan_core.specs.declared.plan.Cost.{Cost}
 use Rattle.plan_core.specs.declared.fault.PlanFault.{PlanFault}
 use Rattle.cert_checker.specs.declared.refusal.Refusal.{Refusal}

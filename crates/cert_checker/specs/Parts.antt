@@ -5,7 +5,7 @@ use Rattle.pool_model.specs.Network.{Net, counts_of}
 use Rattle.pool_model.specs.Plan.{Written}
 use Rattle.pool_model.specs.Claim.{Claimed, with_gap, with_bound, no_plan}
 use Rattle.row_model.specs.Trees.{Split, nodes}
-use Rattle.plan_core.specs.Checks as plans
+use Rattle.plan_core.specs.Faults as plans
 use Rattle.plan_core.specs.Views.{shown_plan}
 use Rattle.plan_core.specs.declared.fault.PlanFault.{PlanFault}
 use Rattle.plan_core.specs.declared.plan.Cost.{Cost}

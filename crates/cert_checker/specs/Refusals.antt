@@ -6,7 +6,7 @@ use Rattle.pool_model.specs.Plan.{plan_of, cost_of}
 use Rattle.pool_model.specs.Claim.{Claimed, with_gap, with_bound, no_plan}
 use Rattle.row_model.specs.Multipliers.{Proof}
 use Rattle.row_model.specs.Trees.{Split, Tree, nodes, most_splits, IsSplitInOrder, box_of, tree_bound}
-use Rattle.plan_core.specs.Checks as plans
+use Rattle.plan_core.specs.Faults as plans
 use Rattle.plan_core.specs.declared.fault.PlanFault.{PlanFault}
 use Rattle.row_book.specs.Faults as proofs
 use Rattle.row_book.specs.declared.fault.ProofFault.{ProofFault}

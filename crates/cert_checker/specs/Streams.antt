@@ -22,7 +22,7 @@ IsAnswer n bytes most (Err Read) = Unit {0}
 IsAnswer n bytes most (Err Memory) = Unit {0}
 
 -- the answer on some bytes that are the rest of a file, where it is told
-pub record IsChecked (n : Net) (rest : Option (List ℕ)) (most : ℕ) (answer : Result Verdict StreamRefusal) : Type 0 where
+pub record IsStreamAnswer (n : Net) (rest : Option (List ℕ)) (most : ℕ) (answer : Result Verdict StreamRefusal) : Type 0 where
   pub bytes : List ℕ
   pub are : IsRest rest bytes
   pub answer_is : IsAnswer n bytes most answer
@@ -30,7 +30,7 @@ pub record IsChecked (n : Net) (rest : Option (List ℕ)) (most : ℕ) (answer :
 -- an answer on the rest of a file, of which nothing was read before
 pub record IsAnswered (n : Net) (most : ℕ) (m k : Moment) (answer : Result Verdict StreamRefusal) : Type 0 where
   pub kept : Kept m k
-  pub checked : IsChecked n m.rest most answer
+  pub checked : IsStreamAnswer n m.rest most answer
   pub too_long : answer ≡ Err TooLong → TookMore most m.taken k.taken
   pub read : answer ≡ Err Read → Rose m.faults k.faults
   pub no_memory_refusal : answer ≢ Err (Refused NoMemory)

@@ -10,7 +10,7 @@ ghost use Rattle.cert_stream.specs.Streams.{TookMore, fresh};
 ghost use Rattle.cert_checker.specs.Answers.{Spells};
 ghost use Rattle.cert_checker.specs.Parts.{IsRefusedFront};
 ghost use Rattle.cert_checker.specs.Runs.{Moment, moment, Halts, of_fault, of_refusal};
-ghost use Rattle.cert_checker.specs.Streams.{IsAnswered, IsChecked, IsStreamedAs};
+ghost use Rattle.cert_checker.specs.Streams.{IsAnswered, IsStreamAnswer, IsStreamedAs};
 ghost use Rattle.cert_checker.specs.declared.refusal.Refusal.TheVariants as refusals;
 ghost use Rattle.cert_checker.specs.declared.stream.StreamRefusal.TheVariants as streams;
 
@@ -97,7 +97,7 @@ pub fn check_stream<S: Shelf>(
     requires { most < 2 ^ 63 }
     // Some bytes, which are the rest of the file where it is told, are accepted or refused as a text is and are at most so many; or
     // they are more. What the certificate of these bytes claims follows for every plan.
-    ensures checked { IsChecked (net_of net.now) (S.rest shelf.old) most result }
+    ensures checked { IsStreamAnswer (net_of net.now) (S.rest shelf.old) most result }
     // The text of a valid certificate that is not too long is accepted, unless a read fails or memory runs out.
     ensures valid { (bytes : List ℕ) (c : Cert) → S.rest shelf.old ≡ Some bytes → length bytes ≤ most → Spells bytes c → IsValid (net_of net.now) c → IsStreamedAs c.claim result }
     // Of a file that is too long more was taken than it may have; a read failed only where the count of faults rose.

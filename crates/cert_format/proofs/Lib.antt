@@ -2,4 +2,3 @@ pub mod Lines
 pub mod LineLaws
 pub mod CertLaws
 pub mod Outcomes
-pub mod ValidLaws

@@ -148,79 +148,81 @@ shape_reads =
 abbrev made : ℕ → ℕ → List ℕ → List ℕ → List ℕ → Written
 made b f ws os ds = record { base = b; flow_base = f; weights = ws; outflows = os; direct = ds }
 
--- what is known of the whole behind each part
-abbrev pub W5 : List ℕ → ℕ → ℕ → List ℕ → List ℕ → Written → Type 0
-W5 sh b f ws os z = AreItems (below 64) (get_or sh 6 0) z.direct × (z ≡ made b f ws os z.direct)
+-- what is known of the plan from each part on
+abbrev pub IsFromDirects : List ℕ → ℕ → ℕ → List ℕ → List ℕ → Written → Type 0
+IsFromDirects sh b f ws os z = AreItems (below 64) (get_or sh 6 0) z.direct × (z ≡ made b f ws os z.direct)
 
-abbrev pub W4 : List ℕ → ℕ → ℕ → List ℕ → Written → Type 0
-W4 sh b f ws z = AreItems (below 64) (get_or sh 5 0) z.outflows × W5 sh b f ws z.outflows z
+abbrev pub IsFromOutflows : List ℕ → ℕ → ℕ → List ℕ → Written → Type 0
+IsFromOutflows sh b f ws z = AreItems (below 64) (get_or sh 5 0) z.outflows × IsFromDirects sh b f ws z.outflows z
 
-abbrev pub W3 : List ℕ → ℕ → ℕ → Written → Type 0
-W3 sh b f z = AreItems (below 32) (get_or sh 4 0) z.weights × W4 sh b f z.weights z
+abbrev pub IsFromWeights : List ℕ → ℕ → ℕ → Written → Type 0
+IsFromWeights sh b f z = AreItems (below 32) (get_or sh 4 0) z.weights × IsFromOutflows sh b f z.weights z
 
-abbrev pub W2 : List ℕ → ℕ → Written → Type 0
-W2 sh b z = below 32 z.flow_base × W3 sh b z.flow_base z
+abbrev pub IsFromFlowBase : List ℕ → ℕ → Written → Type 0
+IsFromFlowBase sh b z = below 32 z.flow_base × IsFromWeights sh b z.flow_base z
 
 -- a plan in range, of this shape
 abbrev pub IsPlanOf : List ℕ → Written → Type 0
-IsPlanOf sh z = below 32 z.base × W2 sh z.base z
+IsPlanOf sh z = below 32 z.base × IsFromFlowBase sh z.base z
 
 abbrev numbers : List ℕ → List ℕ → List ℕ
 numbers word ws = line word (map decimal ws)
 
-abbrev w5 : Written → List ℕ
-w5 z = numbers (codes "direct") z.direct ++ []
+-- its text from each part on
+abbrev from_directs : Written → List ℕ
+from_directs z = numbers (codes "direct") z.direct ++ []
 
-abbrev w4 : Written → List ℕ
-w4 z = numbers (codes "outflows") z.outflows ++ w5 z
+abbrev from_outflows : Written → List ℕ
+from_outflows z = numbers (codes "outflows") z.outflows ++ from_directs z
 
-abbrev w3 : Written → List ℕ
-w3 z = numbers (codes "weights") z.weights ++ w4 z
+abbrev from_weights : Written → List ℕ
+from_weights z = numbers (codes "weights") z.weights ++ from_outflows z
 
-abbrev w2 : Written → List ℕ
-w2 z = number_spelling (end_of Line) z.flow_base ++ w3 z
+abbrev from_flow_base : Written → List ℕ
+from_flow_base z = number_spelling (end_of Line) z.flow_base ++ from_weights z
 
-abbrev w1 : Written → List ℕ
-w1 z = number_spelling (end_of Space) z.base ++ w2 z
+abbrev from_base : Written → List ℕ
+from_base z = number_spelling (end_of Space) z.base ++ from_flow_base z
 
-abbrev v5 : List ℕ → ℕ → ℕ → List ℕ → List ℕ → At → Result (Written × At) ℕ
-v5 sh b f ws os a = flows_at (codes "direct") (get_or sh 6 0) a >>= λ ds. Ok (made b f ws os ds.0, ds.1)
+-- how it is read from each part on
+abbrev read_directs : List ℕ → ℕ → ℕ → List ℕ → List ℕ → At → Result (Written × At) ℕ
+read_directs sh b f ws os a = flows_at (codes "direct") (get_or sh 6 0) a >>= λ ds. Ok (made b f ws os ds.0, ds.1)
 
-abbrev v4 : List ℕ → ℕ → ℕ → List ℕ → At → Result (Written × At) ℕ
-v4 sh b f ws a = flows_at (codes "outflows") (get_or sh 5 0) a >>= λ os. v5 sh b f ws os.0 os.1
+abbrev read_outflows : List ℕ → ℕ → ℕ → List ℕ → At → Result (Written × At) ℕ
+read_outflows sh b f ws a = flows_at (codes "outflows") (get_or sh 5 0) a >>= λ os. read_directs sh b f ws os.0 os.1
 
-abbrev v3 : List ℕ → ℕ → ℕ → At → Result (Written × At) ℕ
-v3 sh b f a = weights_at (get_or sh 4 0) a >>= λ ws. v4 sh b f ws.0 ws.1
+abbrev read_weights : List ℕ → ℕ → ℕ → At → Result (Written × At) ℕ
+read_weights sh b f a = weights_at (get_or sh 4 0) a >>= λ ws. read_outflows sh b f ws.0 ws.1
 
-abbrev v2 : List ℕ → ℕ → At → Result (Written × At) ℕ
-v2 sh b a = u32_at Line a >>= λ f. v3 sh b f.0 f.1
+abbrev read_flow_base : List ℕ → ℕ → At → Result (Written × At) ℕ
+read_flow_base sh b a = u32_at Line a >>= λ f. read_weights sh b f.0 f.1
 
-abbrev v1 : List ℕ → At → Result (Written × At) ℕ
-v1 sh a = u32_at Space a >>= λ b. v2 sh b.0 b.1
+abbrev read_base : List ℕ → At → Result (Written × At) ℕ
+read_base sh a = u32_at Space a >>= λ b. read_flow_base sh b.0 b.1
 
-wreads5 : (sh : List ℕ) (b f : ℕ) (ws os : List ℕ) → Reads Written (W5 sh b f ws os) w5 (v5 sh b f ws os)
-wreads5 sh b f ws os =
+from_directs-reads : (sh : List ℕ) (b f : ℕ) (ws os : List ℕ) → Reads Written (IsFromDirects sh b f ws os) from_directs (read_directs sh b f ws os)
+from_directs-reads sh b f ws os =
     bind_reads (List ℕ) Written (AreItems (below 64) (get_or sh 6 0)) (numbers (codes "direct")) (flows_at (codes "direct") (get_or sh 6 0))
     (λ ds z. z ≡ made b f ws os ds) (λ _ _. []) (λ ds a. Ok (made b f ws os ds, a)) (λ z. z.direct)
     (flows_reads (codes "direct") refl (get_or sh 6 0)) (λ ds i. done_reads Written (made b f ws os ds)) (λ ds z e. ap (λ (y : Written). y.direct) e)
 
-wreads4 : (sh : List ℕ) (b f : ℕ) (ws : List ℕ) → Reads Written (W4 sh b f ws) w4 (v4 sh b f ws)
-wreads4 sh b f ws = bind_reads (List ℕ) Written (AreItems (below 64) (get_or sh 5 0)) (numbers (codes "outflows"))
-    (flows_at (codes "outflows") (get_or sh 5 0)) (λ os z. W5 sh b f ws os z) (λ _ z. w5 z) (λ os a. v5 sh b f ws os a) (λ z. z.outflows)
-    (flows_reads (codes "outflows") refl (get_or sh 5 0)) (λ os i. wreads5 sh b f ws os) (λ os z h. ap (λ (y : Written). y.outflows) h.1)
+from_outflows-reads : (sh : List ℕ) (b f : ℕ) (ws : List ℕ) → Reads Written (IsFromOutflows sh b f ws) from_outflows (read_outflows sh b f ws)
+from_outflows-reads sh b f ws = bind_reads (List ℕ) Written (AreItems (below 64) (get_or sh 5 0)) (numbers (codes "outflows"))
+    (flows_at (codes "outflows") (get_or sh 5 0)) (λ os z. IsFromDirects sh b f ws os z) (λ _ z. from_directs z) (λ os a. read_directs sh b f ws os a) (λ z. z.outflows)
+    (flows_reads (codes "outflows") refl (get_or sh 5 0)) (λ os i. from_directs-reads sh b f ws os) (λ os z h. ap (λ (y : Written). y.outflows) h.1)
 
-wreads3 : (sh : List ℕ) (b f : ℕ) → Reads Written (W3 sh b f) w3 (v3 sh b f)
-wreads3 sh b f = bind_reads (List ℕ) Written (AreItems (below 32) (get_or sh 4 0)) (numbers (codes "weights")) (weights_at (get_or sh 4 0))
-    (λ ws z. W4 sh b f ws z) (λ _ z. w4 z) (λ ws a. v4 sh b f ws a) (λ z. z.weights)
-    (weights_reads (get_or sh 4 0)) (λ ws i. wreads4 sh b f ws) (λ ws z h. ap (λ (y : Written). y.weights) h.1.1)
+from_weights-reads : (sh : List ℕ) (b f : ℕ) → Reads Written (IsFromWeights sh b f) from_weights (read_weights sh b f)
+from_weights-reads sh b f = bind_reads (List ℕ) Written (AreItems (below 32) (get_or sh 4 0)) (numbers (codes "weights")) (weights_at (get_or sh 4 0))
+    (λ ws z. IsFromOutflows sh b f ws z) (λ _ z. from_outflows z) (λ ws a. read_outflows sh b f ws a) (λ z. z.weights)
+    (weights_reads (get_or sh 4 0)) (λ ws i. from_outflows-reads sh b f ws) (λ ws z h. ap (λ (y : Written). y.weights) h.1.1)
 
-wreads2 : (sh : List ℕ) (b : ℕ) → Reads Written (W2 sh b) w2 (v2 sh b)
-wreads2 sh b = bind_reads ℕ Written (below 32) (number_spelling (end_of Line)) (u32_at Line) (λ f z. W3 sh b f z) (λ _ z. w3 z) (λ f a. v3 sh b f a) (λ z. z.flow_base)
-    (u32_reads Line) (λ f i. wreads3 sh b f) (λ f z h. ap (λ (y : Written). y.flow_base) h.1.1.1)
+from_flow_base-reads : (sh : List ℕ) (b : ℕ) → Reads Written (IsFromFlowBase sh b) from_flow_base (read_flow_base sh b)
+from_flow_base-reads sh b = bind_reads ℕ Written (below 32) (number_spelling (end_of Line)) (u32_at Line) (λ f z. IsFromWeights sh b f z) (λ _ z. from_weights z) (λ f a. read_weights sh b f a) (λ z. z.flow_base)
+    (u32_reads Line) (λ f i. from_weights-reads sh b f) (λ f z h. ap (λ (y : Written). y.flow_base) h.1.1.1)
 
-wreads1 : (sh : List ℕ) → Reads Written (IsPlanOf sh) w1 (v1 sh)
-wreads1 sh = bind_reads ℕ Written (below 32) (number_spelling (end_of Space)) (u32_at Space) (λ b z. W2 sh b z) (λ _ z. w2 z) (λ b a. v2 sh b a) (λ z. z.base)
-    (u32_reads Space) (λ b i. wreads2 sh b) (λ b z h. ap (λ (y : Written). y.base) h.1.1.1.1)
+from_base-reads : (sh : List ℕ) → Reads Written (IsPlanOf sh) from_base (read_base sh)
+from_base-reads sh = bind_reads ℕ Written (below 32) (number_spelling (end_of Space)) (u32_at Space) (λ b z. IsFromFlowBase sh b z) (λ _ z. from_flow_base z) (λ b a. read_flow_base sh b a) (λ z. z.base)
+    (u32_reads Space) (λ b i. from_flow_base-reads sh b) (λ b z h. ap (λ (y : Written). y.base) h.1.1.1.1)
 
 -- two numbers of a line, and what stands behind it
 pub two_numbers : (x y rest : List ℕ) → (x ++ 32 ∷ []) ++ ((y ++ 10 ∷ []) ++ rest) ≡ ((x ++ (32 ∷ (y ++ []))) ++ 10 ∷ []) ++ rest
@@ -228,7 +230,7 @@ two_numbers x y rest = simp (append_assoc, append-nil)
 
 pub plan_reads : (sh : List ℕ) → Reads Written (IsPlanOf sh) plan_lines (plan_at sh)
 unfolding plan_at
-plan_reads sh = reworded Written (IsPlanOf sh) (IsPlanOf sh) (λ z. codes "plan " ++ w1 z) plan_lines (plan_at sh) (word_then (codes "plan ") refl (wreads1 sh)) (λ z h. h) (λ z h. h)
+plan_reads sh = reworded Written (IsPlanOf sh) (IsPlanOf sh) (λ z. codes "plan " ++ from_base z) plan_lines (plan_at sh) (word_then (codes "plan ") refl (from_base-reads sh)) (λ z h. h) (λ z h. h)
     (λ z h. ap (λ (r : List ℕ). codes "plan " ++
     (number_spelling (end_of Space) z.base ++
     (number_spelling (end_of Line) z.flow_base ++ (numbers (codes "weights") z.weights ++ (numbers (codes "outflows") z.outflows ++ r))))) (append-nil (numbers (codes "direct") z.direct))

@@ -1,2 +1,2 @@
 -- Lemmas on sums over the numbers of a key.
-pub mod Totals
+pub mod Parts

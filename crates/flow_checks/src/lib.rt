@@ -9,7 +9,7 @@
 //!
 //! `specs/Flows.antt` says which plan flows stand for, and `specs/Qualities.antt` what they bring. No call takes memory.
 //!
-//! Proofs above may cite `proofs/Totals.antt`: sums over the numbers of a key, with one term more, and how large they are.
+//! Proofs above may cite `proofs/Parts.antt`: how large a quality of a source is, and what a flow brings of it.
 #![tactic(auto)]
 
 mod carried;

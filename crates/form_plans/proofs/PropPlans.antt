@@ -14,7 +14,7 @@ use Rattle.program_plans.proofs.PlanFlows.{plan-same, plan-obeys, proportions-pa
 use Rattle.plan_bases.specs.Divisors.{IsFlowDivisor}
 use Rattle.flow_checks.specs.Flows.{flows_plan}
 use Rattle.point_checks.specs.Slices.{point_over, seen}
-use Rattle.point_checks.specs.Checks.{IsPropPoint}
+use Rattle.point_checks.specs.ProportionTests.{IsPropPoint}
 use Rattle.point_checks.specs.declared.slices.PropSlices.{PropSlices}
 use Rattle.form_plans.specs.Faults.{AreTooFine}
 use Rattle.form_plans.specs.Made.{IsMade}

@@ -17,7 +17,7 @@ use Rattle.program_plans.proofs.PlanFlows.{plan-same, plan-obeys, qualities-part
 use Rattle.plan_bases.specs.Divisors.{IsFlowDivisor}
 use Rattle.flow_checks.specs.Flows.{AreFlows, flows_plan}
 use Rattle.quality_checks.specs.Slices.{point_over, seen}
-use Rattle.quality_checks.specs.Checks.{IsQualPoint}
+use Rattle.quality_checks.specs.QualityTests.{IsQualPoint}
 use Rattle.quality_checks.specs.declared.slices.QualSlices.{QualSlices}
 use Rattle.quality_checks.proofs.QualPoints.{point-fits}
 use Rattle.plan_parts.specs.Parts.{AreParts, AreTooFineParts}

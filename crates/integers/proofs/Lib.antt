@@ -13,3 +13,4 @@ pub mod Pairs
 pub mod Pairwise
 pub mod Tabulate
 pub mod Numbers
+pub mod WideSums

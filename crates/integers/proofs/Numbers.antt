@@ -1,9 +1,10 @@
 -- Laws of `numbers_at`: which numbers stand in it, their order, one number more, and sums over them.
 use Rattle.std.proofs.Common.{◌≡◌, ◌≢◌, ℕ, zero, suc, ◌+◌, ◌<◌, inl, inr, Bool, true, false, List, [], ◌∷◌, ◌++◌, ◌==◌, if◌then◌else◌, ℤ, pos, ◌+ℤ◌, add-one, refl, sym, ap, subst, ◌∙◌, arith}
-use Rattle.std.specs.List.{All, AllPairs, Contains}
+use Rattle.std.specs.List.{All, AllPairs, Contains, sum_by}
 use Rattle.std.proofs.lemmas.List.{append-nil}
+use Rattle.std.proofs.lemmas.List.Sums.{sum_by-append, sum_by-cons}
 use Rattle.std.proofs.lemmas.List.Elements.{All-nil, All-cons, All-append, All-weaker, Contains-append_left, Contains-append_right}
-use Rattle.integers.specs.Sums.{int_sum_by, int_sum_at}
+use Rattle.integers.specs.Sums.{int_sum_by, int_sum_at, sum_at}
 use Rattle.integers.specs.Numbers.{numbers_at}
 use Rattle.integers.proofs.Ring.{additive}
 use Rattle.integers.proofs.AtKey.{same_or_other, chosen, passed}
@@ -74,3 +75,14 @@ numbers_at-sum f key k (suc n) =
     one_or_none : (b : Bool) (f : ℕ → ℤ) (n : ℕ) → int_sum_by f (if b then n ∷ [] else []) ≡ (if b then f n else pos 0)
     one_or_none true f n = omega (arith, additive)
     one_or_none false f n = refl
+
+pub numbers_at-total : (f : ℕ → ℕ) (key : ℕ → ℕ) (k n : ℕ) → sum_by f (numbers_at key k n) ≡ sum_at key k f n
+numbers_at-total f key k zero = refl
+numbers_at-total f key k (suc n) =
+    sum_by-append f (numbers_at key k n) (if key n == k then n ∷ [] else [])
+    ∙ ap (λ z. z + sum_by f (if key n == k then n ∷ [] else [])) (numbers_at-total f key k n)
+    ∙ ap (λ z. sum_at key k f n + z) (one (key n == k) f n)
+  where
+    one : (b : Bool) (f : ℕ → ℕ) (n : ℕ) → sum_by f (if b then n ∷ [] else []) ≡ (if b then f n else 0)
+    one true f n = omega (arith, sum_by-cons f n [])
+    one false f n = refl

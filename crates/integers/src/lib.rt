@@ -8,6 +8,7 @@
 //! - `proofs/Grids.antt`, `proofs/Elements.antt`, `proofs/Pairwise.antt`: places in a grid, what holds of each element of a list,
 //!   and of each element and each later one.
 //! - `specs/Numbers.antt`, `proofs/Tabulate.antt`, `proofs/Numbers.antt`: tables of the first numbers, and the numbers that have a key.
+//! - `proofs/WideSums.antt`: sums that code adds up in 128 bits, one term at a time, and how large they are.
 //! - `specs/Divisors.antt`, `proofs/Divides.antt`, `proofs/Twos.antt`: numbers with no common divisor, what a quotient by the
 //!   greatest common divisor leaves, and halving.
 #![tactic(auto)]

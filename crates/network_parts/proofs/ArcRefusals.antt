@@ -6,7 +6,7 @@ use Rattle.network_parts.specs.Faults.{IsUnknownName}
 use Rattle.network_parts.specs.FirstFault.{IsFirstFault, LacksEarlier}
 use Rattle.network_parts.specs.Nodes.{is_backward, is_between_pools}
 use Rattle.network_parts.specs.Views.{shown_path}
-use Rattle.network_parts.specs.Checks.{IsDistinct, AreEndsOf, IsMarked, IsRepeatedEnds, AreArcsOf, no_ends}
+use Rattle.network_parts.specs.Ready.{IsDistinct, AreEndsOf, IsMarked, IsRepeatedEnds, AreArcsOf, no_ends}
 use Rattle.faults.specs.First.{IsFirstOf}
 use Rattle.network_parts.specs.declared.arcs.Ends.{Ends}
 use Rattle.network_parts.specs.declared.arcs.Arcs.{Arcs}

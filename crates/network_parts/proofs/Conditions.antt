@@ -15,7 +15,7 @@ use Rattle.network_parts.specs.declared.arcs.Arc as own
 use Rattle.network_parts.specs.Faults.{IsUnknownName, IsArcBackwards, IsPoolToPool, IsDuplicateArc, IsPoolWithoutInput, IsPoolWithoutOutput, ends_of, node_names}
 use Rattle.network_parts.specs.Nodes.{known, node_of, nodes_of, source_number, pool_number, product_number, is_backward, is_between_pools}
 use Rattle.network_parts.specs.Views.{shown_arc}
-use Rattle.network_parts.specs.Checks.{IsDistinct, AreEndsOf, IsMarked, IsRepeatedEnds, AreArcsOf, no_ends}
+use Rattle.network_parts.specs.Ready.{IsDistinct, AreEndsOf, IsMarked, IsRepeatedEnds, AreArcsOf, no_ends}
 use Rattle.network_parts.proofs.Lookups.{found_contains, has_number, number_of_some, source_number_is, pool_number_is, product_number_is}
 
 -- ---- the nodes at the ends

@@ -10,7 +10,7 @@ use Rattle.pool_model.specs.Network.{Arc, no_arc}
 use Rattle.network_parts.specs.declared.arcs.Node.{Node}
 use Rattle.network_parts.specs.declared.arcs.Ends.{Ends}
 use Rattle.network_parts.specs.Nodes.{known, nodes_of, node_of, join, pool_number, product_number, feed_between, out_between, direct_between}
-use Rattle.network_parts.specs.Checks.{IsDistinct, AreEndsOf}
+use Rattle.network_parts.specs.Ready.{IsDistinct, AreEndsOf}
 use Rattle.network_parts.specs.Views.{shown_arc, kept_arc}
 use Rattle.network_parts.proofs.Lookups.{source_number_is, pool_number_is, product_number_is, number_of_some, found_contains, apart}
 

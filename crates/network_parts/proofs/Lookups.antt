@@ -11,7 +11,7 @@ use Rattle.network_parts.specs.Faults.{IsRepeatAt, node_names}
 use Rattle.network_parts.specs.declared.arcs.Node.{Node}
 use Rattle.network_parts.specs.declared.arcs.Node.TheVariants.{Source, Pool, Product}
 use Rattle.network_parts.specs.Nodes.{node_by_place, node_of, source_number, pool_number, product_number}
-use Rattle.network_parts.specs.Checks.{IsDistinct}
+use Rattle.network_parts.specs.Ready.{IsDistinct}
 
 -- where a name was found
 pub record IsFound (name : List ℕ) (names : List (List ℕ)) (i : ℕ) : Type 0 where

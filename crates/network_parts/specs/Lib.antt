@@ -4,4 +4,4 @@ pub mod Names
 pub mod Nodes
 pub mod Faults
 pub mod FirstFault
-pub mod Checks
+pub mod Ready

@@ -7,7 +7,7 @@ ghost use Rattle.network_parts.specs.Views.{kept_arc};
 ghost use Rattle.std.specs.Option.{option_map};
 ghost use Rattle.network_parts.specs.Names.{names_in};
 ghost use Rattle.network_parts.specs.Faults.{node_names, IsUnknownName};
-ghost use Rattle.network_parts.specs.Checks.{IsCounted, IsDistinct, AreEndsOf, IsMarked, IsRepeatedEnds, AreArcsOf};
+ghost use Rattle.network_parts.specs.Ready.{IsCounted, IsDistinct, AreEndsOf, IsMarked, IsRepeatedEnds, AreArcsOf};
 ghost use Rattle.faults.specs.First.{IsFirstOf};
 ghost use Rattle.network_parts.specs.Nodes.{node_of, known, node_by_place, feed_between, out_between, direct_between, is_backward, is_between_pools};
 

@@ -5,7 +5,7 @@ ghost use Rattle.network_parts.specs.Parts.{rows_of};
 ghost use Rattle.network_parts.specs.Names.{names_in};
 ghost use Rattle.network_parts.specs.Faults.{row_limit, node_names, IsDuplicateName};
 ghost use Rattle.network_parts.specs.FirstFault.{IsFirstFault, LacksEarlier};
-ghost use Rattle.network_parts.specs.Checks.{IsCounted, IsDistinct, IsInRange, AreEndsOf, AreArcsOf, IsChecked};
+ghost use Rattle.network_parts.specs.Ready.{IsCounted, IsDistinct, IsInRange, AreEndsOf, AreArcsOf, IsReady};
 
 use crate::arcs::{Arcs, Ends, arcs_from, check_forward, check_layers, check_repeats, ends_of};
 use crate::fault::{Kind, NetFault};
@@ -34,7 +34,7 @@ const MAX_ARCS: usize = 256;
 
 /// The arcs by kind, or the first fault of the rows.
 pub fn checked_arcs(alloc: Global, parts: &Parts) -> Result<Arcs, NetFault>
-    ensures checked { IfOk result (IsChecked (rows_of parts.now)) }
+    ensures checked { IfOk result (IsReady (rows_of parts.now)) }
     ensures fault { IfErr result (IsFirstFault (rows_of parts.now)) }
 {
     check_counts(parts)?;

@@ -11,8 +11,8 @@ ghost use Rattle.box_space.specs.Tables.{row_of, IsTable};
 use blend_network::{Key, Limit, LimitSide, Network};
 use box_space::{Block, Factor, Rate, RowKind, RowTable, Terms};
 
-/// How many of the rows there are.
-pub(crate) fn count(net: &Network) -> u32
+/// How many of the rows are the same in every box: those before the envelopes.
+pub fn exact_rows(net: &Network) -> u32
     ensures count { result ≡ (net_of net.now).pools * (net_of net.now).qualities + (length (most_limits (net_of net.now)) + length (least_limits (net_of net.now))) }
     ensures small { result ≤ 1152 }
 {

@@ -4,7 +4,7 @@ use Rattle.std.proofs.Math.Nat.{mul-le-mul}
 use Rattle.std.proofs.lemmas.Int.{by_lt_z}
 use Rattle.pool_model.specs.Network.{Net}
 use Rattle.pool_model.specs.Plan.{Written, IsWritten, plan_of, Carries, Blends, cost_of}
-use Rattle.plan_core.specs.Checks.{IsShaped, Keeps, KeepsEach, IsCostOf}
+use Rattle.plan_core.specs.Faults.{IsShaped, Keeps, KeepsEach, IsCostOf}
 use Rattle.plan_core.specs.declared.plan.Cost.{Cost}
 use Rattle.plan_core.specs.declared.fault.PlanFault.TheVariants.{WeightSum, SourceOver, PoolOver, ProductOver, ProductUnder, QualityOver, QualityUnder}
 use Rattle.plan_core.proofs.Supply.{whole_weights, balance, not_less}

@@ -9,7 +9,7 @@ use Rattle.integers.proofs.AtKey.{sum_at-mul, int_sum_at-same, int_sum_at-mul, p
 use Rattle.pool_model.specs.Network.{Net}
 use Rattle.pool_model.specs.Plan.{Written, weight, written_out, written_outflow, plan_of, outflow, product_inflow, mix, factor, quality_inflow, quality_room}
 use Rattle.plan_core.specs.Weighed.{weighed, written_quality, IsAbove, IsBelow}
-use Rattle.plan_core.specs.Checks.{IsAboveMost, IsBelowLeast}
+use Rattle.plan_core.specs.Faults.{IsAboveMost, IsBelowLeast}
 
 -- products in another order
 last_first : (q a b : ℤ) → q *ℤ (a *ℤ b) ≡ b *ℤ (q *ℤ a)

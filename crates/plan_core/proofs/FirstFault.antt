@@ -3,7 +3,7 @@ use Rattle.std.proofs.Common.{◌≡◌, ℕ, ◌<◌, inl, inr, arith, refl}
 use Rattle.faults.proofs.First.{IsClear, IsKinded, kinded-first, kinded-next}
 use Rattle.pool_model.specs.Network.{Net}
 use Rattle.pool_model.specs.Plan.{Written}
-use Rattle.plan_core.specs.Checks.{Breaks, number, about, IsFirstFault, IsFirstQuality}
+use Rattle.plan_core.specs.Faults.{Breaks, number, about, IsFirstFault, IsFirstQuality}
 use Rattle.plan_core.specs.declared.fault.PlanFault.{PlanFault}
 use Rattle.plan_core.specs.declared.fault.PlanFault.TheVariants.{Shape, WeightSum, SourceOver, PoolOver, ProductOver, ProductUnder, QualityOver, QualityUnder}
 use Rattle.plan_core.proofs.Accepted.{KeepsFlows}

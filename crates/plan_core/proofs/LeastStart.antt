@@ -10,7 +10,7 @@ use Rattle.pool_model.specs.Starting.{IsCheapestStart, IsStarting, IsWay, MeetsM
 use Rattle.pool_model.specs.Starting as model
 use Rattle.pool_model.proofs.Paths.{path_at-way}
 use Rattle.pool_model.proofs.StartOrder.{start_at-every, start_at-written, way-obeys, way-minima, way-cost}
-use Rattle.plan_core.specs.Checks.{IsCostOf}
+use Rattle.plan_core.specs.Faults.{IsCostOf}
 use Rattle.plan_core.specs.Cheapest.{better, is_cheaper, IsFirstLeast, IsFirstLeastAt}
 use Rattle.plan_core.specs.Views.{shown_way, IsInRange}
 use Rattle.plan_core.specs.declared.cheapest.Choice.{Choice}

@@ -6,7 +6,7 @@ use mir.Syntax.{w64}
 use mir.Val.{to_z, of_z}
 use Rattle.pool_model.specs.Network.{Net, IsLimited}
 use Rattle.pool_model.specs.Plan.{Written, plan_of, written_outflow, outflow, product_inflow}
-use Rattle.plan_core.specs.Checks.{IsShaped, Keeps, KeepsEach, IsFirstBroken, IsAboveMost, IsBelowLeast}
+use Rattle.plan_core.specs.Faults.{IsShaped, Keeps, KeepsEach, IsFirstBroken, IsAboveMost, IsBelowLeast}
 use Rattle.plan_core.specs.Weighed.{AreQualities, written_quality, IsAbove, IsBelow, IsFirstBelow}
 use Rattle.plan_core.specs.declared.fault.PlanFault.TheVariants.{QualityOver, QualityUnder}
 use Rattle.plan_core.proofs.Blends.{outflow-plan_of, above_most, most_above, below_least, least_below}

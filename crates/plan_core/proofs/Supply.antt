@@ -9,7 +9,7 @@ use Rattle.integers.proofs.ByNode.{sum_below-add, sum_keys, sum_at-same_key, sum
 use Rattle.integers.proofs.ByNode.{abs-int_sum_at}
 use Rattle.pool_model.specs.Network.{Net, IsLimited, IsWithin}
 use Rattle.pool_model.specs.Plan.{Written, weight, written_out, written_outflow, plan_of, outflow, pool_inflow, source_outflow, product_inflow}
-use Rattle.plan_core.specs.Checks.{IsShaped, Keeps}
+use Rattle.plan_core.specs.Faults.{IsShaped, Keeps}
 use Rattle.plan_core.specs.Weighed.{HasRoom}
 use Rattle.plan_core.specs.declared.fault.PlanFault.TheVariants.{WeightSum, ProductOver}
 use Rattle.plan_core.proofs.Blends.{outflow-plan_of}

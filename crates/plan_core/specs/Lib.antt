@@ -1,5 +1,5 @@
 pub mod Views
 pub mod Weights
-pub mod Checks
+pub mod Faults
 pub mod Weighed
 pub mod Cheapest

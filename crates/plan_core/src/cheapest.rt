@@ -5,7 +5,7 @@ ghost use Rattle.pool_model.specs.Network.{net_of, IsLimited};
 ghost use Rattle.pool_model.specs.Plan.{Obeys, Written, cost_of, plan_of};
 ghost use Rattle.pool_model.specs.Starting.{IsCheapestStart, IsStarting, MeetsMinima, StartObeys, simple_plan as simple_written, start_at};
 ghost use Rattle.pool_model.specs.Starting.{start_cost as start_cost_of, starts, way_flow as way_flow_of, way_product, way_source};
-ghost use Rattle.plan_core.specs.Checks.{IsCostOf};
+ghost use Rattle.plan_core.specs.Faults.{IsCostOf};
 ghost use Rattle.plan_core.specs.Views.{shown_plan, shown_way, IsInRange};
 ghost use Rattle.plan_core.specs.Cheapest.{IsFirstLeast, IsStartWay, better as better_of, is_cheaper as is_cheaper_than};
 

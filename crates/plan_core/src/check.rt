@@ -3,7 +3,7 @@
 ghost use Rattle.std.specs.Prelude.{◌≡◌, ℕ, ◌*◌, ◌<◌, ◌≤◌, ◌^◌, ◌↔◌, [], get_or, pos, unsigned_abs, IfOk, IfErr, IfSome, IsTrue};
 ghost use Rattle.pool_model.specs.Network.{net_of, IsLimited, IsWithin};
 ghost use Rattle.plan_core.specs.Views.{shown_plan};
-ghost use Rattle.plan_core.specs.Checks.{IsShaped, Breaks, Keeps, KeepsEach, IsFirstBroken, IsFirstQuality, IsFirstFault, IsCostOf};
+ghost use Rattle.plan_core.specs.Faults.{IsShaped, Breaks, Keeps, KeepsEach, IsFirstBroken, IsFirstQuality, IsFirstFault, IsCostOf};
 ghost use Rattle.plan_core.specs.Weighed.{ArePoolOutflows, AreSourceOutflows, AreProductInflows, HasRoom, IsAbove, IsBelow, IsFirstBelow};
 
 use crate::cost::cost;

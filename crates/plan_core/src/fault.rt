@@ -3,7 +3,7 @@
 ghost use Rattle.std.specs.Prelude.{◌≡◌};
 ghost use Rattle.pool_model.specs.Network.{Net};
 ghost use Rattle.pool_model.specs.Plan.{Written};
-ghost use Rattle.plan_core.specs.Checks.{number, rank as fault_rank, Breaks};
+ghost use Rattle.plan_core.specs.Faults.{number, rank as fault_rank, Breaks};
 
 use faults::Ranked;
 

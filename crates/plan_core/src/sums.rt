@@ -3,7 +3,7 @@
 ghost use Rattle.std.specs.Prelude.{◌≡◌, ℕ, ◌<◌, ◌≤◌, ◌^◌, get_or, pos, unsigned_abs};
 ghost use Rattle.pool_model.specs.Network.{net_of};
 ghost use Rattle.plan_core.specs.Views.{shown_plan};
-ghost use Rattle.plan_core.specs.Checks.{IsShaped};
+ghost use Rattle.plan_core.specs.Faults.{IsShaped};
 ghost use Rattle.plan_core.specs.Weighed.{AreWeightSums, ArePoolOutflows, AreSourceOutflows, AreProductInflows};
 
 use crate::plan::WrittenPlan;

@@ -2,7 +2,7 @@
 use Rattle.std.proofs.Common.{arith}
 use Rattle.pool_model.specs.Network.{Net, IsLimited}
 use Rattle.pool_model.specs.Plan.{Written, IsWritten, Obeys, plan_of}
-use Rattle.plan_core.specs.Checks.{IsShaped}
+use Rattle.plan_core.specs.Faults.{IsShaped}
 use Rattle.plan_core.specs.Weighed.{HasRoom}
 use Rattle.plan_core.proofs.Supply.{room_of}
 

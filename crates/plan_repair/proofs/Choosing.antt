@@ -9,7 +9,7 @@ use Rattle.integers.proofs.Order.{le-mul, lt-mul, lt-cancel}
 use Rattle.pool_model.specs.Network.{Net}
 use Rattle.pool_model.specs.Plan.{Written, plan_of, cost_of}
 use Rattle.row_model.specs.Entries.{IsCheaper}
-use Rattle.plan_core.specs.Checks.{Breaks, IsCostOf}
+use Rattle.plan_core.specs.Faults.{Breaks, IsCostOf}
 use Rattle.plan_core.specs.Views.{shown_plan}
 use Rattle.plan_core.specs.declared.plan.Cost.{Cost}
 use Rattle.plan_core.specs.declared.plan.WrittenPlan.{WrittenPlan}

@@ -3,7 +3,7 @@
 ghost use Rattle.std.specs.Prelude.{◌≡◌, ℕ, ◌<◌, IfSome, IfNone, IsSomeAnd};
 ghost use Rattle.std.specs.Option.{ForSome, option_copied};
 ghost use Rattle.pool_model.specs.Network.{net_of};
-ghost use Rattle.plan_core.specs.Checks.{IsCostOf};
+ghost use Rattle.plan_core.specs.Faults.{IsCostOf};
 ghost use Rattle.plan_core.specs.Views.{shown_plan};
 ghost use Rattle.plan_repair.specs.Repairs.{IsAccepted};
 ghost use Rattle.plan_repair.specs.Choices.{cheapest as cheapest_of, gained as gained_of, is_below as is_below_limit, is_less as is_less_than, HasBase, IsLimit, shown_best};

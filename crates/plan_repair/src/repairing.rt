@@ -5,7 +5,7 @@ ghost use Rattle.std.specs.Option.{ForSome, option_copied};
 ghost use Rattle.pool_model.specs.Network.{net_of};
 ghost use Rattle.row_model.specs.Variables.{variables};
 ghost use Rattle.row_model.specs.Entries.{IsCheaper};
-ghost use Rattle.plan_core.specs.Checks.{IsCostOf};
+ghost use Rattle.plan_core.specs.Faults.{IsCostOf};
 ghost use Rattle.plan_core.specs.Views.{shown_plan};
 ghost use Rattle.plan_repair.specs.Choices.{shown_best};
 ghost use Rattle.plan_repair.specs.PlainPlan.{plain_plan as plain_written};

@@ -9,7 +9,7 @@ use Rattle.program_model.specs.Programs.{IsPointOfQ}
 use Rattle.program_plans.proofs.Bounds.{carries-bounded, part-le, path-le, proportion-le}
 use Rattle.flow_checks.specs.Sizes.{AreAtMost}
 use Rattle.point_checks.specs.Slices.{seen}
-use Rattle.point_checks.specs.Checks.{HasPropShape, IsPropPoint, FitsProps, AreSmallProps, SumsToOne, ComesFrom, IsProduct, KeepsLimits}
+use Rattle.point_checks.specs.ProportionTests.{HasPropShape, IsPropPoint, FitsProps, AreSmallProps, SumsToOne, ComesFrom, IsProduct, KeepsLimits}
 use Rattle.point_checks.specs.declared.slices.PropSlices.{PropSlices}
 
 -- the sizes of a point hold by themselves

@@ -4,7 +4,7 @@
 //! [`are_bases`] whether bases are within theirs. Shape, sizes and
 //! products are tested first, so that every sum fits.
 //!
-//! `specs/Slices.antt` says which point of `program_model` the lists stand for, and `specs/Checks.antt` what the tests look at,
+//! `specs/Slices.antt` says which point of `program_model` the lists stand for, and `specs/ProportionTests.antt` what the tests look at,
 //! part by part. No call takes memory.
 //!
 //! Proofs above may cite `proofs/Tests.antt`: tests of a fact at each number below a count, and of facts that are the same.

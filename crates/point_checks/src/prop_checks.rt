@@ -5,7 +5,7 @@ ghost use Rattle.integers.specs.Sums.{sum_at};
 ghost use Rattle.pool_model.specs.Network.{IsLimited, net_of};
 ghost use Rattle.row_model.specs.Variables.{path_count};
 ghost use Rattle.point_checks.specs.Slices.{seen};
-ghost use Rattle.point_checks.specs.Checks.{AreBases, ComesFrom, FitsProps, HasPropShape, IsProduct, SumsToOne};
+ghost use Rattle.point_checks.specs.ProportionTests.{AreBases, ComesFrom, FitsProps, HasPropShape, IsProduct, SumsToOne};
 
 use crate::slices::PropSlices;
 use blend_network::{Key, Network};

@@ -4,7 +4,7 @@ ghost use Rattle.std.specs.Prelude.{◌≡◌, ℕ, ◌<◌, ◌≤◌, ◌↔�
 ghost use Rattle.pool_model.specs.Network.{IsLimited, net_of};
 ghost use Rattle.pool_model.specs.Plan.{Carries};
 ghost use Rattle.program_model.specs.Points.{proportion_flows};
-ghost use Rattle.point_checks.specs.Checks.{AreSmallProps, FitsProps, HasPropShape, IsPropPoint, KeepsLimits};
+ghost use Rattle.point_checks.specs.ProportionTests.{AreSmallProps, FitsProps, HasPropShape, IsPropPoint, KeepsLimits};
 ghost use Rattle.point_checks.specs.Slices.{seen};
 
 use crate::prop_checks::{are_products, come_from_feeds, fits, has_shape, sum_to_one};

@@ -15,7 +15,8 @@ use Rattle.row_model.specs.Trees.{Split, Tree, IsTree, left_node, right_node, no
 use Rattle.row_model.specs.Entries.{Entry, root_proof, split_of, improve, Searched, start, after, made_from, made_by, AreInOrder, IsSearched, IsRootInOrder}
 use Rattle.row_model.specs.Entries.{IsSplitEntryInOrder, IsEntryInOrder, AreInOrderFrom, IsCheaper}
 use Rattle.row_model.proofs.EntryLaw.{length-more, searched-kept}
-use Rattle.row_model.proofs.TreeBound.{tree-empty}
+use Rattle.row_model.proofs.TreeBound.{tree-empty, which_node}
+use Rattle.row_model.proofs.TreeLaw.{cut_behind}
 use Rattle.pool_model.specs.Claim as claims
 use Rattle.tree_certificate.specs.Certificates.{cert_of, claim_of}
 use Rattle.search_run.specs.Runs.{AreSteps, IsRun}
@@ -24,7 +25,6 @@ use Rattle.search_run.specs.declared.ended.Ended.{Ended}
 use Rattle.search_run.proofs.Covering.{lt-then-lt, written-base}
 use Rattle.box_tree.proofs.Growing.{bound-old, bound-left, bound-right}
 use Rattle.box_tree.proofs.Rooting.{no_splits}
-use Rattle.search_run.proofs.Proofs.{cut-more, where-node}
 use Rattle.pool_cli.specs.Resumed.{IsAtLeast, IsNoDearer, GivesPlan, IsNoWorse}
 
 -- ---- bounds
@@ -102,13 +102,13 @@ module _ (n : Net) (s : Searched) (split : Split) (left right : Option Proof) (i
   old-leaf : (i : ℕ) → i < nodes s.tree.splits → IsAtLeast (leaf_bound n new i) (tree_bound n s.tree)
   old-leaf i lt =
       at_least-then (leaf_bound n new i) (leaf_bound n s.tree i) (tree_bound n s.tree)
-      (subst (λ (b : Bool). IsAtLeast (if b then None else node_bound n new i) (leaf_bound n s.tree i)) (sym (cut-more s.tree.splits split i))
+      (subst (λ (b : Bool). IsAtLeast (if b then None else node_bound n new i) (leaf_bound n s.tree i)) (sym (cut_behind s.tree.splits split i))
       (subst (λ (o : Option ℤ). IsAtLeast (if is_cut s.tree.splits i || (split.leaf == i) then None else o) (leaf_bound n s.tree i)) (sym (bound-old n s split left right is i lt))
       (at_least-cut (is_cut s.tree.splits i) (split.leaf == i) (node_bound n s.tree i))))
       (each-at_least (leaf_bound n s.tree) (nodes s.tree.splits) i lt)
 
   new-leaf : (i : ℕ) → i < nodes new.splits → IsAtLeast (leaf_bound n new i) (tree_bound n s.tree)
-  new-leaf i lt = elim (where-node (length s.tree.splits) i (omega (arith, length-more s.tree.splits split))) [
+  new-leaf i lt = elim (which_node (length s.tree.splits) i (omega (arith, length-more s.tree.splits split))) [
     | inl e ↦ at_least-leaf (is_cut new.splits i) (node_bound n new i) (tree_bound n s.tree)
         (subst (λ (j : ℕ). IsAtLeast (node_bound n new j) (tree_bound n s.tree)) (sym e)
         (child (node_bound n new (left_node (length s.tree.splits))) (option_map

@@ -12,7 +12,7 @@ use Rattle.cert_checker.specs.declared.refusal.Refusal.TheVariants.{Text, Memory
 use Rattle.cert_checker.specs.declared.stream.StreamRefusal.{StreamRefusal}
 use Rattle.cert_checker.specs.declared.stream.StreamRefusal.TheVariants as streams
 use Rattle.cert_checker.specs.declared.verdict.Verdict.{Verdict}
-use Rattle.cert_checker.specs.Streams.{IsChecked}
+use Rattle.cert_checker.specs.Streams.{IsStreamAnswer}
 use Rattle.cert_checker.proofs.Order.{valid-clear}
 use Rattle.cert_checker.proofs.Streaming.{spelled-same}
 use Rattle.pool_cli.specs.CheckEnds.{AreRead, CheckEnds, ChecksAs, JudgedUnder, most_bytes}
@@ -38,7 +38,7 @@ refused-invalid n bytes r is own c spelled = clear-first n bytes r is c spelled
 
 module _ (n : Net) (rest : Option (List ℕ)) where
   abbrev Answered : Result Verdict StreamRefusal → Type 0
-  Answered answer = IsChecked n rest most_bytes answer
+  Answered answer = IsStreamAnswer n rest most_bytes answer
 
   pub accepted-line : (v : Verdict) → Answered (Ok v) → LineOnRest n rest statuses.Accepted (accepted_line v)
   accepted-line v h = (h.bytes, record { are = h.are; short = h.answer_is.2 }, record { verdict = v; accepted = h.answer_is.0; follows = h.answer_is.1; spelled = refl })

@@ -1,7 +1,7 @@
 -- The line that `check` prints.
 use Rattle.std.specs.Prelude.{ℕ, List, [], ◌++◌, ℤ, pos, codes}
 use Rattle.std.specs.Fmt.{signed_decimal}
-use Rattle.plan_core.specs.Checks as plans
+use Rattle.plan_core.specs.Faults as plans
 use Rattle.row_book.specs.Faults as proofs
 use Rattle.cert_checker.specs.declared.refusal.Refusal.{Refusal}
 use Rattle.cert_checker.specs.declared.refusal.Refusal.TheVariants as refusals

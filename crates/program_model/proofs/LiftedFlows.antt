@@ -1,17 +1,16 @@
 -- The flows of a plan's point: through pools, and the qualities that they bring.
-use Rattle.std.proofs.Common.{◌≡◌, ℕ, ◌*◌, ◌<◌, inl, inr, ℤ, pos, ◌*ℤ◌, arith, refl, sym, ap, ◌∙◌}
-use Rattle.std.proofs.Math.IntN.{*ℤ-zero}
-use Rattle.integers.specs.Sums.{product_below, product_but, int_sum_at, sum_at}
+use Rattle.std.proofs.Common.{◌≡◌, ℕ, ◌*◌, ◌<◌, ℤ, pos, ◌*ℤ◌, arith, refl, sym, ap, ◌∙◌}
+use Rattle.integers.specs.Sums.{product_but, int_sum_at, sum_at}
 use Rattle.integers.proofs.Ring.{additive, sorted, mul_left_comm_ℤ}
 use Rattle.integers.proofs.Order.{same_pos}
-use Rattle.integers.proofs.AtKey.{same_or_other, int_sum_at-same, int_sum_at-mul, pos-sum_at, product_but_is}
-use Rattle.integers.proofs.ByNode.{int_sum_at-nothing}
+use Rattle.integers.proofs.AtKey.{int_sum_at-same, int_sum_at-mul, pos-sum_at, product_but_is}
 use Rattle.pool_model.specs.Network.{Net, IsLimited}
 use Rattle.pool_model.specs.Plan.{Plan, Carries, outflow, product_inflow, mix, factor, quality_inflow, quality_room}
 use Rattle.row_model.specs.Variables.{path_count, path_feed, path_out}
 use Rattle.row_model.specs.Lift.{lift, others}
 use Rattle.row_model.proofs.PathSums.{HasFeedPools, paths_at_key}
-use Rattle.row_model.proofs.Shares.{no_feed, feed-le}
+use Rattle.row_model.proofs.PRows.{mix-out}
+use Rattle.row_model.proofs.Shares.{feed-le}
 use Rattle.row_model.proofs.QRows.{others-flow, paths_from_feed}
 use Rattle.program_model.specs.Programs.{mixed_inflow, path_inflow}
 use Rattle.program_model.specs.Lifted.{factors, proportion_point, quality_point}
@@ -75,31 +74,6 @@ mixed_inflow-lifted n p j k =
   where
     grouped : (b m y : ℤ) → b *ℤ (m *ℤ y) ≡ b *ℤ m *ℤ y
     grouped b m y = simp sorted refl
-
--- nothing flows into a pool that sends nothing
-mix-nothing : (n : Net) (p : Plan) (l k : ℕ) → IsLimited n → Carries n p → outflow n p l ≡ 0 → mix n p l k ≡ pos 0
-mix-nothing n p l k lim c z =
-    int_sum_at-same n.feed_pool l (λ e. n.source_quality (n.feed_source e) k *ℤ pos (p.feed e)) (λ e. pos 0) n.feeds
-    (λ e lt is. ap (λ x. n.source_quality (n.feed_source e) k *ℤ pos x) (no_feed n p e lim c lt (ap (outflow n p) is ∙ z)) ∙ *ℤ-zero (n.source_quality (n.feed_source e) k))
-    ∙ int_sum_at-nothing n.feed_pool l (λ e. pos 0) n.feeds (λ e lt. refl)
-
--- times all factors, what flows in is the mean times what the pool sends and the other factors
-mix-out : (n : Net) (p : Plan) (l k : ℕ) → IsLimited n → Carries n p → l < n.pools
-    → pos (product_below (factor n p) n.pools) *ℤ mix n p l k ≡ (others n p l *ℤ mix n p l k) *ℤ pos (outflow n p l)
-mix-out n p l k lim c lt = elim (same_or_other (outflow n p l) 0) [
-  | inl z ↦
-      let m = pos (product_below (factor n p) n.pools) in
-      let none = mix-nothing n p l k lim c z in
-      ap (λ x. m *ℤ x) none ∙ *ℤ-zero m ∙ sym (ap (λ y. (others n p l *ℤ mix n p l k) *ℤ pos y) z ∙ *ℤ-zero (others n p l *ℤ mix n p l k))
-  | inr d ↦
-      let b = product_but l (factor n p) n.pools in
-      let same : factor n p l ≡ outflow n p l = omega arith in
-      ap (λ x. pos x *ℤ mix n p l k) (sym (product_but_is l (factor n p) n.pools lt) ∙ ap (λ y. b * y) same)
-      ∙ turned (pos b) (pos (outflow n p l)) (mix n p l k)
-]
-  where
-    turned : (b t m : ℤ) → (b *ℤ t) *ℤ m ≡ (b *ℤ m) *ℤ t
-    turned b t m = simp sorted refl
 
 -- the quality that flows into a pool flows out of it
 pub mixing-lifted : (n : Net) (p : Plan) (l k : ℕ) → IsLimited n → Carries n p → l < n.pools

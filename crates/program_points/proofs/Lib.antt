@@ -3,4 +3,3 @@ pub mod WrittenQ
 pub mod WrittenP
 pub mod SamePoints
 pub mod Lists
-pub mod Totals

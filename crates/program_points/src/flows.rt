@@ -6,7 +6,7 @@ ghost use Rattle.integers.specs.Sums.{sum_at};
 ghost use Rattle.pool_model.specs.Network.{IsLimited, net_of};
 ghost use Rattle.pool_model.specs.Plan.{plan_of, written_outflow};
 ghost use Rattle.row_model.specs.Variables.{path_count};
-ghost use Rattle.plan_core.specs.Checks.{IsShaped};
+ghost use Rattle.plan_core.specs.Faults.{IsShaped};
 ghost use Rattle.plan_core.specs.Views.{shown_plan};
 ghost use Rattle.program_points.specs.Written.{path_flow};
 

@@ -6,11 +6,13 @@ use Rattle.integers.proofs.Grids.{grid-below}
 use Rattle.pool_model.specs.Network.{Net, IsLimited}
 use Rattle.row_model.specs.Boxes.{Box, Agree, root, coords, prop_number, qual_number, flow_number}
 use Rattle.row_model.specs.Variables.{variables, by_number, lows, highs, least_product, greatest_product, path_count, path_feed, path_out}
-use Rattle.row_model.specs.Catalogue.{Row, pq_families, row_count}
+use Rattle.row_model.specs.Catalogue.{Row}
 use Rattle.row_model.proofs.Agreement.{rows-same}
 use Rattle.row_model.proofs.Numbering.{by_number-each}
 use Rattle.row_model.proofs.PathSums.{path_out-below}
 use Rattle.row_book.specs.PartRows.{kind_at, coef_at, constant_at}
+use Rattle.row_book.specs.declared.catalogue.Group.TheVariants as groups
+use Rattle.row_book.specs.Exact.{first_of, exact_count}
 use Rattle.box_space.specs.Views.{AreRoot, shown_box}
 use Rattle.box_space.specs.declared.boxes.BoxEnds.{BoxEnds}
 use Rattle.box_space.specs.declared.boxes.BoxView.{BoxView}
@@ -19,7 +21,7 @@ use Rattle.box_space.specs.declared.coordinates.Form.TheVariants.{P, Q, Pq}
 use Rattle.text_pieces.specs.Pieces.{each_below}
 use Rattle.program_text.specs.Names.{has_symbol, name_of}
 use Rattle.program_text.specs.Lines.{row_head, row_line, row_lines, terms_text, ends_line, ends_text, ends_lines, mixed_line, path_line, cost_line}
-use Rattle.program_text.specs.Programs.{network_rows, exact_rows_of_p, exact_rows_of_q, first_of_q, first_of_pq, head_line, first_lines, network_lines, p_lines}
+use Rattle.program_text.specs.Programs.{head_line, first_lines, network_lines, p_lines}
 use Rattle.program_text.specs.Programs.{q_lines, pq_lines, family_lines, program_in}
 use Rattle.text_pieces.proofs.Each.{each_below-same}
 
@@ -94,22 +96,22 @@ ends_lines-same n b c form lim a = each_below-same (ends_text n b form) (ends_te
 -- ---- programs
 
 p_lines-same : (n : Net) (b c : Box) → IsLimited n → Agree n b c → p_lines n b ≡ p_lines n c
-p_lines-same n b c lim a = ap (λ (w : List ℕ). w ++ each_below (mixed_line n) (n.outs * n.qualities)) (row_lines-same n b c (network_rows n) (exact_rows_of_p n) lim a)
+p_lines-same n b c lim a = ap (λ (w : List ℕ). w ++ each_below (mixed_line n) (n.outs * n.qualities)) (row_lines-same n b c (first_of n groups.P) (exact_count n groups.P) lim a)
 
 q_lines-same : (n : Net) (b c : Box) → IsLimited n → Agree n b c → q_lines n b ≡ q_lines n c
-q_lines-same n b c lim a = ap (λ (w : List ℕ). w ++ each_below (path_line n) (path_count n)) (row_lines-same n b c (first_of_q n) (exact_rows_of_q n) lim a)
+q_lines-same n b c lim a = ap (λ (w : List ℕ). w ++ each_below (path_line n) (path_count n)) (row_lines-same n b c (first_of n groups.Q) (exact_count n groups.Q) lim a)
 
 family_lines-same : (n : Net) (b c : Box) (form : Form) → IsLimited n → Agree n b c → family_lines n b form ≡ family_lines n c form
 family_lines-same n b c P lim a = p_lines-same n b c lim a
 family_lines-same n b c Q lim a = q_lines-same n b c lim a
 family_lines-same n b c Pq lim a =
     ap (λ (w : List ℕ). w ++ pq_lines n b) (q_lines-same n b c lim a)
-    ∙ ap (λ (w : List ℕ). q_lines n c ++ w) (row_lines-same n b c (first_of_pq n) (row_count (pq_families n)) lim a)
+    ∙ ap (λ (w : List ℕ). q_lines n c ++ w) (row_lines-same n b c (first_of n groups.Further) (exact_count n groups.Further) lim a)
 
 pub program_in-same : (n : Net) (b c : Box) (form : Form) → IsLimited n → Agree n b c → program_in n b form ≡ program_in n c form
 program_in-same n b c form lim a =
     ap (λ (w : List ℕ). (head_line form ++ (cost_line n ++ w)) ++ (network_lines n b ++ (family_lines n b form ++ codes "end\n"))) (ends_lines-same n b c form lim a)
-    ∙ ap (λ (w : List ℕ). first_lines n c form ++ (w ++ (family_lines n b form ++ codes "end\n"))) (row_lines-same n b c 0 (network_rows n) lim a)
+    ∙ ap (λ (w : List ℕ). first_lines n c form ++ (w ++ (family_lines n b form ++ codes "end\n"))) (row_lines-same n b c (first_of n groups.Network) (exact_count n groups.Network) lim a)
     ∙ ap (λ (w : List ℕ). first_lines n c form ++ (network_lines n c ++ (w ++ codes "end\n"))) (family_lines-same n b c form lim a)
 
 -- a view of the root box has the ends of the root

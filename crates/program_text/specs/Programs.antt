@@ -1,49 +1,34 @@
 -- The text of an exact program: what it makes as small as it can be, its variables, and, family by family, the rows of the
 -- catalogue that are the same in every box, with the family's products behind them. Envelopes are no rows of it.
-use Rattle.std.specs.Prelude.{ℕ, ◌+◌, ◌*◌, List, ◌++◌, codes, length}
+use Rattle.std.specs.Prelude.{ℕ, ◌*◌, List, ◌++◌, codes}
 use Rattle.pool_model.specs.Network.{Net}
-use Rattle.pool_model.specs.Limits.{most_limits, least_limits}
 use Rattle.row_model.specs.Boxes.{Box, root}
 use Rattle.row_model.specs.Variables.{path_count}
-use Rattle.row_model.specs.Catalogue.{network_families, p_families, q_families, pq_families, row_count}
 use Rattle.box_space.specs.declared.coordinates.Form.{Form}
 use Rattle.box_space.specs.declared.coordinates.Form.TheVariants.{P, Q, Pq}
+use Rattle.row_book.specs.declared.catalogue.Group.{Group}
+use Rattle.row_book.specs.declared.catalogue.Group.TheVariants as groups
+use Rattle.row_book.specs.Exact.{first_of, exact_count}
 use Rattle.text_pieces.specs.Pieces.{each_below}
 use Rattle.program_text.specs.Lines.{cost_line, ends_lines, row_lines, mixed_line, path_line}
 
--- ---- numbers of rows
-
--- how many rows the network has, and where those of each family begin
-abbrev pub network_rows : Net → ℕ
-network_rows n = row_count (network_families n)
-
-abbrev pub first_of_q : Net → ℕ
-first_of_q n = network_rows n + row_count (p_families n (root n))
-
-abbrev pub first_of_pq : Net → ℕ
-first_of_pq n = first_of_q n + row_count (q_families n (root n))
-
--- how many rows P has before its envelopes: mixing rows, and limits
-abbrev pub exact_rows_of_p : Net → ℕ
-exact_rows_of_p n = n.pools * n.qualities + (length (most_limits n) + length (least_limits n))
-
--- how many rows Q has before its envelopes: proportions, feeds, and limits
-abbrev pub exact_rows_of_q : Net → ℕ
-exact_rows_of_q n = n.pools + (n.feeds + (length (most_limits n) + length (least_limits n)))
-
 -- ---- families
 
+-- the rows of a group that are the same in every box
+abbrev pub group_lines : Net → Box → Group → List ℕ
+group_lines n b group = row_lines n b (first_of n group) (exact_count n group)
+
 abbrev pub network_lines : Net → Box → List ℕ
-network_lines n b = row_lines n b 0 (network_rows n)
+network_lines n b = group_lines n b groups.Network
 
 abbrev pub p_lines : Net → Box → List ℕ
-p_lines n b = row_lines n b (network_rows n) (exact_rows_of_p n) ++ each_below (mixed_line n) (n.outs * n.qualities)
+p_lines n b = group_lines n b groups.P ++ each_below (mixed_line n) (n.outs * n.qualities)
 
 abbrev pub q_lines : Net → Box → List ℕ
-q_lines n b = row_lines n b (first_of_q n) (exact_rows_of_q n) ++ each_below (path_line n) (path_count n)
+q_lines n b = group_lines n b groups.Q ++ each_below (path_line n) (path_count n)
 
 abbrev pub pq_lines : Net → Box → List ℕ
-pq_lines n b = row_lines n b (first_of_pq n) (row_count (pq_families n))
+pq_lines n b = group_lines n b groups.Further
 
 -- the families that a form has beside the rows of the network
 abbrev pub family_lines : Net → Box → Form → List ℕ

@@ -7,15 +7,15 @@ ghost use Rattle.pool_model.specs.Network.{IsLimited, net_of};
 ghost use Rattle.box_space.specs.Views.{IsView, shown_box};
 ghost use Rattle.program_text.specs.Outcomes.{WroteOrNothing};
 ghost use Rattle.program_text.specs.Lines.{cost_line, ends_lines};
-ghost use Rattle.program_text.specs.Programs.{family_lines, first_lines, head_line, network_lines, p_lines, pq_lines, program_in, program_text, q_lines};
+ghost use Rattle.program_text.specs.Programs.{family_lines, first_lines, group_lines, head_line, p_lines, pq_lines, program_in, program_text, q_lines};
 
 use crate::fault::FormulationFault;
 use crate::lines::{write_cost_line, write_ends, write_rows};
-use crate::places::{further_rows, network_rows, p_rows, q_rows};
 use crate::products::{write_mixed, write_paths};
 use blend_network::Network;
 use box_space::{BoxView, Form, LinRow, root_box};
 use edge_io::{Sink, WriteFault, write_whole};
+use row_book::{Group, exact_rows};
 use std::alloc::Global;
 use text_buffer::TextBuffer;
 
@@ -77,9 +77,8 @@ fn put_program<K: Sink>(
     ensures faults_grow { Grows (K.faults out.old) (K.faults out.new) }
     ensures limited { IsLimited (net_of net.now) }
 {
-    let rows = network_rows(net);
     write_first_lines(net, v, form, out)?;
-    write_rows(net, v, 0, rows, row, out)?;
+    write_group(net, v, Group::Network, row, out)?;
     write_families(net, v, form, row, out)?;
     write_whole(out, b"end\n")
 }
@@ -144,8 +143,7 @@ fn write_p<K: Sink>(
     ensures failed { OnErr result (Rose (K.faults out.old) (K.faults out.new)) }
     ensures faults_grow { Grows (K.faults out.old) (K.faults out.new) }
 {
-    let (first, count) = p_rows(net);
-    write_rows(net, v, first, count, row, out)?;
+    write_group(net, v, Group::P, row, out)?;
     write_mixed(net, out)
 }
 
@@ -161,8 +159,7 @@ fn write_q<K: Sink>(
     ensures failed { OnErr result (Rose (K.faults out.old) (K.faults out.new)) }
     ensures faults_grow { Grows (K.faults out.old) (K.faults out.new) }
 {
-    let (first, count) = q_rows(net);
-    write_rows(net, v, first, count, row, out)?;
+    write_group(net, v, Group::Q, row, out)?;
     write_paths(net, out)
 }
 
@@ -179,6 +176,23 @@ fn write_pq<K: Sink>(
     ensures faults_grow { Grows (K.faults out.old) (K.faults out.new) }
 {
     write_q(net, v, row, out)?;
-    let (first, count) = further_rows(net);
-    write_rows(net, v, first, count, row, out)
+    write_group(net, v, Group::Further, row, out)
+}
+
+/// The rows of a group that are the same in every box.
+fn write_group<K: Sink>(
+    net: &Network,
+    v: &BoxView,
+    group: Group,
+    row: &mut LinRow,
+    out: &mut K,
+) -> Result<(), WriteFault>
+    requires { IsView (net_of net.now) v.now }
+    ensures wrote { Wrote result (K.taken out.old) (group_lines (net_of net.now) (shown_box v.now) group) (K.taken out.new) }
+    ensures failed { OnErr result (Rose (K.faults out.old) (K.faults out.new)) }
+    ensures faults_grow { Grows (K.faults out.old) (K.faults out.new) }
+    ensures limited { IsLimited (net_of net.now) }
+{
+    let rows = exact_rows(net, group);
+    write_rows(net, v, rows.first, rows.count, row, out)
 }

@@ -14,7 +14,6 @@ mod formulation;
 mod lines;
 mod names;
 mod pieces;
-mod places;
 mod products;
 mod terms;
 

@@ -14,8 +14,8 @@ use box_space::{Block, Factor, Rate, RowKind, RowTable, Terms};
 /// How many parts a proportion is counted in.
 const GRAIN: i128 = 1_048_576;
 
-/// How many of the rows there are.
-pub(crate) fn count(net: &Network) -> u32
+/// How many of the rows are the same in every box: those before the envelopes.
+pub fn exact_rows(net: &Network) -> u32
     ensures count { result ≡ (net_of net.now).pools + ((net_of net.now).feeds + (length (most_limits (net_of net.now)) + length (least_limits (net_of net.now)))) }
     ensures small { result ≤ 1296 }
 {

@@ -12,7 +12,7 @@ use Rattle.program_model.specs.Points.{quality_flows}
 use Rattle.program_plans.proofs.Bounds.{carries-bounded}
 use Rattle.flow_checks.specs.Sizes.{FlowsFit}
 use Rattle.quality_checks.specs.Slices.{seen}
-use Rattle.quality_checks.specs.Checks.{HasQualShape, IsQualPoint, AreSmallQuals, LiesBetween, HasQuality, KeepsQuality, KeepsLimits}
+use Rattle.quality_checks.specs.QualityTests.{HasQualShape, IsQualPoint, AreSmallQuals, LiesBetween, HasQuality, KeepsQuality, KeepsLimits}
 use Rattle.quality_checks.specs.declared.slices.QualSlices.{QualSlices}
 use Rattle.quality_checks.proofs.RootEnds.{root_low-within, root_high-within}
 

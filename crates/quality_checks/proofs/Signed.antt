@@ -4,7 +4,8 @@ use Rattle.std.proofs.lemmas.Int.{ints}
 use mir.Syntax.{w128}
 use Rattle.std.proofs.Math.Nat.{mul-le-mul_right}
 use Rattle.pool_model.specs.Network.{IsWithin}
-use Rattle.flow_checks.proofs.Totals.{abs-within, read_wide}
+use Rattle.flow_checks.proofs.Parts.{abs-within}
+use Rattle.integers.proofs.WideSums.{read_wide}
 use mir.Val.{to_z, of_z}
 
 pub total_fits : (s p : ℤ) (a b : ℕ) → unsigned_abs s ≤ a → unsigned_abs p ≤ b → a + b ≤ 2 ^ 126 → FitsSigned w128 (s +ℤ to_z w128 (of_z w128 p))

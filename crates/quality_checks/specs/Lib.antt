@@ -1,2 +1,2 @@
 pub mod Slices
-pub mod Checks
+pub mod QualityTests

@@ -8,7 +8,7 @@ ghost use Rattle.pool_model.specs.Plan.{Carries};
 ghost use Rattle.program_model.specs.Points.{quality_flows};
 ghost use Rattle.flow_checks.specs.Sizes.{FlowsFit};
 ghost use Rattle.quality_checks.specs.Slices.{seen};
-ghost use Rattle.quality_checks.specs.Checks.{AreSmallQuals, HasQualShape, HasQuality, KeepsQuality, LiesBetween};
+ghost use Rattle.quality_checks.specs.QualityTests.{AreSmallQuals, HasQualShape, HasQuality, KeepsQuality, LiesBetween};
 
 use crate::slices::QualSlices;
 use crate::sums::{cell, mixed_sum, quality_fed};

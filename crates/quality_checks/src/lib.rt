@@ -3,7 +3,7 @@
 //! [`QualSlices`] lends the lists of a point. [`is_qual_point`] says whether it is one within the limits. Shape, sizes, the ends of
 //! qualities and products are tested first, so that every sum fits.
 //!
-//! `specs/Slices.antt` says which point of `program_model` the lists stand for, and `specs/Checks.antt` what the tests look at,
+//! `specs/Slices.antt` says which point of `program_model` the lists stand for, and `specs/QualityTests.antt` what the tests look at,
 //! part by part. No call takes memory.
 //!
 //! Proofs above may cite `proofs/QualPoints.antt`: what the tests of a point show of it, and how large its numbers are.

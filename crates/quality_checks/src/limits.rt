@@ -6,7 +6,7 @@ ghost use Rattle.pool_model.specs.Plan.{Carries};
 ghost use Rattle.program_model.specs.Points.{quality_flows};
 ghost use Rattle.flow_checks.specs.Sizes.{FlowsFit};
 ghost use Rattle.quality_checks.specs.Slices.{seen};
-ghost use Rattle.quality_checks.specs.Checks.{AreSmallQuals, HasQualShape, IsQualPoint, KeepsLimits};
+ghost use Rattle.quality_checks.specs.QualityTests.{AreSmallQuals, HasQualShape, IsQualPoint, KeepsLimits};
 
 use crate::checks::{fits, has_shape, have_qualities, keep_qualities, lie_between};
 use crate::slices::QualSlices;

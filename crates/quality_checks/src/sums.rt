@@ -4,7 +4,7 @@ ghost use Rattle.std.specs.Prelude.{◌≡◌, ℕ, ◌+◌, ◌*◌, ◌<◌, �
 ghost use Rattle.integers.specs.Sums.{int_sum_at, sum_at};
 ghost use Rattle.pool_model.specs.Network.{IsLimited, net_of};
 ghost use Rattle.blend_network.specs.Keys.{count_of, key_of, nodes_of};
-ghost use Rattle.quality_checks.specs.Checks.{AreWithin};
+ghost use Rattle.quality_checks.specs.QualityTests.{AreWithin};
 
 use blend_network::{Key, Network};
 use flow_checks::weighted;

@@ -1,4 +1,5 @@
 pub mod Groups
+pub mod Exact
 pub mod PartRows
 pub mod Faults
 pub mod Fitting

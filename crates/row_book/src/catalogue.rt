@@ -12,12 +12,16 @@ use crate::network_rows;
 use blend_network::Network;
 use box_space::{BoxView, Form, LinRow, RowKind};
 
-/// Rows of one form, or of the network.
+/// The groups of rows, in the order of their numbers.
 #[derive(Clone, Copy, Debug)]
-pub(crate) enum Group {
+pub enum Group {
+    /// The rows of the network, which every form has.
     Network,
+    /// Those of form P.
     P,
+    /// Those of form Q, which PQ has too.
     Q,
+    /// Those that form PQ has beside them.
     Further,
 }
 

@@ -1,7 +1,8 @@
 //! The catalogue of rows, and what multipliers on rows show of a box.
 //!
 //! Rows are numbered over all families: first those of the network, then those of form P, of form Q, and the further ones of
-//! form PQ. [`row_at`] writes the row of a number in a box, and [`in_form`] says which forms have it.
+//! form PQ. [`row_at`] writes the row of a number in a box, [`in_form`] says which forms have it, and [`exact_rows`] where those of a
+//! [`Group`] stand that are the same in every box.
 //!
 //! [`value`] checks multipliers on rows and says what they show: a bound that no plan in the box costs less than, or that the
 //! box holds no plan. A proof that is not in order is refused with the first [`ProofFault`] of a fixed order. [`Scratch`] is
@@ -16,6 +17,7 @@
 #![tactic(auto)]
 
 mod catalogue;
+mod exact;
 mod fault;
 mod multiplying;
 mod network_rows;
@@ -27,7 +29,8 @@ mod sums;
 mod valuation;
 mod weighing;
 
-pub use catalogue::{in_form, row_at, rows};
+pub use catalogue::{Group, in_form, row_at, rows};
+pub use exact::{RowRange, exact_rows};
 pub use fault::ProofFault;
 pub use scratch::Scratch;
 pub use shown::Shown;

@@ -88,7 +88,7 @@ mix-nothing n p l k lim c z =
     ∙ int_sum_at-nothing n.feed_pool l (λ e. pos 0) n.feeds (λ e lt. refl)
 
 -- times all factors, what flows in is the mean times what the pool sends and the other factors
-mix-out : (n : Net) (p : Plan) (l k : ℕ) → IsLimited n → Carries n p → l < n.pools
+pub mix-out : (n : Net) (p : Plan) (l k : ℕ) → IsLimited n → Carries n p → l < n.pools
     → pos (product_below (factor n p) n.pools) *ℤ mix n p l k ≡ (others n p l *ℤ mix n p l k) *ℤ pos (outflow n p l)
 mix-out n p l k lim c lt = elim (same_or_other (outflow n p l) 0) [
   | inl z ↦

@@ -92,7 +92,7 @@ some_mapped f (Some x) y e = (x, refl, ap (λ o. unwrap_or o y) e)
 -- ---- the boxes and bounds of nodes
 
 -- a node of the first so many splits and one more is a new one, or stood before
-which_node : (t node : ℕ) → node < 2 * suc t + 1 → (node ≡ left_node t) ⊎ ((node ≡ right_node t) ⊎ (node < 2 * t + 1))
+pub which_node : (t node : ℕ) → node < 2 * suc t + 1 → (node ≡ left_node t) ⊎ ((node ≡ right_node t) ⊎ (node < 2 * t + 1))
 which_node t node h = elim (same_or_other node (left_node t)) [
   | inl e ↦ inl e
   | inr d ↦ elim (same_or_other node (right_node t)) [ inl e ↦ inr (inl e) | inr f ↦ inr (inr (omega arith)) ]

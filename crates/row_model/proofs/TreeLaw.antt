@@ -1,8 +1,8 @@
 -- Every plan that obeys lies in the box of some leaf of a tree, and costs at least that leaf's bound.
 use Rattle.std.proofs.Common.{◌≡◌, ◌≢◌, ℕ, zero, suc, ◌+◌, ◌-◌, ◌*◌, ◌<◌, ◌≤◌, ◌⊎◌, inl, inr, ◌==◌, ◌||◌}
-use Rattle.std.proofs.Common.{if◌then◌else◌, List, length, take, Bool, true, false, ℤ, arith, refl, sym, ap, subst, ◌∙◌, add-one}
+use Rattle.std.proofs.Common.{if◌then◌else◌, List, [], ◌∷◌, ◌++◌, length, take, Bool, true, false, ℤ, arith, refl, sym, ap, subst, ◌∙◌, add-one}
 use Rattle.std.proofs.lemmas.List.{take_all, length-take-le}
-use Rattle.std.proofs.lemmas.List.Folds.{list_any_more}
+use Rattle.std.proofs.lemmas.List.Folds.{list_any-append, list_any_more}
 use Rattle.std.proofs.lemmas.Bool.Decides.{nat_tests}
 use Rattle.integers.proofs.AtKey.{same_or_other, chosen, passed}
 use Rattle.pool_model.specs.Network.{Net}
@@ -17,6 +17,14 @@ length_before splits t h = length-take-le t splits h
 -- one split more
 pub cut_more : (splits : List Split) (t node : ℕ) → t < length splits → is_cut (take (t + 1) splits) node ≡ (is_cut (take t splits) node || ((split_at splits t).leaf == node))
 cut_more splits t node h = list_any_more (λ s. s.leaf == node) splits t no_split h
+
+-- a node is cut by the splits before the last one, or by that
+pub cut_behind : (splits : List Split) (s : Split) (node : ℕ) → is_cut (splits ++ s ∷ []) node ≡ (is_cut splits node || (s.leaf == node))
+cut_behind splits s node = list_any-append (λ (z : Split). z.leaf == node) splits (s ∷ []) ∙ ap (λ (b : Bool). is_cut splits node || b) (or-none (s.leaf == node))
+  where
+    or-none : (b : Bool) → (b || false) ≡ b
+    or-none true = refl
+    or-none false = refl
 
 pub or_false : (a b : Bool) → a ≡ false → b ≡ false → (a || b) ≡ false
 or_false a b h k = cc

@@ -8,7 +8,7 @@ use Rattle.integers.proofs.Order.{le-mul}
 use Rattle.pool_model.specs.Network.{Net}
 use Rattle.pool_model.specs.Plan.{Written, plan_of, cost_of}
 use Rattle.plan_core.specs.declared.plan.Cost.{Cost}
-use Rattle.plan_core.specs.Checks.{IsCostOf}
+use Rattle.plan_core.specs.Faults.{IsCostOf}
 use Rattle.row_model.specs.Trees.{tree_bound}
 use Rattle.box_tree.specs.Kept.{Kept, searched_of, IsKeptCost}
 use Rattle.search_core.specs.Cases.{IsNear, IsClosed}

@@ -3,7 +3,7 @@ use Rattle.std.specs.Prelude.{◌≤◌, ◌^◌, Bool, Option, Some, None, pos,
 use Rattle.pool_model.specs.Network.{IsLimited, Net}
 use Rattle.pool_model.specs.Plan.{Written, plan_of, Obeys}
 use Rattle.pool_model.specs.Starting.{IsStarting, IsCheapestStart}
-use Rattle.plan_core.specs.Checks.{IsCostOf}
+use Rattle.plan_core.specs.Faults.{IsCostOf}
 use Rattle.plan_core.specs.Views.{shown_plan}
 use Rattle.plan_core.specs.declared.cheapest.Start.{Start}
 use Rattle.plan_core.specs.declared.plan.Cost.{Cost}

@@ -9,7 +9,7 @@ use box_space::{Block, coords, flow_coordinate, quality_coordinate, variable_num
 use lp_factors::fixed::clamped;
 use lp_factors::lookup::{at, put};
 use lp_simplex::{Advice, Lp};
-use row_book::rows;
+use row_book::{Group, exact_rows};
 use std::alloc::{AllocError, Global};
 
 /// How many parts a proportion is counted in.
@@ -182,12 +182,12 @@ fn path_values(
 ) -> Result<Vec<i128>, AllocError> {
     let counts = net.sizes();
     let first = counts.feeds + counts.outs + counts.directs;
-    // the envelopes stand before the rows that only form PQ has
-    let end = rows(net).saturating_sub(counts.outs + counts.feeds);
-    let begin = end.saturating_sub(4 * counts.paths);
+    // the envelopes of Q stand between its other rows and those that PQ adds
+    let exact = exact_rows(net, Group::Q);
+    let envelopes = exact.first + exact.count..exact_rows(net, Group::Further).first;
     let mut values = vec![in alloc; 0i128; counts.paths as usize]?;
     for (row, dual) in program.rows.iter().zip(&advice.duals) {
-        if *dual != 0 && (row.id < begin || row.id >= end) {
+        if *dual != 0 && !envelopes.contains(&row.id) {
             let dual = i128::from(clamped(dual.unbounded_shr(12)));
             for term in row.terms.iter() {
                 if term.var >= first {

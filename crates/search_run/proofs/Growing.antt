@@ -9,13 +9,14 @@ use Rattle.row_model.specs.Multipliers.{Proof, shown_by}
 use Rattle.row_model.specs.Trees.{Split, no_split, Tree, IsTree, nodes, left_node, right_node, is_cut, box_of, node_bound, leaf_bound, tree_bound, raised, IsLeastLeaf}
 use Rattle.row_model.specs.Entries.{Searched, root_proof, split_of, after}
 use Rattle.row_model.proofs.EntryLaw.{length-more, box_before, box_left, box_right}
+use Rattle.row_model.proofs.TreeBound.{which_node}
 use Rattle.box_tree.proofs.Growing.{bound-old, bound-left, bound-right}
 use Rattle.box_tree.proofs.Rooting.{no_splits}
 use Rattle.dual_rounding.specs.Price.{IsPriced}
 use Rattle.search_run.specs.Steps.{IsOfForm, IsCut}
 use Rattle.search_run.specs.Found.{IsPricedAt, IsGrown}
 use Rattle.search_run.specs.declared.orders.Orders.{Orders}
-use Rattle.search_run.proofs.Proofs.{proof-rooted, proof-split, where-node}
+use Rattle.search_run.proofs.Proofs.{proof-rooted, proof-split}
 
 -- at the beginning nothing is added
 pub grown-start : (n : Net) (o : Orders) (t : Tree) → IsGrown n o t t
@@ -80,7 +81,7 @@ module _ (n : Net) (o : Orders) (s : Searched) (split : Split) (left right : Opt
 
   priced-any : (begun : Tree) → IsGrown n o begun s.tree → (node : ℕ) → nodes begun.splits ≤ node → node < nodes (s.tree.splits ++ split ∷ [])
       → IsPricedAt n (after s (split_of split left right)).tree node
-  priced-any begun g node h k = elim (where-node (length s.tree.splits) node (omega (arith, k, length-more s.tree.splits split))) [
+  priced-any begun g node h k = elim (which_node (length s.tree.splits) node (omega (arith, k, length-more s.tree.splits split))) [
     | inl e ↦ subst (IsPricedAt n (after s (split_of split left right)).tree) (sym e) priced-left
     | inr r ↦ elim r [
       | inl e ↦ subst (IsPricedAt n (after s (split_of split left right)).tree) (sym e) priced-right

@@ -12,6 +12,7 @@ use Rattle.row_model.specs.Trees.{Split, is_cut}
 use Rattle.row_model.specs.Entries as entries
 use Rattle.row_model.specs.Entries.{Searched, IsEntryInOrder, IsPlanInOrder, after}
 use Rattle.row_model.proofs.EntryLaw.{length-more}
+use Rattle.row_model.proofs.TreeLaw.{cut_behind}
 use Rattle.box_space.specs.Views.{shown_proof, shown_split}
 use Rattle.box_tree.specs.Views.{shown_entry}
 use Rattle.box_tree.specs.declared.entry.Entry.{Entry}
@@ -25,7 +26,7 @@ use Rattle.search_core.specs.Next.{IsEntry}
 use Rattle.search_core.proofs.Starting.{better, no-better, none-better}
 use Rattle.search_run.specs.Left.{counted, start_left, unproved, root_left, repair_left, left}
 use Rattle.search_run.proofs.Covering.{none-after-start, none-after-plan}
-use Rattle.search_run.proofs.Proofs.{root-proof, cut-more}
+use Rattle.search_run.proofs.Proofs.{root-proof}
 
 -- ---- the starting plan
 
@@ -155,7 +156,7 @@ module _ (n : Net) (s t : Searching) (is : IsSearchOf n s) (now : IsSearchOf n t
       let x = after (searched s) (entries.split_of split l r) in
       let splits = s.tree.kept.splits.list in
       let root : root_left (is_cut x.tree.splits 0) (x.tree.proof 0) ≡ root_left (is_cut splits 0 || (split.leaf == 0)) ((searched s).tree.proof 0) =
-      ap (λ (b : Bool). root_left b (x.tree.proof 0)) (cut-more splits split 0)
+      ap (λ (b : Bool). root_left b (x.tree.proof 0)) (cut_behind splits split 0)
       ∙ ap (λ (o : Option Proof). root_left (is_cut splits 0 || (split.leaf == 0)) o) (root-proof l r (searched s).tree.proof (length splits)) in
       omega (
         arith,

@@ -1,10 +1,9 @@
--- Which proof a node has after an entry, and which nodes there are.
-use Rattle.std.proofs.Common.{◌≡◌, ℕ, suc, ◌+◌, ◌*◌, ◌<◌, ◌⊎◌, inl, inr, ◌==◌, ◌||◌, if◌then◌else◌, List, [], ◌∷◌, ◌++◌, Bool, true, false, Option, Some, arith, refl, sym, ap, ◌∙◌}
+-- Which proof a node has after an entry.
+use Rattle.std.proofs.Common.{◌≡◌, ℕ, ◌⊎◌, inl, inr, ◌==◌, if◌then◌else◌, Option, Some, arith, sym, ap, ◌∙◌}
 use Rattle.std.specs.Prelude.{unwrap_or}
-use Rattle.std.proofs.lemmas.List.Folds.{list_any-append}
 use Rattle.integers.proofs.AtKey.{same_or_other, chosen, passed}
 use Rattle.row_model.specs.Multipliers.{Proof}
-use Rattle.row_model.specs.Trees.{Split, left_node, right_node, is_cut}
+use Rattle.row_model.specs.Trees.{left_node, right_node}
 
 -- after a proof of the root
 pub proof-rooted : (proof : Proof) (old : ℕ → Option Proof) (node : ℕ) (q : Proof) → (if node == 0 then Some proof else old node) ≡ Some q → ((node ≡ 0) × (proof ≡ q)) ⊎ (old node ≡ Some q)
@@ -29,15 +28,3 @@ proof-split left right old t node q e = elim (same_or_other node (left_node t)) 
 pub root-proof : (left right : Option Proof) (old : ℕ → Option Proof) (t : ℕ) → (if 0 == left_node t then left else (if 0 == right_node t then right else old 0)) ≡ old 0
 root-proof left right old t =
     passed 0 (left_node t) left (if 0 == right_node t then right else old 0) (omega arith) ∙ passed 0 (right_node t) right (old 0) (omega arith)
-
--- a node is cut by the splits before the last one, or by that
-or-none : (b : Bool) → (b || false) ≡ b
-or-none true = refl
-or-none false = refl
-
-pub cut-more : (splits : List Split) (split : Split) (node : ℕ) → is_cut (splits ++ split ∷ []) node ≡ (is_cut splits node || (split.leaf == node))
-cut-more splits split node = list_any-append (λ s. s.leaf == node) splits (split ∷ []) ∙ ap (λ (b : Bool). is_cut splits node || b) (or-none (split.leaf == node))
-
--- where a node stands among the old nodes and the two new ones
-pub where-node : (t node : ℕ) → node < 2 * suc t + 1 → (node ≡ left_node t) ⊎ ((node ≡ right_node t) ⊎ (node < left_node t))
-where-node t node h = grind arith

@@ -13,8 +13,7 @@
 //! above.
 //!
 //! Proofs above may cite, of `proofs/`: `Stepping` (what comes next is a step of the run, or its end), `Nearer` (each step leaves
-//! fewer steps), `Covering` (no starting plan is better than the best plan), `Ending` (what holds at the end of a run) and `Proofs`
-//! (which nodes there are after an entry, and which of them are cut).
+//! fewer steps), `Covering` (no starting plan is better than the best plan) and `Ending` (what holds at the end of a run).
 #![tactic(auto)]
 
 mod driving;

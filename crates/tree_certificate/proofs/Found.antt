@@ -16,7 +16,7 @@ use Rattle.row_model.specs.Catalogue.{rows}
 use Rattle.row_model.specs.Multipliers.{Part, Proof, IsInOrder}
 use Rattle.row_model.specs.Trees.{Split, Tree, IsTree, nodes, most_splits, tree_bound, box_of}
 use Rattle.pool_model.specs.Starting.{reach_bound}
-use Rattle.plan_core.specs.Checks.{IsCostOf, IsFirstFault}
+use Rattle.plan_core.specs.Faults.{IsCostOf, IsFirstFault}
 use Rattle.plan_core.specs.declared.plan.Cost.{Cost}
 use Rattle.plan_core.specs.declared.fault.PlanFault.{PlanFault}
 use Rattle.row_model.specs.Entries.{Searched, IsSearched, improve, start}

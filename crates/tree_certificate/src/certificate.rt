@@ -5,7 +5,7 @@ ghost use Rattle.std.specs.Option.{ForSome};
 ghost use Rattle.pool_model.specs.Network.{IsLimited, net_of};
 ghost use Rattle.pool_model.specs.Plan.{Obeys, IsWritten, plan_of as written_plan};
 ghost use Rattle.pool_model.specs.Claim.{IsBound};
-ghost use Rattle.plan_core.specs.Checks.{IsCostOf};
+ghost use Rattle.plan_core.specs.Faults.{IsCostOf};
 ghost use Rattle.plan_core.specs.Views.{shown_plan};
 ghost use Rattle.box_space.specs.Views.{shown_proof};
 ghost use Rattle.box_tree.specs.Kept.{searched_of, IsOf};

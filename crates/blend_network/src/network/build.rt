@@ -6,7 +6,7 @@ ghost use Rattle.pool_model.specs.Naming.{network_of};
 ghost use Rattle.network_parts.specs.Parts.{rows_of};
 ghost use Rattle.network_parts.specs.Faults.{IsFaultless};
 ghost use Rattle.network_parts.specs.FirstFault.{IsFirstFault};
-ghost use Rattle.network_parts.specs.Checks.{IsChecked};
+ghost use Rattle.network_parts.specs.Ready.{IsReady};
 
 use super::Network;
 use super::index::index_of;
@@ -33,7 +33,7 @@ impl Network {
 /// The network of rows that passed the checks.
 fn assembled(alloc: Global, parts: Parts, arcs: Arcs) -> Result<Network, AllocError>
     requires rectangular { IsRectangular (rows_of parts) }
-    requires checked { IsChecked (rows_of parts) arcs }
+    requires checked { IsReady (rows_of parts) arcs }
     ensures { IfOk result (λ n. n ≡ network_of (rows_of parts)) }
 {
     let stand_in = stand_in(&parts.products);

@@ -5,7 +5,7 @@ ghost use Rattle.number_groups.specs.Groups.{groups_of};
 ghost use Rattle.pool_model.specs.Naming.{network_of};
 ghost use Rattle.pool_model.specs.Network.{Net, net_of, IsLimited};
 ghost use Rattle.network_parts.specs.Parts.{rows_of};
-ghost use Rattle.network_parts.specs.Checks.{IsChecked};
+ghost use Rattle.network_parts.specs.Ready.{IsReady};
 ghost use Rattle.blend_network.specs.Counts.{AreCounts};
 ghost use Rattle.blend_network.specs.Keys.{nodes_of, IsIndexOf};
 ghost use Rattle.blend_network.specs.Kept.{kept_key, kept_count, IsAlong};
@@ -18,7 +18,7 @@ use std::alloc::{AllocError, Global};
 
 /// The groups of the network of rows that passed the checks, from their arcs and paths: for each key in its order.
 pub(super) fn index_of(alloc: Global, parts: &Parts, arcs: &Arcs) -> Result<Vec<Groups>, AllocError>
-    requires checked { IsChecked (rows_of parts.now) arcs.now }
+    requires checked { IsReady (rows_of parts.now) arcs.now }
     requires limited { IsLimited (net_of (network_of (rows_of parts.now))) }
     ensures { IfOk result (λ v. IsIndexOf (net_of (network_of (rows_of parts.now))) v.items) }
 {
@@ -32,7 +32,7 @@ pub(super) fn index_of(alloc: Global, parts: &Parts, arcs: &Arcs) -> Result<Vec<
 
 /// How many there are of each kind.
 fn counts_from(parts: &Parts, arcs: &Arcs) -> Counts
-    requires checked { IsChecked (rows_of parts.now) arcs.now }
+    requires checked { IsReady (rows_of parts.now) arcs.now }
     requires limited { IsLimited (net_of (network_of (rows_of parts.now))) }
     ensures { AreCounts (net_of (network_of (rows_of parts.now))) result }
 {

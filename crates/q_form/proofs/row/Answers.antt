@@ -12,6 +12,6 @@ pub returns : goal.returns
 returns c =
     let n = net_of c.args.net.now in
     line-same n _ _ c.write-2.new.row c.write-2.result
-    (sym (at_envelope n (shown_box c.args.v.now) c.args.n c.count-first.result c.count-first.ensures.count (omega (arith, c.if-n-first.false))
-    (omega (arith, c.count-first.ensures.count, c.requires.among))))
+    (sym (at_envelope n (shown_box c.args.v.now) c.args.n c.exact_rows-first.result c.exact_rows-first.ensures.count (omega (arith, c.if-n-first.false))
+    (omega (arith, c.exact_rows-first.ensures.count, c.requires.among))))
     c.write-2.ensures

@@ -3,7 +3,8 @@ use mir.Syntax.{w64, w128}
 use mir.Val.{to_z, of_z}
 use Rattle.std.proofs.lemmas.Int.{to_z-of_z}
 use Rattle.pool_model.specs.Network.{net_of}
-use Rattle.flow_checks.proofs.Totals.{part-size, read-small}
+use Rattle.flow_checks.proofs.Parts.{part-size}
+use Rattle.integers.proofs.WideSums.{read-small}
 use Rattle.flow_checks.proofs.qualities.part.Goals as goal
 
 pub weighted-requires-clause-size : goal.weighted-requires-clause-size

@@ -9,7 +9,7 @@ use Rattle.pool_model.specs.Network.{net_of}
 use Rattle.blend_network.specs.Keys.{count_of, key_of}
 use Rattle.blend_network.specs.declared.keys.Key.{Key}
 use Rattle.flow_checks.specs.Qualities.{key_by, source_by}
-use Rattle.flow_checks.proofs.Totals.{added, added-small, term-more}
+use Rattle.integers.proofs.WideSums.{added, added-small, term-more}
 use Rattle.flow_checks.proofs.qualities.quality_into.Goals as goal
 
 pub loop-number-preserved : goal.loop-number-preserved

@@ -3,7 +3,7 @@ use Rattle.std.specs.List.{sum_by}
 use Rattle.std.proofs.lemmas.List.{take_all}
 use Rattle.pool_model.specs.Network.{net_of}
 use Rattle.blend_network.specs.Keys.{count_of, key_of}
-use Rattle.flow_checks.proofs.Totals.{numbers_at-total}
+use Rattle.integers.proofs.Numbers.{numbers_at-total}
 use Rattle.flow_checks.proofs.sums.sum_at_node.Goals as goal
 
 pub returns-clause-sum : goal.returns-clause-sum

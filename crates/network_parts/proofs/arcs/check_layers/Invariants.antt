@@ -1,6 +1,6 @@
 use Rattle.std.proofs.Common.{ℕ, ◌<◌}
 use Rattle.network_parts.specs.Nodes.{is_between_pools}
-use Rattle.network_parts.specs.Checks.{IsMarked}
+use Rattle.network_parts.specs.Ready.{IsMarked}
 use Rattle.network_parts.proofs.arcs.check_layers.Given as goal
 
 abbrev pub invariant-loop-n : goal.invariant-loop-n

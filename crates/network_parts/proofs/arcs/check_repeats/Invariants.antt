@@ -1,5 +1,5 @@
 use Rattle.std.proofs.Common.{ℕ, ◌<◌}
-use Rattle.network_parts.specs.Checks.{IsRepeatedEnds}
+use Rattle.network_parts.specs.Ready.{IsRepeatedEnds}
 use Rattle.network_parts.proofs.arcs.check_repeats.Given as goal
 
 abbrev pub invariant-loop-n : goal.invariant-loop-n

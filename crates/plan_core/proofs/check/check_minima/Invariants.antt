@@ -1,7 +1,7 @@
 use Rattle.std.proofs.Common.{ℕ, ◌<◌}
 use Rattle.pool_model.specs.Network.{net_of}
 use Rattle.plan_core.specs.Views.{shown_plan}
-use Rattle.plan_core.specs.Checks.{Breaks}
+use Rattle.plan_core.specs.Faults.{Breaks}
 use Rattle.plan_core.specs.declared.fault.PlanFault.TheVariants.{ProductUnder}
 use Rattle.plan_core.proofs.check.check_minima.Given as goal
 

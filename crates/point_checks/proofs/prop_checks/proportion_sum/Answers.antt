@@ -2,7 +2,7 @@ use Rattle.std.proofs.Common.{ℕ, List, get_or, ap, ◌∙◌}
 use Rattle.std.specs.List.{sum_by}
 use Rattle.std.proofs.lemmas.List.{take_all}
 use Rattle.pool_model.specs.Network.{net_of}
-use Rattle.flow_checks.proofs.Totals.{numbers_at-total}
+use Rattle.integers.proofs.Numbers.{numbers_at-total}
 use Rattle.point_checks.proofs.prop_checks.proportion_sum.Goals as goal
 
 pub returns : goal.returns

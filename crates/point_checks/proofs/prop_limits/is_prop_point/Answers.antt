@@ -1,6 +1,6 @@
 use Rattle.std.proofs.Common.{ℕ, ◌<◌, refl}
 use Rattle.pool_model.specs.Network.{net_of}
-use Rattle.point_checks.specs.Checks.{FitsProps, IsPropPoint}
+use Rattle.point_checks.specs.ProportionTests.{FitsProps, IsPropPoint}
 use Rattle.point_checks.proofs.Tests.{never, same-test}
 use Rattle.point_checks.proofs.PropPoints.{all-point, point-fits, point-limits, small-point}
 use Rattle.point_checks.proofs.prop_limits.is_prop_point.Goals as goal

@@ -7,7 +7,7 @@ use Rattle.program_model.specs.Points.{proportion_flows}
 use Rattle.program_model.specs.Programs.{path_inflow, direct_mix}
 use Rattle.flow_checks.specs.Qualities.{MeetsLimits}
 use Rattle.point_checks.specs.Slices.{seen}
-use Rattle.point_checks.specs.Checks.{KeepsLimits}
+use Rattle.point_checks.specs.ProportionTests.{KeepsLimits}
 use Rattle.point_checks.proofs.Tests.{same-test, meets-same, wide_sum}
 use Rattle.point_checks.proofs.prop_limits.keeps_limits.Goals as goal
 

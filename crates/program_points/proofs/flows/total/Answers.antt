@@ -2,7 +2,7 @@ use Rattle.std.proofs.Common.{ℕ, List, get_or, ap, ◌∙◌}
 use Rattle.std.specs.List.{sum_by}
 use Rattle.std.proofs.lemmas.List.{take_all}
 use Rattle.pool_model.specs.Network.{net_of}
-use Rattle.program_points.proofs.Totals.{numbers_at-total}
+use Rattle.integers.proofs.Numbers.{numbers_at-total}
 use Rattle.program_points.proofs.flows.total.Goals as goal
 
 pub returns-clause-sum : goal.returns-clause-sum

@@ -6,7 +6,7 @@ use Rattle.std.proofs.lemmas.List.{take_all}
 use Rattle.integers.specs.Sums.{int_sum_by, int_sum_at}
 use Rattle.integers.proofs.Numbers.{numbers_at-sum}
 use Rattle.pool_model.specs.Network.{net_of}
-use Rattle.program_points.proofs.Totals.{added, added-small, term-more}
+use Rattle.integers.proofs.WideSums.{added, added-small, term-more}
 use Rattle.program_points.proofs.qualities.weighed_quality.Goals as goal
 
 pub loop-feed-preserved : goal.loop-feed-preserved
@@ -24,7 +24,7 @@ loop-feed-preserved c =
     let read = c.source_quality.ensures.value ∙ ap (λ (source : ℕ). n.source_quality source c.args.quality) c.feed-source.ensures.source in
     let part : p ≡ term e = (simp to_z-of_z at c.weighted-sum.ensures.value) ∙ ap (λ (z : ℤ). z *ℤ pos (get_or c.as_slice-weights.result.now e 0)) read in (
       exact ∙ term-more term items i s p c.loop-feed-test.true c.loop-feed.invariant.0 part,
-      subst (λ (z : ℤ). unsigned_abs z ≤ 2 ^ 95 * (i + 1)) (sym exact) (added-small s p i c.loop-feed.invariant.1 c.weighted-sum.ensures.small),
+      subst (λ (z : ℤ). unsigned_abs z ≤ 2 ^ 95 * (i + 1)) (sym exact) (added-small s p (2 ^ 95) i c.loop-feed.invariant.1 c.weighted-sum.ensures.small),
     )
 
 pub returns : goal.returns

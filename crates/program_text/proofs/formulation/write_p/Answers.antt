@@ -3,23 +3,24 @@ use Rattle.std.proofs.lemmas.Result.{err_from_is_err_and}
 use Rattle.edge_io.proofs.Writes.{front-first, wrote-behind}
 use Rattle.pool_model.specs.Network.{net_of}
 use Rattle.box_space.specs.Views.{shown_box}
+use Rattle.row_book.specs.declared.catalogue.Group.TheVariants as groups
 use Rattle.text_pieces.specs.Pieces.{each_below}
-use Rattle.program_text.specs.Lines.{row_lines, mixed_line}
-use Rattle.program_text.specs.Programs.{network_rows, exact_rows_of_p}
+use Rattle.program_text.specs.Lines.{mixed_line}
+use Rattle.program_text.specs.Programs.{group_lines}
 use Rattle.program_text.proofs.formulation.write_p.Goals as goal
 
-pub returns-in_err-write_rows-clause-wrote : goal.returns-in_err-write_rows-clause-wrote
-returns-in_err-write_rows-clause-wrote g c =
+pub returns-in_err-write_group-clause-wrote : goal.returns-in_err-write_group-clause-wrote
+returns-in_err-write_group-clause-wrote g c =
     let n = net_of c.args.net.now in
     let b = shown_box c.args.v.now in
     let p = err_from_is_err_and c.from_residual.result c.from_residual.ensures.1 in
-    rw p.1 (front-first (g.K.Sink.taken c.args.out.now) (row_lines n b (network_rows n) (exact_rows_of_p n)) (each_below (mixed_line n) (n.outs * n.qualities)) (g.K.Sink.taken c.write_rows.new.out)
-    (rw (c.p_rows-first.ensures.first, c.p_rows-first.ensures.count) at c.in_err-write_rows.ensures.wrote))
+    rw p.1 (front-first (g.K.Sink.taken c.args.out.now) (group_lines n b groups.P) (each_below (mixed_line n) (n.outs * n.qualities)) (g.K.Sink.taken c.write_group.new.out)
+    c.in_err-write_group.ensures.wrote)
 
 pub returns-clause-wrote : goal.returns-clause-wrote
 returns-clause-wrote g c =
     let n = net_of c.args.net.now in
     let b = shown_box c.args.v.now in
-    wrote-behind c.write_mixed.result (g.K.Sink.taken c.args.out.now) (row_lines n b (network_rows n) (exact_rows_of_p n)) (g.K.Sink.taken c.write_rows.new.out)
+    wrote-behind c.write_mixed.result (g.K.Sink.taken c.args.out.now) (group_lines n b groups.P) (g.K.Sink.taken c.write_group.new.out)
     (each_below (mixed_line n) (n.outs * n.qualities)) (g.K.Sink.taken c.write_mixed.new.out)
-    (rw (c.p_rows-first.ensures.first, c.p_rows-first.ensures.count) at c.in_ok-write_rows.ensures.wrote) c.write_mixed.ensures.wrote
+    c.in_ok-write_group.ensures.wrote c.write_mixed.ensures.wrote

@@ -16,5 +16,5 @@ pub returns-clause-wrote : goal.returns-clause-wrote
 returns-clause-wrote g c =
     let n = net_of c.args.net.now in
     let b = shown_box c.args.v.now in
-    wrote-behind c.write_rows.result (g.K.Sink.taken c.args.out.now) (q_lines n b) (g.K.Sink.taken c.write_q.new.out) (pq_lines n b) (g.K.Sink.taken c.write_rows.new.out)
-    c.in_ok-write_q.ensures.wrote (rw (c.further_rows-first.ensures.first, c.further_rows-first.ensures.count) at c.write_rows.ensures.wrote)
+    wrote-behind c.write_group.result (g.K.Sink.taken c.args.out.now) (q_lines n b) (g.K.Sink.taken c.write_q.new.out) (pq_lines n b) (g.K.Sink.taken c.write_group.new.out)
+    c.in_ok-write_q.ensures.wrote c.write_group.ensures.wrote

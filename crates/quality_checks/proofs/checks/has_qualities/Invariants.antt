@@ -1,6 +1,6 @@
 use Rattle.std.proofs.Common.{ℕ, ◌<◌}
 use Rattle.pool_model.specs.Network.{net_of}
-use Rattle.quality_checks.specs.Checks.{HasQuality}
+use Rattle.quality_checks.specs.QualityTests.{HasQuality}
 use Rattle.quality_checks.specs.Slices.{seen}
 use Rattle.quality_checks.proofs.checks.has_qualities.Given as goal
 

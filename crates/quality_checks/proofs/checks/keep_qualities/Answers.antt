@@ -2,7 +2,7 @@ use Rattle.std.proofs.Common.{ℕ, ◌<◌, arith, below_more, refl}
 use Rattle.pool_model.specs.Network.{net_of}
 use Rattle.point_checks.proofs.Tests.{every, never_every}
 use Rattle.quality_checks.specs.Slices.{seen}
-use Rattle.quality_checks.specs.Checks.{KeepsQuality}
+use Rattle.quality_checks.specs.QualityTests.{KeepsQuality}
 use Rattle.quality_checks.proofs.checks.keep_qualities.Goals as goal
 
 pub returns-then-not-keeps_qualities : goal.returns-then-not-keeps_qualities

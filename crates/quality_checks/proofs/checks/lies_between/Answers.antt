@@ -2,7 +2,7 @@ use Rattle.std.proofs.Common.{arith, below_more, refl}
 use Rattle.pool_model.specs.Network.{net_of}
 use Rattle.point_checks.proofs.Tests.{never_every}
 use Rattle.quality_checks.specs.Slices.{seen}
-use Rattle.quality_checks.specs.Checks.{LiesBetween}
+use Rattle.quality_checks.specs.QualityTests.{LiesBetween}
 use Rattle.quality_checks.proofs.checks.lies_between.Goals as goal
 
 pub returns-then-not-is_between : goal.returns-then-not-is_between

@@ -2,7 +2,7 @@ use Rattle.std.proofs.Common.{ℕ, ◌<◌, refl}
 use Rattle.pool_model.specs.Network.{net_of}
 use Rattle.flow_checks.specs.Sizes.{FlowsFit}
 use Rattle.point_checks.proofs.Tests.{never, same-test}
-use Rattle.quality_checks.specs.Checks.{IsQualPoint, KeepsQuality}
+use Rattle.quality_checks.specs.QualityTests.{IsQualPoint, KeepsQuality}
 use Rattle.quality_checks.specs.Slices.{seen}
 use Rattle.quality_checks.proofs.QualPoints.{all-point, point-fits, point-keeps, point-limits, small-point}
 use Rattle.quality_checks.proofs.limits.is_qual_point.Goals as goal

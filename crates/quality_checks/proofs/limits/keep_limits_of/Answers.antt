@@ -1,7 +1,7 @@
 use Rattle.std.proofs.Common.{arith, below_more, refl}
 use Rattle.pool_model.specs.Network.{net_of}
 use Rattle.quality_checks.specs.Slices.{seen}
-use Rattle.quality_checks.specs.Checks.{KeepsLimits}
+use Rattle.quality_checks.specs.QualityTests.{KeepsLimits}
 use Rattle.point_checks.proofs.Tests.{never_every}
 use Rattle.quality_checks.proofs.limits.keep_limits_of.Goals as goal
 

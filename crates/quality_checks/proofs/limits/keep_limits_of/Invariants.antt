@@ -1,6 +1,6 @@
 use Rattle.std.proofs.Common.{ℕ, ◌<◌}
 use Rattle.pool_model.specs.Network.{net_of}
-use Rattle.quality_checks.specs.Checks.{KeepsLimits}
+use Rattle.quality_checks.specs.QualityTests.{KeepsLimits}
 use Rattle.quality_checks.specs.Slices.{seen}
 use Rattle.quality_checks.proofs.limits.keep_limits_of.Given as goal
 

@@ -6,7 +6,7 @@ use Rattle.program_model.specs.Points.{quality_flows}
 use Rattle.program_model.specs.Programs.{direct_mix}
 use Rattle.point_checks.proofs.Tests.{same-test, meets-same, wide_sum}
 use Rattle.quality_checks.specs.Slices.{seen}
-use Rattle.quality_checks.specs.Checks.{KeepsLimits}
+use Rattle.quality_checks.specs.QualityTests.{KeepsLimits}
 use Rattle.quality_checks.proofs.limits.keeps_limits.Goals as goal
 
 pub returns : goal.returns

@@ -2,7 +2,7 @@ use Rattle.std.proofs.Common.{◌*◌, ◌^◌, FitsSigned, rules, arith, ◌∙
 use mir.Syntax.{w64}
 use Rattle.std.proofs.lemmas.Int.{to_z-of_z}
 use Rattle.pool_model.specs.Network.{net_of}
-use Rattle.flow_checks.proofs.Totals.{read-small}
+use Rattle.integers.proofs.WideSums.{read-small}
 use Rattle.quality_checks.proofs.Signed.{fed-size}
 use Rattle.quality_checks.proofs.sums.fed.Goals as goal
 

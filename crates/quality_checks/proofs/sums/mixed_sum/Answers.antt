@@ -6,7 +6,7 @@ use Rattle.integers.specs.Sums.{int_sum_at, int_sum_by}
 use Rattle.integers.proofs.Numbers.{numbers_at-sum}
 use Rattle.pool_model.specs.Network.{net_of}
 use Rattle.blend_network.specs.Keys.{count_of, key_of}
-use Rattle.flow_checks.proofs.Totals.{added, added-small, term-more}
+use Rattle.integers.proofs.WideSums.{added, added-small, term-more}
 use Rattle.quality_checks.proofs.Signed.{place-within}
 use Rattle.quality_checks.proofs.sums.mixed_sum.Goals as goal
 

@@ -5,9 +5,9 @@ use Rattle.std.specs.List.{sum_by}
 use Rattle.std.proofs.lemmas.List.{take_all}
 use Rattle.std.proofs.lemmas.List.Sums.{sum_by_more, sum_by_more_le}
 use Rattle.integers.specs.Sums.{int_sum_by}
-use Rattle.integers.proofs.Numbers.{numbers_at-sum}
+use Rattle.integers.proofs.Numbers.{numbers_at-sum, numbers_at-total}
 use Rattle.pool_model.specs.Network.{net_of}
-use Rattle.flow_checks.proofs.Totals.{numbers_at-total, term-more}
+use Rattle.integers.proofs.WideSums.{term-more}
 use Rattle.quality_checks.proofs.Signed.{total_fits, total_is, total_small}
 use Rattle.quality_checks.proofs.sums.quality_fed.Goals as goal
 

@@ -11,7 +11,7 @@ use Rattle.network_parts.specs.Views.{shown_path}
 use Rattle.blend_network.specs.Views.{shown_product}
 use Rattle.blend_network.specs.Built.{IsBuilt}
 use Rattle.pool_model.specs.Network.{Network, net_of, IsLimited}
-use Rattle.network_parts.specs.Checks.{IsChecked}
+use Rattle.network_parts.specs.Ready.{IsReady}
 use Rattle.network_parts.specs.declared.arcs.Arcs.{Arcs}
 use Rattle.blend_network.proofs.Built.{all_rows, same_network, limited, built}
 use Rattle.blend_network.proofs.LimitLists.{products_wide, set_of, both_set}
@@ -26,7 +26,7 @@ pub stand_in-stand_in-requires-clause-ranges : goal.stand_in-stand_in-requires-c
 stand_in-stand_in-requires-clause-ranges c = rw c.deref.ensures.value (all_rows IsProductInRange product_row no_product_row c.args.parts.products.items c.requires.checked.ranges.products)
 
 -- the network of the rows is within the limits
-rows_limited : (r : Rows) (arcs : Arcs) (st : ℕ) → IsRectangular r → IsChecked r arcs → pos st ≡ stand_in r → st ≤ 64 * 10 ^ 12 → IsLimited (net_of (network_of r))
+rows_limited : (r : Rows) (arcs : Arcs) (st : ℕ) → IsRectangular r → IsReady r arcs → pos st ≡ stand_in r → st ≤ 64 * 10 ^ 12 → IsLimited (net_of (network_of r))
 rows_limited r arcs st rect checked is size =
     let up : IsUpTo (10 ^ 14) (pos st) = (omega (arith, ints), omega (arith, ints, size)) in
     limited r arcs rect checked (subst (λ (z : ℤ). IsUpTo (10 ^ 14) z) is up)

@@ -56,7 +56,7 @@ pub record AreArcsOf (r : Rows) (arcs : Arcs) : Type 0 where
   pub paths : map shown_path arcs.paths.items ≡ paths_of (net_of (network_of r))
 
 -- rows with no reason to refuse them, and their arcs: what the assembly of a network takes
-pub record IsChecked (r : Rows) (arcs : Arcs) : Type 0 where
+pub record IsReady (r : Rows) (arcs : Arcs) : Type 0 where
   pub faultless : IsFaultless r
   pub ranges : IsInRange r
   pub found : AreArcsOf r arcs

@@ -8,7 +8,7 @@ use Rattle.program_model.specs.Points.{QualityPoint, quality_flows}
 use Rattle.program_model.specs.Programs.{IsPointOfP, mixed_inflow}
 use Rattle.flow_checks.specs.Sizes.{AreAtMost}
 use Rattle.flow_checks.specs.Qualities.{MeetsLimits}
-use Rattle.point_checks.specs.Checks.{AreBases}
+use Rattle.point_checks.specs.ProportionTests.{AreBases}
 use Rattle.quality_checks.specs.Slices.{seen}
 use Rattle.quality_checks.specs.declared.slices.QualSlices.{QualSlices}
 
