@@ -13,8 +13,8 @@ use Rattle.box_space.specs.declared.coordinates.Form.{Form}
 use Rattle.box_space.specs.declared.coordinates.Form.TheVariants.{P, Q, Pq}
 use Rattle.row_book.specs.Groups.{takes, group_of}
 use Rattle.row_book.proofs.Families.{test_true}
-use Rattle.lp_simplex.specs.declared.lp.Lp.{Lp}
-use Rattle.lp_simplex.specs.declared.lp.LpRow.{LpRow}
+use Rattle.lp_program.specs.declared.lp.Lp.{Lp}
+use Rattle.lp_program.specs.declared.lp.LpRow.{LpRow}
 use Rattle.lp_simplex.specs.declared.advice.Advice.{Advice}
 use Rattle.dual_rounding.specs.Programs.{has_row, form_rows, numbers}
 use Rattle.dual_rounding.specs.Price.{is_nonzero, nonzero, price_part, price_proof}

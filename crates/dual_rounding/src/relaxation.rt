@@ -23,7 +23,7 @@ pub struct Relaxation {
 }
 
 impl Model for Relaxation {
-    ghost use Rattle.lp_simplex.specs.declared.lp.Lp as programs;
+    ghost use Rattle.lp_program.specs.declared.lp.Lp as programs;
 
     ghost Value = { programs.Lp };
 

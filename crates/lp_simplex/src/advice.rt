@@ -1,15 +1,14 @@
 //! The calls, and what they answer.
 
 ghost use Rattle.std.specs.Prelude.{◌≡◌, vec_len, IfOk};
-ghost use Rattle.lp_simplex.specs.Columns.{NamesColumns};
+ghost use Rattle.lp_program.specs.Columns.{NamesColumns};
 
-use crate::answer::one_row;
-use crate::lp::Lp;
-use crate::program::{Scaled, scale};
-use crate::simplex::{End, Simplex};
+use crate::answer::{advice_of, one_row};
 use crate::start::{cold_start, start_at_rest};
 use box_space::Proof;
 use edge_io::Memory;
+use lp_pivots::{End, Simplex};
+use lp_program::{Lp, Scaled, scale};
 use std::alloc::{AllocError, Global};
 
 /// What the method suggests, in units of 2^-32. None of it is to be trusted before it is tested.
@@ -99,10 +98,10 @@ fn solve_scaled(
     simplex.begin_at(alloc, start)?;
     let end = simplex.run(alloc, pivots)?;
     let is_final = matches!(&end, End::Optimal | End::Ray(_));
-    let advice = simplex.advice(alloc, lp, end)?;
+    let advice = advice_of(alloc, lp, simplex, end)?;
     Ok(Solution {
         advice,
         is_final,
-        pivots: simplex.progress.pivots,
+        pivots: simplex.pivots(),
     })
 }

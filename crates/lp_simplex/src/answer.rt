@@ -3,13 +3,14 @@
 //! A method that ended without an answer gives the duals of the best bound on the way, with the values that came with them.
 
 ghost use Rattle.std.specs.Prelude.{◌≡◌, [], vec_len, IfOk};
-ghost use Rattle.lp_simplex.specs.Columns.{NamesColumns};
+ghost use Rattle.lp_program.specs.Columns.{NamesColumns};
 
 use crate::advice::Advice;
-use crate::lp::Lp;
-use crate::simplex::{End, Simplex};
+use crate::refine::refine;
 use lp_factors::fixed::{DUAL_BITS, VALUE_BITS, bit_length, shifted};
 use lp_factors::lookup::{at, put};
+use lp_pivots::{End, Simplex};
+use lp_program::{Lp, Program};
 use std::alloc::{AllocError, Global};
 
 /// Duals and points are answered in units of 2^-32.
@@ -43,117 +44,102 @@ pub fn one_row(alloc: Global, lp: &Lp, row: usize, sign: i128) -> Result<Advice,
     })
 }
 
-impl Simplex {
-    /// What the method found, where it ended in this way.
-    pub fn advice(&mut self, alloc: Global, lp: &Lp, end: End) -> Result<Advice, AllocError>
-        ensures duals { IfOk result (λ a. vec_len a.duals ≡ vec_len lp.now.rows) }
-        ensures point { IfOk result (λ a. vec_len a.point ≡ vec_len lp.now.low) }
-        ensures basis { IfOk result (λ a. NamesColumns lp.now a.basis.items) }
-    {
-        let mut duals = vec![in alloc; 0i128; lp.rows.len()]?;
-        let ray = matches!(&end, End::Ray(_));
-        let basis = lp.named(self.basis_list(alloc)?);
-        self.write_end(alloc, lp, end, &mut duals)?;
-        let point = self.point(alloc, lp)?;
-        Ok(Advice {
-            ray,
-            duals,
-            point,
-            basis,
-        })
-    }
+/// What the method found, where it ended in this way.
+pub fn advice_of(
+    alloc: Global,
+    lp: &Lp,
+    simplex: &mut Simplex,
+    end: End,
+) -> Result<Advice, AllocError>
+    ensures duals { IfOk result (λ a. vec_len a.duals ≡ vec_len lp.now.rows) }
+    ensures point { IfOk result (λ a. vec_len a.point ≡ vec_len lp.now.low) }
+    ensures basis { IfOk result (λ a. NamesColumns lp.now a.basis.items) }
+{
+    let mut duals = vec![in alloc; 0i128; lp.rows.len()]?;
+    let ray = matches!(&end, End::Ray(_));
+    let basis = lp.named(simplex.basis_list(alloc)?);
+    write_end(alloc, lp, simplex, end, &mut duals)?;
+    let point = point_of(alloc, lp, simplex)?;
+    Ok(Advice {
+        ray,
+        duals,
+        point,
+        basis,
+    })
+}
 
-    /// Writes the duals that belong to an end.
-    fn write_end(
-        &mut self,
-        alloc: Global,
-        lp: &Lp,
-        end: End,
-        duals: &mut [i128],
-    ) -> Result<(), AllocError> {
-        match end {
-            End::Optimal => {
-                self.write_duals(duals);
-                self.refine(alloc, lp, duals)?;
-                self.finish_duals(duals);
-            }
-            End::Ray(multipliers) => self.write_ray(&multipliers, duals),
-            End::Stopped | End::Refused => {
-                if self.best.values.len() == self.sums.values.len() {
-                    self.sums.values = Vec::from_slice(alloc, &self.best.values)?;
-                }
-                self.sums.duals = vec![in alloc; 0i64; self.program.rows.len()]?;
-                for entry in self.best.duals.iter() {
-                    put(&mut self.sums.duals, entry.place, entry.value);
-                }
-                self.write_duals(duals);
-                self.finish_duals(duals);
-            }
+/// Writes the duals that belong to an end.
+fn write_end(
+    alloc: Global,
+    lp: &Lp,
+    simplex: &mut Simplex,
+    end: End,
+    duals: &mut [i128],
+) -> Result<(), AllocError> {
+    match end {
+        End::Optimal => {
+            write_duals(simplex, duals);
+            refine(alloc, lp, simplex, duals)?;
+            finish_duals(simplex.program(), duals);
         }
-        Ok(())
-    }
-
-    /// The basic variables, and the active rows past the last variable.
-    fn basis_list(&self, alloc: Global) -> Result<Vec<u32>, AllocError> {
-        let mut list = Vec::new(alloc);
-        for variable in self.basis.variables.iter() {
-            list.push(u32::try_from(*variable).unwrap_or(u32::MAX))?;
-        }
-        for row in self.basis.rows.iter() {
-            let number = self.program.variables.len().saturating_add(*row);
-            list.push(u32::try_from(number).unwrap_or(u32::MAX))?;
-        }
-        Ok(list)
-    }
-
-    /// The point, each value brought into its box.
-    fn point(&self, alloc: Global, lp: &Lp) -> Result<Vec<i128>, AllocError>
-        ensures { IfOk result (λ v. vec_len v ≡ vec_len lp.now.low) }
-    {
-        let mut point = vec![in alloc; 0i128; lp.low.len()]?;
-        for (place, (number, low)) in point.iter_mut().zip(lp.low.iter()).enumerate() {
-            let variable = self.program.variable(place);
-            let value = self.sums.value(place).min(variable.width).max(0);
-            let unit = variable.exponent.saturating_add(VALUE_UNIT);
-            let above = shifted(i128::from(value), unit);
-            *number = low.wrapping_shl(32).wrapping_add(above);
-        }
-        Ok(point)
-    }
-
-    /// The ray, such that its largest dual has about 56 bits.
-    fn write_ray(&self, multipliers: &[i64], duals: &mut [i128]) {
-        let mut most = -100_000;
-        for (row, number) in self.program.rows.iter().zip(multipliers) {
-            if *number != 0 {
-                let bits = bit_length(i128::from(*number));
-                most = most.max(bits.saturating_sub(row.exponent));
-            }
-        }
-        let unit = 56i32.saturating_sub(most);
-        for (place, row) in self.program.rows.iter().enumerate() {
-            let number = i128::from(at(multipliers, place, 0));
-            let grown = unit.saturating_sub(row.exponent);
-            put(duals, place, shifted(number, grown));
+        End::Ray(multipliers) => write_ray(simplex.program(), &multipliers, duals),
+        End::Stopped | End::Refused => {
+            simplex.return_to_best(alloc)?;
+            write_duals(simplex, duals);
+            finish_duals(simplex.program(), duals);
         }
     }
+    Ok(())
+}
 
-    /// Scaled duals in units of 2^-32.
-    fn write_duals(&self, duals: &mut [i128]) {
-        let unit = self.program.cost_exponent.saturating_add(DUAL_UNIT);
-        for (place, row) in self.program.rows.iter().enumerate() {
-            let grown = unit.saturating_sub(row.exponent);
-            let dual = shifted(i128::from(self.sums.dual(place)), grown);
-            put(duals, place, dual.clamp(-MOST_DUAL, MOST_DUAL));
+/// The point, each value brought into its box.
+fn point_of(alloc: Global, lp: &Lp, simplex: &Simplex) -> Result<Vec<i128>, AllocError>
+    ensures { IfOk result (λ v. vec_len v ≡ vec_len lp.now.low) }
+{
+    let mut point = vec![in alloc; 0i128; lp.low.len()]?;
+    for (place, (number, low)) in point.iter_mut().zip(lp.low.iter()).enumerate() {
+        let variable = simplex.program().variable(place);
+        let value = simplex.value(place).min(variable.width).max(0);
+        let unit = variable.exponent.saturating_add(VALUE_UNIT);
+        let above = shifted(i128::from(value), unit);
+        *number = low.wrapping_shl(32).wrapping_add(above);
+    }
+    Ok(point)
+}
+
+/// The ray, such that its largest dual has about 56 bits.
+fn write_ray(program: &Program, multipliers: &[i64], duals: &mut [i128]) {
+    let mut most = -100_000;
+    for (row, number) in program.rows.iter().zip(multipliers) {
+        if *number != 0 {
+            let bits = bit_length(i128::from(*number));
+            most = most.max(bits.saturating_sub(row.exponent));
         }
     }
+    let unit = 56i32.saturating_sub(most);
+    for (place, row) in program.rows.iter().enumerate() {
+        let number = i128::from(at(multipliers, place, 0));
+        let grown = unit.saturating_sub(row.exponent);
+        put(duals, place, shifted(number, grown));
+    }
+}
 
-    /// Rounds to multiples of 2^-30, which lose nothing at the scale 2^30, and cuts the duals of inequalities at 0.
-    fn finish_duals(&self, duals: &mut [i128]) {
-        for (place, row) in self.program.rows.iter().enumerate() {
-            let dual = at(duals, place, 0);
-            let near = (dual.wrapping_add(2) >> 2u32).wrapping_shl(2);
-            put(duals, place, if row.equal { near } else { near.max(0) });
-        }
+/// Scaled duals in units of 2^-32.
+fn write_duals(simplex: &Simplex, duals: &mut [i128]) {
+    let program = simplex.program();
+    let unit = program.cost_exponent.saturating_add(DUAL_UNIT);
+    for (place, row) in program.rows.iter().enumerate() {
+        let grown = unit.saturating_sub(row.exponent);
+        let dual = shifted(i128::from(simplex.dual(place)), grown);
+        put(duals, place, dual.clamp(-MOST_DUAL, MOST_DUAL));
+    }
+}
+
+/// Rounds to multiples of 2^-30, which lose nothing at the scale 2^30, and cuts the duals of inequalities at 0.
+fn finish_duals(program: &Program, duals: &mut [i128]) {
+    for (place, row) in program.rows.iter().enumerate() {
+        let dual = at(duals, place, 0);
+        let near = (dual.wrapping_add(2) >> 2u32).wrapping_shl(2);
+        put(duals, place, if row.equal { near } else { near.max(0) });
     }
 }

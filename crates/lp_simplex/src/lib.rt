@@ -8,44 +8,22 @@
 //! terms on variables that are not there are no error: a number that is missing is 0, a variable that is missing has no
 //! width.
 //!
-//! The method is the dual simplex of C. E. Lemke (The dual method of solving the linear programming problem, 1954) with an
-//! upper bound on every variable. At any duals each variable goes to the end of its box that its reduced cost asks for, so
-//! every square of active rows and basic variables that can be solved with is a start. In the order of a call:
+//! The method is a dual simplex method with an upper bound on every variable, that of `lp_pivots`, on the scaled program of
+//! `lp_program`. The rows of a call:
 //!
 //! | Modules | What they do |
 //! |---|---|
-//! | `lp`, `advice` | the program, and the calls |
-//! | `scaling`, `program` | the unit box, and rows and costs by powers of two |
-//! | `start` | the first basis: cold, from a list, from a proof |
-//! | `simplex`, `basis`, `sums` | the state: who is basic, and sums that follow each change exactly |
-//! | `passes` | the loop, which counts its passes |
-//! | `refactor`, `residual`, `bound` | new factors; duals and values brought to rest; the best bound so far |
-//! | `price`, `ratio`, `step` | what leaves, what enters, and the step between |
-//! | `stall`, `ray` | moved costs where nothing is gained; the test of a row that nothing can mend |
+//! | `advice` | the calls |
+//! | `start` | lists to start from: cold, from a proof |
 //! | `answer`, `refine` | the advice in the units of the program |
 //!
-//! Factors and solves are those of `lp_factors`.
+//! [`Lp`] and [`LpRow`] are those of `lp_program`, for callers that use no more of it.
 #![tactic(auto)]
 
 mod advice;
 mod answer;
-mod basis;
-mod bound;
-mod lp;
-mod passes;
-mod price;
-mod program;
-mod ratio;
-mod ray;
-mod refactor;
 mod refine;
-mod residual;
-mod scaling;
-mod simplex;
-mod stall;
 mod start;
-mod step;
-mod sums;
 
 pub use advice::{Advice, advise, advise_from, start_of_proof};
-pub use lp::{Lp, LpRow};
+pub use lp_program::{Lp, LpRow};

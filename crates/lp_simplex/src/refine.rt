@@ -5,12 +5,12 @@
 //! Iterative refinement for linear programming, 2016).
 
 use crate::answer::MOST_DUAL;
-use crate::lp::Lp;
-use crate::simplex::Simplex;
 use box_space::Term;
 use lp_factors::Entry;
 use lp_factors::fixed::{bit_length, clamped, shifted, shifted_down};
 use lp_factors::lookup::{at, put};
+use lp_pivots::Simplex;
+use lp_program::{Lp, Program};
 use std::alloc::{AllocError, Global};
 
 /// How often the duals are corrected at most.
@@ -22,73 +22,82 @@ const MOST_REST_BITS: i32 = 100;
 /// The bits that a rest may have in a solve.
 const SIDE_BITS: i32 = 50;
 
-impl Simplex {
-    /// Brings the reduced costs of the basic variables to 0, as long as no product runs over.
-    pub fn refine(&self, alloc: Global, lp: &Lp, duals: &mut [i128]) -> Result<(), AllocError> {
-        for _ in 0..CORRECTIONS {
-            let Some(reduced_costs) = whole_reduced_costs(alloc, lp, duals)? else {
-                break;
-            };
-            if !self.correct(alloc, &reduced_costs, duals)? {
-                break;
-            }
+/// Brings the reduced costs of the basic variables to 0, as long as no product runs over.
+pub fn refine(
+    alloc: Global,
+    lp: &Lp,
+    simplex: &Simplex,
+    duals: &mut [i128],
+) -> Result<(), AllocError> {
+    for _ in 0..CORRECTIONS {
+        let Some(reduced_costs) = whole_reduced_costs(alloc, lp, duals)? else {
+            break;
+        };
+        if !correct(alloc, simplex, &reduced_costs, duals)? {
+            break;
         }
-        Ok(())
     }
+    Ok(())
+}
 
-    /// Makes one correction, and says whether there was anything to correct.
-    fn correct(
-        &self,
-        alloc: Global,
-        reduced_costs: &[i128],
-        duals: &mut [i128],
-    ) -> Result<bool, AllocError> {
-        let rests = self.rests(alloc, reduced_costs)?;
-        let mut most = 0i128;
-        for rest in rests.iter() {
-            most = most.max(rest.wrapping_abs());
-        }
-        let lost = bit_length(most).saturating_sub(SIDE_BITS).max(0);
-        let mut side = Vec::new(alloc);
-        for (variable, rest) in self.basis.variables.iter().zip(rests.iter()) {
-            let value = clamped(shifted_down(*rest, lost.unsigned_abs()));
-            if value != 0 {
-                let place = *variable;
-                side.push(Entry { place, value })?;
-            }
-        }
-        if side.len() == 0 {
-            return Ok(false);
-        }
-        let changes = self.kernel.solve_rows(alloc, &side)?;
-        let unit = self.program.cost_exponent.saturating_sub(REST_UNIT);
-        self.add_changes(&changes, unit.saturating_add(lost), duals);
-        Ok(true)
+/// Makes one correction, and says whether there was anything to correct.
+fn correct(
+    alloc: Global,
+    simplex: &Simplex,
+    reduced_costs: &[i128],
+    duals: &mut [i128],
+) -> Result<bool, AllocError> {
+    let rests = rests_of(alloc, simplex, reduced_costs)?;
+    let mut most = 0i128;
+    for rest in rests.iter() {
+        most = most.max(rest.wrapping_abs());
     }
-
-    /// What is left of the reduced cost of each basic variable.
-    fn rests(&self, alloc: Global, reduced_costs: &[i128]) -> Result<Vec<i128>, AllocError> {
-        let unit = REST_UNIT.saturating_sub(self.program.cost_exponent);
-        let mut rests = Vec::new(alloc);
-        for variable in self.basis.variables.iter() {
-            let exponent = self.program.variable(*variable).exponent;
-            let grown = unit.saturating_add(exponent);
-            let rest = shifted(at(reduced_costs, *variable, 0), grown);
-            let is_far = bit_length(rest) > MOST_REST_BITS;
-            rests.push(if is_far { 0 } else { rest })?;
+    let lost = bit_length(most).saturating_sub(SIDE_BITS).max(0);
+    let mut side = Vec::new(alloc);
+    for (variable, rest) in simplex.basic_variables().iter().zip(rests.iter()) {
+        let value = clamped(shifted_down(*rest, lost.unsigned_abs()));
+        if value != 0 {
+            let place = *variable;
+            side.push(Entry { place, value })?;
         }
-        Ok(rests)
     }
+    if side.len() == 0 {
+        return Ok(false);
+    }
+    let changes = simplex.solve_rows(alloc, &side)?;
+    let program = simplex.program();
+    let unit = program.cost_exponent.saturating_sub(REST_UNIT);
+    add_changes(program, &changes, unit.saturating_add(lost), duals);
+    Ok(true)
+}
 
-    /// Adds what a solve found to the duals, where that keeps them in their range.
-    fn add_changes(&self, changes: &[Entry], unit: i32, duals: &mut [i128]) {
-        for entry in changes {
-            let exponent = self.program.row(entry.place).exponent;
-            let change = shifted(i128::from(entry.value), unit.saturating_sub(exponent));
-            let dual = at(duals, entry.place, 0).wrapping_add(change);
-            if is_near(change) && is_near(dual) {
-                put(duals, entry.place, dual);
-            }
+/// What is left of the reduced cost of each basic variable.
+fn rests_of(
+    alloc: Global,
+    simplex: &Simplex,
+    reduced_costs: &[i128],
+) -> Result<Vec<i128>, AllocError> {
+    let program = simplex.program();
+    let unit = REST_UNIT.saturating_sub(program.cost_exponent);
+    let mut rests = Vec::new(alloc);
+    for variable in simplex.basic_variables() {
+        let exponent = program.variable(*variable).exponent;
+        let grown = unit.saturating_add(exponent);
+        let rest = shifted(at(reduced_costs, *variable, 0), grown);
+        let is_far = bit_length(rest) > MOST_REST_BITS;
+        rests.push(if is_far { 0 } else { rest })?;
+    }
+    Ok(rests)
+}
+
+/// Adds what a solve found to the duals, where that keeps them in their range.
+fn add_changes(program: &Program, changes: &[Entry], unit: i32, duals: &mut [i128]) {
+    for entry in changes {
+        let exponent = program.row(entry.place).exponent;
+        let change = shifted(i128::from(entry.value), unit.saturating_sub(exponent));
+        let dual = at(duals, entry.place, 0).wrapping_add(change);
+        if is_near(change) && is_near(dual) {
+            put(duals, entry.place, dual);
         }
     }
 }

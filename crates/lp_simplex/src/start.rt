@@ -1,44 +1,19 @@
-//! Where the method starts.
+//! Lists of variables and rows that the method starts from.
 //!
 //! A cold start offers all rows that have to be 0, with all variables for the factors to pick from, a crash basis as in R. E.
 //! Bixby, Implementing the simplex method: the initial basis, 1992. A start from a proof has the rows with a multiplier and
 //! the variables whose reduced cost is no more than rounding: the duals that belong to it are the proof's, up to rounding,
 //! so the method goes on from the bound that the proof shows.
 
-use crate::lp::{Lp, LpRow};
-use crate::simplex::Simplex;
 use box_space::Proof;
 use lp_factors::fixed::bit_length;
 use lp_factors::lookup::{at, put};
+use lp_program::{Lp, LpRow};
 use std::alloc::{AllocError, Global};
 use std::collections::BTreeMap;
 
 /// The bits that a reduced cost of a basic variable is below the greatest cost.
 const NEAR_BITS: i32 = 28;
-
-impl Simplex {
-    /// Takes a list of variables and, past the last variable, of rows. What is not there, comes twice, is fixed or has no
-    /// pivot is left out.
-    pub fn begin_at(&mut self, alloc: Global, start: &[u32]) -> Result<(), AllocError> {
-        let count = self.program.variables.len();
-        for number in start {
-            let number = *number as usize;
-            if number < count {
-                let is_free = self.program.variable(number).width > 0;
-                if is_free && !self.basis.is_basic(number) {
-                    self.basis.add_variable(number)?;
-                }
-            } else {
-                let row = number.wrapping_sub(count);
-                if self.program.row(row).is_open && !self.basis.is_active(row) {
-                    self.basis.add_row(row)?;
-                }
-            }
-        }
-        let _is_regular = self.refactor(alloc)?;
-        Ok(())
-    }
-}
 
 /// All rows that have to be 0, and if there are any all variables, of which the factors pick.
 pub fn cold_start(alloc: Global, lp: &Lp) -> Result<Vec<u32>, AllocError> {

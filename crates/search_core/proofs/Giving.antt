@@ -15,7 +15,7 @@ use Rattle.edge_io.specs.declared.Memory.{Memory}
 use Rattle.box_space.specs.declared.coordinates.Form.{Form}
 use Rattle.box_space.specs.declared.boxes.BoxView.{BoxView}
 use Rattle.box_space.specs.declared.boxes.BoxEnds.{BoxEnds}
-use Rattle.lp_simplex.specs.declared.lp.Lp.{Lp}
+use Rattle.lp_program.specs.declared.lp.Lp.{Lp}
 use Rattle.lp_simplex.specs.declared.advice.Advice.{Advice}
 use Rattle.dual_rounding.specs.Programs.{IsProgramOf, has_row}
 use Rattle.dual_rounding.specs.Price.{price_proof}

@@ -3,7 +3,7 @@ use mir.Syntax.{w128}
 use Rattle.pool_model.specs.Network.{net_of}
 use Rattle.row_model.specs.Multipliers.{bound}
 use Rattle.box_space.specs.Views.{shown_box_ends, shown_proof}
-use Rattle.lp_simplex.specs.declared.lp.Lp.{Lp}
+use Rattle.lp_program.specs.declared.lp.Lp.{Lp}
 use Rattle.dual_rounding.specs.Programs.{IsProgramOf}
 use Rattle.search_core.specs.Given.{IsGiven}
 use Rattle.search_core.proofs.Giving.{given-of}

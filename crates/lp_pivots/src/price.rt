@@ -16,7 +16,7 @@ pub struct Leaving {
 
 impl Simplex {
     /// Lists the rows that may not hold, of those whose activities changed.
-    pub fn list_broken(&mut self) {
+    pub(crate) fn list_broken(&mut self) {
         for turn in 0..self.sums.changed_rows.len() {
             let row = self.sums.changed_rows.place(turn);
             if self.row_violation(row).is_some() {
@@ -79,7 +79,7 @@ impl Simplex {
     }
 
     /// The column of the greatest violation, if any is out of its box. Rows that hold leave the list.
-    pub fn price(&mut self) -> Option<Leaving> {
+    pub(crate) fn price(&mut self) -> Option<Leaving> {
         let mut best: Option<Leaving> = None;
         for variable in self.basis.variables.iter() {
             if let Some(leaving) = self.variable_violation(*variable) {

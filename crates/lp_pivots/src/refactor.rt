@@ -14,7 +14,7 @@ pub const WAIT: u32 = 30;
 
 impl Simplex {
     /// Factors the active rows by the basic variables. What has no pivot leaves the basis, and then the answer is `false`.
-    pub fn refactor(&mut self, alloc: Global) -> Result<bool, AllocError> {
+    pub(crate) fn refactor(&mut self, alloc: Global) -> Result<bool, AllocError> {
         let least = ONE >> self.progress.threshold.min(KERNEL_BITS);
         let rows = self.kernel_rows(alloc)?;
         let factored = factor(alloc, rows, self.basis.variables.len(), least)?;
@@ -80,13 +80,13 @@ impl Simplex {
     }
 
     /// Changes the basis and the border.
-    pub fn change(&mut self, alloc: Global, change: Change) -> Result<Outcome, AllocError> {
+    pub(crate) fn change(&mut self, alloc: Global, change: Change) -> Result<Outcome, AllocError> {
         self.basis.change(change.leaving, change.entering)?;
         self.kernel.extend(alloc, &self.program.by_row, change)
     }
 
     /// Makes the factors anew after a change that asks for it. Both columns wait where the numbers were too rough.
-    pub fn rebuild(
+    pub(crate) fn rebuild(
         &mut self,
         alloc: Global,
         outcome: Outcome,
@@ -118,7 +118,7 @@ impl Simplex {
     }
 
     /// Makes the factors anew, unless that was done too often.
-    pub fn refactor_again(&mut self, alloc: Global) -> Result<bool, AllocError> {
+    pub(crate) fn refactor_again(&mut self, alloc: Global) -> Result<bool, AllocError> {
         if self.progress.is_hopeless() {
             return Ok(false);
         }

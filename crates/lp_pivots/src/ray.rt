@@ -14,7 +14,7 @@ use std::alloc::{AllocError, Global};
 
 impl Simplex {
     /// The multipliers that show that no point of the box meets the rows, if the pivot row has them.
-    pub fn ray(
+    pub(crate) fn ray(
         &self,
         alloc: Global,
         leaving: &Leaving,

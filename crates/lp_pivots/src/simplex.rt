@@ -1,10 +1,10 @@
 //! The state of the method, and its tolerances.
 
 use crate::basis::Basis;
-use crate::program::Program;
 use crate::sums::Sums;
 use lp_factors::lookup::{at, put};
 use lp_factors::{Column, Entry, Kernel, Marks};
+use lp_program::Program;
 use std::alloc::{AllocError, Global};
 
 /// How far a value may lie outside its box: 2^-33.
@@ -19,18 +19,18 @@ pub const NO_BOUND: i128 = -85_070_591_730_234_615_865_843_651_857_942_052_864;
 /// A program, a basis of it, and all that the method knows of both.
 #[derive(Drop)]
 pub struct Simplex {
-    pub program: Program,
-    pub basis: Basis,
-    pub kernel: Kernel,
-    pub sums: Sums,
+    pub(crate) program: Program,
+    pub(crate) basis: Basis,
+    pub(crate) kernel: Kernel,
+    pub(crate) sums: Sums,
     /// For each variable the end of its box that it goes to where it is not basic.
-    pub at_high: Vec<bool>,
+    pub(crate) at_high: Vec<bool>,
     /// The inactive rows that may not hold.
-    pub broken: Marks,
-    pub bars: Bars,
-    pub row_sums: RowSums,
-    pub best: Best,
-    pub progress: Progress,
+    pub(crate) broken: Marks,
+    pub(crate) bars: Bars,
+    pub(crate) row_sums: RowSums,
+    pub(crate) best: Best,
+    pub(crate) progress: Progress,
 }
 
 /// The number of pivots before which a column can't leave.
@@ -209,8 +209,41 @@ impl Simplex {
         self.sums.mark_all();
     }
 
+    /// The program.
+    #[inline]
+    pub fn program(&self) -> &Program {
+        &self.program
+    }
+
+    /// The basic variables, in the order of the kernel.
+    pub fn basic_variables(&self) -> &[usize] {
+        &self.basis.variables
+    }
+
+    /// The value of a variable, and 0 past the last.
+    #[inline]
+    pub fn value(&self, variable: usize) -> i64 {
+        self.sums.value(variable)
+    }
+
+    /// The dual of a row, and 0 past the last.
+    #[inline]
+    pub fn dual(&self, row: usize) -> i64 {
+        self.sums.dual(row)
+    }
+
+    /// How many pivots were made.
+    pub fn pivots(&self) -> u32 {
+        self.progress.pivots
+    }
+
+    /// Solves for the active rows, given the left side by basic variables.
+    pub fn solve_rows(&self, alloc: Global, side: &[Entry]) -> Result<Vec<Entry>, AllocError> {
+        self.kernel.solve_rows(alloc, side)
+    }
+
     /// Gives a variable the value of its end.
-    pub fn go_to_end(&mut self, variable: usize) {
+    pub(crate) fn go_to_end(&mut self, variable: usize) {
         let value = if at(&self.at_high, variable, false) {
             self.program.variable(variable).width
         } else {
@@ -220,14 +253,14 @@ impl Simplex {
     }
 
     /// A variable that leaves by no pivot is meant for the nearer end of its box.
-    pub fn choose_nearer_end(&mut self, variable: usize) {
+    pub(crate) fn choose_nearer_end(&mut self, variable: usize) {
         let half = self.program.variable(variable).width / 2;
         let is_high = self.sums.value(variable) > half;
         put(&mut self.at_high, variable, is_high);
     }
 
     /// Keeps a column, if there is one, from leaving for some pivots.
-    pub fn bar(&mut self, column: Option<Column>, wait: u32) {
+    pub(crate) fn bar(&mut self, column: Option<Column>, wait: u32) {
         if let Some(column) = column {
             let until = self.progress.pivots.saturating_add(wait);
             self.bars.bar(column, until);

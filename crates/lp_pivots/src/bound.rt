@@ -16,7 +16,7 @@ const GAIN: i128 = 16;
 
 impl Simplex {
     /// The most negative dual of an active inequality leaves, with the variable of the largest number in its column.
-    pub fn drop_negative_dual(&mut self, alloc: Global) -> Result<bool, AllocError> {
+    pub(crate) fn drop_negative_dual(&mut self, alloc: Global) -> Result<bool, AllocError> {
         let mut found: Option<usize> = None;
         let mut least = -NEGATIVE_DUAL;
         for row in self.basis.rows.iter() {
@@ -65,7 +65,7 @@ impl Simplex {
     }
 
     /// Each nonbasic variable whose reduced cost changed goes to the end of its box that this asks for.
-    pub fn choose_bounds(&mut self) {
+    pub(crate) fn choose_bounds(&mut self) {
         for turn in 0..self.sums.changed_variables.len() {
             let variable = self.sums.changed_variables.place(turn);
             if self.basis.is_basic(variable) || self.program.variable(variable).width == 0 {
@@ -83,7 +83,7 @@ impl Simplex {
     }
 
     /// Keeps the duals where their bound is the best so far.
-    pub fn keep_best(&mut self, alloc: Global) -> Result<(), AllocError> {
+    pub(crate) fn keep_best(&mut self, alloc: Global) -> Result<(), AllocError> {
         let bound = self.bound();
         if bound > self.best.bound.saturating_add(GAIN) {
             self.progress.last_gain = self.progress.pivots;
@@ -102,10 +102,22 @@ impl Simplex {
     }
 
     /// Keeps the values that came with the best duals.
-    pub fn keep_best_values(&mut self, alloc: Global) -> Result<(), AllocError> {
+    pub(crate) fn keep_best_values(&mut self, alloc: Global) -> Result<(), AllocError> {
         if self.best.waits {
             self.best.values = Vec::from_slice(alloc, &self.sums.values)?;
             self.best.waits = false;
+        }
+        Ok(())
+    }
+
+    /// Goes back to the duals of the best bound, with the values that came with them. The sums don't follow.
+    pub fn return_to_best(&mut self, alloc: Global) -> Result<(), AllocError> {
+        if self.best.values.len() == self.sums.values.len() {
+            self.sums.values = Vec::from_slice(alloc, &self.best.values)?;
+        }
+        self.sums.duals = vec![in alloc; 0i64; self.program.rows.len()]?;
+        for entry in self.best.duals.iter() {
+            put(&mut self.sums.duals, entry.place, entry.value);
         }
         Ok(())
     }

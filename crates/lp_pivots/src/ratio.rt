@@ -72,7 +72,11 @@ impl Candidate {
 
 impl Simplex {
     /// The row of the leaving column: its active part by a solve, the rest by the rows that this touches.
-    pub fn pivot_row(&mut self, alloc: Global, leaving: &Leaving) -> Result<PivotRow, AllocError> {
+    pub(crate) fn pivot_row(
+        &mut self,
+        alloc: Global,
+        leaving: &Leaving,
+    ) -> Result<PivotRow, AllocError> {
         let active = self.active_part(alloc, leaving.column)?;
         for entry in active.iter() {
             self.add_row_sum(entry.place, i128::from(entry.value.wrapping_neg()));
@@ -140,7 +144,7 @@ impl Simplex {
     }
 
     /// The column that blocks, where variables whose box is used up on the way only go to their other end.
-    pub fn ratio_test(
+    pub(crate) fn ratio_test(
         &self,
         alloc: Global,
         leaving: &Leaving,

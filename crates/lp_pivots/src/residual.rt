@@ -81,7 +81,7 @@ impl Residuals {
 
 impl Simplex {
     /// Brings the reduced costs of the basic variables to 0, and says whether that came to rest.
-    pub fn settle_duals(&mut self, alloc: Global) -> Result<bool, AllocError> {
+    pub(crate) fn settle_duals(&mut self, alloc: Global) -> Result<bool, AllocError> {
         let mut before = i64::MAX;
         for corrections in 0..=CORRECTIONS {
             let residuals = self.dual_residuals(alloc)?;
@@ -111,7 +111,7 @@ impl Simplex {
     }
 
     /// Brings the activities of the active rows to 0, and says whether that came to rest.
-    pub fn settle_values(&mut self, alloc: Global) -> Result<bool, AllocError> {
+    pub(crate) fn settle_values(&mut self, alloc: Global) -> Result<bool, AllocError> {
         let mut before = i64::MAX;
         for corrections in 0..=CORRECTIONS {
             let residuals = self.row_residuals(alloc)?;

@@ -18,7 +18,7 @@ const MOVE_BITS: u32 = 51;
 
 impl Simplex {
     /// There was no gain for long, and the costs are not moved.
-    pub fn is_stalled(&self) -> bool {
+    pub(crate) fn is_stalled(&self) -> bool {
         let later = if self.progress.moves > 3 {
             LATER_STALL
         } else {
@@ -32,7 +32,7 @@ impl Simplex {
     }
 
     /// Moves each cost by a fixed sequence of random numbers, to the side that its variable's end asks for.
-    pub fn move_costs(&mut self) {
+    pub(crate) fn move_costs(&mut self) {
         self.progress.is_moved = true;
         self.progress.moves = self.progress.moves.saturating_add(1);
         let mut random = 12345u64.wrapping_add(u64::from(self.progress.moves));
@@ -62,7 +62,7 @@ impl Simplex {
     }
 
     /// The costs of the program again.
-    pub fn restore_costs(&mut self) {
+    pub(crate) fn restore_costs(&mut self) {
         self.progress.restores = self.progress.restores.saturating_add(1);
         self.progress.is_moved = false;
         self.progress.is_shifted = false;
@@ -78,7 +78,7 @@ impl Simplex {
 
     /// What enters may have a dual value of the wrong sign, within tolerance, which would grow over a small pivot. It is
     /// set to 0, and costs take the difference until the end.
-    pub fn shift_wrong_sign(&mut self, entering: Column) {
+    pub(crate) fn shift_wrong_sign(&mut self, entering: Column) {
         match entering {
             Column::Structural(variable) => self.shift_variable(variable),
             Column::Slack(row) => self.shift_row(row),

@@ -1,6 +1,7 @@
 //! Linear programs over a box.
 
-ghost use Rattle.lp_simplex.specs.Columns.{NamesColumns};
+ghost use Rattle.std.specs.Prelude.{◌≡◌};
+ghost use Rattle.lp_program.specs.Columns.{columns_in, NamesColumns};
 
 use box_space::Term;
 
@@ -26,8 +27,9 @@ pub struct LpRow {
 
 impl Lp {
     /// Of a list the numbers of variables and, past the last variable, of rows.
-    pub(crate) fn named(&self, mut list: Vec<u32>) -> Vec<u32>
-        ensures { NamesColumns self.now result.items }
+    pub fn named(&self, mut list: Vec<u32>) -> Vec<u32>
+        ensures kept { result.items ≡ columns_in self.now list.items }
+        ensures columns { NamesColumns self.now result.items }
     {
         let columns = self.low.len().saturating_add(self.rows.len());
         list.retain(|number| (*number as usize) < columns);

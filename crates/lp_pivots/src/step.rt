@@ -17,7 +17,7 @@ const PIVOT_SLACK: i64 = 16384;
 
 impl Simplex {
     /// The column of what enters, over the basic variables.
-    pub fn entering_column(
+    pub(crate) fn entering_column(
         &mut self,
         alloc: Global,
         entering: Column,
@@ -40,7 +40,7 @@ impl Simplex {
     }
 
     /// Moves the duals so that what enters has none.
-    pub fn step_duals(&mut self, leaving: Column, entering: Entering, row: &PivotRow) {
+    pub(crate) fn step_duals(&mut self, leaving: Column, entering: Entering, row: &PivotRow) {
         let dual = match entering.column {
             Column::Structural(variable) => self.sums.reduced_cost(variable),
             Column::Slack(active) => self.sums.dual(active),
@@ -68,7 +68,7 @@ impl Simplex {
     }
 
     /// Moves the values so that what leaves is at its end.
-    pub fn step_values(&mut self, leaving: &Leaving, entering: Entering, column: &[Entry]) {
+    pub(crate) fn step_values(&mut self, leaving: &Leaving, entering: Entering, column: &[Entry]) {
         let distance = self.distance(leaving);
         let step = quotient(distance, entering.alpha);
         let mut own = None;
