@@ -9,8 +9,6 @@ mod runs;
 pub use runs::{ended, ended_on, shelf_of};
 
 #[cfg(test)]
-mod answers;
-#[cfg(test)]
 mod journals;
 #[cfg(test)]
 mod reports;

@@ -1,4 +1,4 @@
-//! `check` of a certificate with as many splits as there may be, and with one more. What else is refused stands in `worked_runs`.
+//! `check` of a certificate with as many splits as there may be, and with one more. What else is refused stands in `worked_answers`.
 
 use edge_io::MemSink;
 use std::alloc::{AllocError, Global};

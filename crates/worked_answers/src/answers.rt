@@ -1,7 +1,6 @@
 //! What small runs answer: which words are served, what `solve` prints where no search is needed, what `check` says of certificates
 //! and of each with a line changed, and which side failed. The cases are tables of text, a case a line.
 
-use super::ended;
 use disk_model::MemDisk;
 use edge_io::{MemShelf, MemSink};
 use pool_cli::{Status, write_message};
@@ -9,6 +8,7 @@ use std::alloc::{AllocError, Global};
 use std::test::Fail;
 use worked_certificates::{FULL, certificate_under, changed, name_in};
 use worked_networks::{EMPTY, HAVERLY_1, IDLE, ONE_DIRECT, TOO_SOUR, TWO_FEEDS, TWO_PRODUCTS};
+use worked_runs::ended;
 
 // ---- certificates beside those of `worked_certificates`, by the names of the tables
 
