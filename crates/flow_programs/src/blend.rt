@@ -1,7 +1,7 @@
 //! Proportions of feeds in their pools, and what the pools mix at them.
 
 use crate::outline::{GRAIN, Outline, add_at};
-use lp_factors::lookup::at;
+use lp_sparse::lookup::at;
 use std::alloc::{AllocError, Global};
 
 /// Proportions over the grain, with the qualities and the cost of a unit that they give each pool, over the grain too.

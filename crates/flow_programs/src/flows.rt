@@ -8,7 +8,7 @@
 use crate::blend::Blend;
 use crate::outline::{Arc, GRAIN, Outline};
 use crate::program::SmallProgram;
-use lp_factors::lookup::at;
+use lp_sparse::lookup::at;
 use std::alloc::{AllocError, Global};
 
 /// Where the rows of each kind begin, and the columns of directs.

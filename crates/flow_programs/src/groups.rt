@@ -1,7 +1,7 @@
 //! Arcs by the node at which they end.
 
 use crate::outline::Arc;
-use lp_factors::lookup::at;
+use lp_sparse::lookup::at;
 use std::alloc::{AllocError, Global};
 
 /// The numbers of arcs, those of one node after another.

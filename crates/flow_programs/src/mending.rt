@@ -8,7 +8,7 @@ ghost use Rattle.std.specs.Prelude.{ℕ, ◌*◌, ◌<◌, ◌≤◌};
 
 use crate::blend::Blend;
 use crate::outline::{GRAIN, Limit, Outline};
-use lp_factors::lookup::{at, put};
+use lp_sparse::lookup::{at, put};
 
 /// How many rounds a product is mended before it is dropped.
 const ROUNDS: u32 = 64;

@@ -5,7 +5,7 @@ ghost use Rattle.pool_model.specs.Network.{net_of};
 
 use crate::groups::Groups;
 use blend_network::Network;
-use lp_factors::lookup::at;
+use lp_sparse::lookup::at;
 use std::alloc::{AllocError, Global};
 
 /// How many parts a proportion is counted in.

@@ -1,9 +1,9 @@
 //! Small linear programs, put together term by term.
 
 use box_space::Term;
-use lp_factors::fixed::{bit_length, shifted_down};
-use lp_factors::lookup::at;
 use lp_simplex::{Advice, Lp, LpRow, advise, advise_from};
+use lp_sparse::fixed::{bit_length, shifted_down};
+use lp_sparse::lookup::at;
 use std::alloc::{AllocError, Global};
 
 /// The bits to which coefficients and costs are brought before they are handed on.

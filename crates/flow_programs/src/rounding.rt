@@ -6,7 +6,7 @@
 //! worst feed for the limit to the best one, as few as serve.
 
 use crate::outline::{GRAIN, Limit, Outline, add_at};
-use lp_factors::lookup::{at, put};
+use lp_sparse::lookup::{at, put};
 use std::alloc::{AllocError, Global};
 
 /// How often the limits are gone over: what is moved for one of them may break another.

@@ -5,12 +5,12 @@
 //! Matrix augmentation and partitioning in the updating of the basis inverse, 1977). What is left of the border past the
 //! base, its Schur complement, is kept inverted, and grows by one line and one column at each change.
 
-use crate::fixed::{
+use lp_sparse::fixed::{
     GUARD_BITS, KERNEL_BITS, SUM_BITS, clamped, inverse, kernel_product, product, rounded,
     shifted_down, subtract_sum,
 };
-use crate::lookup::{at, put};
-use crate::sparse::{Entry, add_multiple, guarded_dot, subtract_multiple};
+use lp_sparse::lookup::{at, put};
+use lp_sparse::{Entry, add_multiple, guarded_dot, subtract_multiple};
 use std::alloc::{AllocError, Global};
 
 /// Changes of the basis between two factorings.

@@ -4,10 +4,10 @@
 //! once more, up to its sign. That is a test of the factors that costs nothing.
 
 use crate::border::{Edge, MOST_CHANGES, NewLine, rounded_sum, short_dot};
-use crate::fixed::{LOST_BITS, ONE, clamped, rounded};
 use crate::kernel::Kernel;
-use crate::lookup::{NOWHERE, at, put};
-use crate::sparse::{Entry, Sparse};
+use lp_sparse::fixed::{LOST_BITS, ONE, clamped, rounded};
+use lp_sparse::lookup::{NOWHERE, at, put};
+use lp_sparse::{Entry, Sparse};
 use std::alloc::{AllocError, Global};
 
 /// A corner below this is too small: 2^-20.

@@ -4,11 +4,10 @@
 //! pivot of at least `least` stay out, so any rectangle leaves a square that can be solved with, be it an empty one.
 
 use crate::factors::Factors;
-use crate::fixed::{clamped, inverse, kernel_product};
-use crate::lookup::{NOWHERE, at, put};
 use crate::pivots::{Step, next_step};
-use crate::places::numbers_of;
-use crate::sparse::{Entry, NO_ENTRY, Sparse};
+use lp_sparse::fixed::{clamped, inverse, kernel_product};
+use lp_sparse::lookup::{NOWHERE, at, put};
+use lp_sparse::{Entry, NO_ENTRY, Sparse, numbers_of};
 use std::alloc::{AllocError, Global};
 use std::mem;
 

@@ -2,9 +2,9 @@
 //!
 //! A solve passes over each pivot whose number is 0, which is most of them where a side has few entries.
 
-use crate::fixed::{kernel_product, subtract_sum};
-use crate::lookup::{at, put};
-use crate::sparse::{Sparse, guarded_dot, subtract_multiple};
+use lp_sparse::fixed::{kernel_product, subtract_sum};
+use lp_sparse::lookup::{at, put};
+use lp_sparse::{Sparse, guarded_dot, subtract_multiple};
 use std::alloc::Global;
 
 /// Factors whose rows and columns are numbered by their pivots.

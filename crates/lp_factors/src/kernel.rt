@@ -7,10 +7,9 @@
 use crate::border::Border;
 use crate::elimination::Factored;
 use crate::factors::Factors;
-use crate::fixed::{bit_length, clamped_more, moved};
-use crate::lookup::{NOWHERE, at, put};
-use crate::places::Places;
-use crate::sparse::Entry;
+use lp_sparse::fixed::{bit_length, clamped_more, moved};
+use lp_sparse::lookup::{NOWHERE, at, put};
+use lp_sparse::{Entry, Places};
 use std::alloc::{AllocError, Global};
 
 /// The bits that the greatest number of a side is brought to before a solve.

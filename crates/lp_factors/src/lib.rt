@@ -3,8 +3,7 @@
 //! A simplex method asks one thing of linear algebra: solutions with the square of its basis, which loses and gains a row
 //! or a column at each step. [`factor`] takes a rectangle apart and leaves out what has no pivot; a [`Kernel`] keeps the
 //! factors, and a border for the changes since; `solve_columns`, `solve_rows` and `solve_entering` solve with both.
-//! [`Sparse`] is a table by lines, [`Marks`] a set of places, and [`fixed`] and [`lookup`] hold the arithmetic and the
-//! look-ups of this crate and of the one above.
+//! Tables, and the arithmetic and the look-ups of a place, are those of `lp_sparse`.
 //!
 //! Everything here is rounded, and nobody has to trust it: a caller measures what a solution leaves over and corrects it.
 //! So each call is safe and returns for every value of its arguments, and that is all that it promises. Sums and products
@@ -15,17 +14,9 @@ mod border;
 mod changes;
 mod elimination;
 mod factors;
-pub mod fixed;
 mod kernel;
-pub mod lookup;
-mod marks;
 mod pivots;
-mod places;
-mod sparse;
 
 pub use changes::{Change, Column, Outcome};
 pub use elimination::{Factored, factor};
 pub use kernel::Kernel;
-pub use marks::Marks;
-pub use places::numbers_of;
-pub use sparse::{Entry, NO_ENTRY, Sparse, dot, number_of};

@@ -7,8 +7,8 @@
 //! 1990).
 
 use crate::elimination::{Single, Table};
-use crate::lookup::{NOWHERE, at};
-use crate::sparse::NO_ENTRY;
+use lp_sparse::NO_ENTRY;
+use lp_sparse::lookup::{NOWHERE, at};
 
 /// How many columns of the least count are looked at.
 const MOST_COLUMNS: u32 = 6;

@@ -3,7 +3,7 @@
 //! A row that is not active costs nothing here, so a basis is as large as its kernel and not as the program.
 
 use lp_factors::Column;
-use lp_factors::lookup::{NOWHERE, at, put};
+use lp_sparse::lookup::{NOWHERE, at, put};
 use std::alloc::{AllocError, Global};
 
 /// Active rows and basic variables, as many of the one as of the other, but for a start that has no factors yet.

@@ -4,9 +4,10 @@
 //! anything else, so that the duals of each pass give a bound on the cost. The best is kept for a call that runs out.
 
 use crate::simplex::{DUAL_TOLERANCE, HARRIS, Simplex};
-use lp_factors::fixed::{ONE, VALUE_BITS, product};
-use lp_factors::lookup::put;
-use lp_factors::{Change, Column, Entry, NO_ENTRY};
+use lp_factors::{Change, Column};
+use lp_sparse::fixed::{ONE, VALUE_BITS, product};
+use lp_sparse::lookup::put;
+use lp_sparse::{Entry, NO_ENTRY};
 use std::alloc::{AllocError, Global};
 
 /// How far below 0 the dual of an inequality may be before its row leaves: 2^-35.

@@ -7,11 +7,12 @@
 
 use crate::price::Leaving;
 use crate::simplex::{HARRIS, PRIMAL_TOLERANCE, Simplex};
-use lp_factors::fixed::{
+use lp_factors::Column;
+use lp_sparse::Entry;
+use lp_sparse::fixed::{
     COEF_BITS, KERNEL_BITS, LOST_BITS, ONE, VALUE_BITS, product, rounded, signed,
 };
-use lp_factors::lookup::at;
-use lp_factors::{Column, Entry};
+use lp_sparse::lookup::at;
 use std::alloc::{AllocError, Global};
 
 /// The part of a row's norm that its violation may be by the tolerances of the values alone.

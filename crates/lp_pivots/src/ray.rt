@@ -7,9 +7,10 @@
 use crate::price::Leaving;
 use crate::ratio::PivotRow;
 use crate::simplex::Simplex;
-use lp_factors::fixed::{COEF_BITS, ONE, VALUE_BITS, product, rounded, signed};
-use lp_factors::lookup::put;
-use lp_factors::{Column, dot};
+use lp_factors::Column;
+use lp_sparse::dot;
+use lp_sparse::fixed::{COEF_BITS, ONE, VALUE_BITS, product, rounded, signed};
+use lp_sparse::lookup::put;
 use std::alloc::{AllocError, Global};
 
 impl Simplex {

@@ -4,9 +4,10 @@
 //! since that shows a basis that is nearly singular.
 
 use crate::simplex::Simplex;
-use lp_factors::fixed::{KERNEL_BITS, LOST_BITS, ONE, rounded};
-use lp_factors::lookup::{NOWHERE, at};
-use lp_factors::{Change, Column, Entry, Factored, Outcome, factor, numbers_of};
+use lp_factors::{Change, Column, Factored, Outcome, factor};
+use lp_sparse::fixed::{KERNEL_BITS, LOST_BITS, ONE, rounded};
+use lp_sparse::lookup::{NOWHERE, at};
+use lp_sparse::{Entry, numbers_of};
 use std::alloc::{AllocError, Global};
 
 /// How many pivots a column waits that led to rough numbers.

@@ -5,8 +5,8 @@
 //! rough.
 
 use crate::simplex::{DUAL_TOLERANCE, PRIMAL_TOLERANCE, Simplex};
-use lp_factors::Entry;
-use lp_factors::fixed::clamped_more;
+use lp_sparse::Entry;
+use lp_sparse::fixed::clamped_more;
 use std::alloc::{AllocError, Global};
 
 /// After so many corrections the residuals have to be small.

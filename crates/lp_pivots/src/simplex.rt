@@ -2,9 +2,10 @@
 
 use crate::basis::Basis;
 use crate::sums::Sums;
-use lp_factors::lookup::{at, put};
-use lp_factors::{Column, Entry, Kernel, Marks};
+use lp_factors::{Column, Kernel};
 use lp_program::Program;
+use lp_sparse::lookup::{at, put};
+use lp_sparse::{Entry, Marks};
 use std::alloc::{AllocError, Global};
 
 /// How far a value may lie outside its box: 2^-33.

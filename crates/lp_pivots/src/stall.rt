@@ -6,8 +6,8 @@
 
 use crate::simplex::{NO_BOUND, Simplex};
 use lp_factors::Column;
-use lp_factors::fixed::product;
-use lp_factors::lookup::at;
+use lp_sparse::fixed::product;
+use lp_sparse::lookup::at;
 
 /// Pivots without gain, beyond the size of the kernel, after which the costs are moved.
 const STALL: usize = 100;

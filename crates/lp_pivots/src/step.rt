@@ -5,11 +5,12 @@
 use crate::price::Leaving;
 use crate::ratio::{Entering, PivotRow};
 use crate::simplex::Simplex;
-use lp_factors::fixed::{
+use lp_factors::Column;
+use lp_sparse::fixed::{
     KERNEL_BITS, LOST_BITS, ONE, clamped_more, product, quotient, rounded, shifted_down,
 };
-use lp_factors::lookup::put;
-use lp_factors::{Column, Entry, number_of};
+use lp_sparse::lookup::put;
+use lp_sparse::{Entry, number_of};
 use std::alloc::{AllocError, Global};
 
 /// How far the pivot's two numbers may lie apart: 2^-26, and what `alpha` shifted by 8 allows.

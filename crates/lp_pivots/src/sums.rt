@@ -5,10 +5,10 @@
 //! they never drift and are never summed anew. A solve with the kernel need only be near: what it leaves over is read off
 //! these sums, and corrected.
 
-use lp_factors::Marks;
-use lp_factors::fixed::{COEF_BITS, product, rounded};
-use lp_factors::lookup::{at, put};
 use lp_program::Program;
+use lp_sparse::Marks;
+use lp_sparse::fixed::{COEF_BITS, product, rounded};
+use lp_sparse::lookup::{at, put};
 use std::alloc::{AllocError, Global};
 
 /// Values and duals, with the sums that follow them.

@@ -6,9 +6,9 @@
 use crate::lp::{Lp, LpRow};
 use crate::scaling::{Merged, RowRange, Widths, range_of};
 use box_space::Term;
-use lp_factors::fixed::{COEF_BITS, DUAL_BITS, VALUE_BITS, bit_length, clamped, rounded, shifted};
-use lp_factors::lookup::at;
-use lp_factors::{Entry, Sparse};
+use lp_sparse::fixed::{COEF_BITS, DUAL_BITS, VALUE_BITS, bit_length, clamped, rounded, shifted};
+use lp_sparse::lookup::at;
+use lp_sparse::{Entry, Sparse};
 use std::alloc::{AllocError, Global};
 
 /// The bits behind the point of the scaled numbers.

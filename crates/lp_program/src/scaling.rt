@@ -5,8 +5,8 @@
 
 use crate::lp::{Lp, LpRow};
 use box_space::Term;
-use lp_factors::fixed::bit_length;
-use lp_factors::lookup::{at, put};
+use lp_sparse::fixed::bit_length;
+use lp_sparse::lookup::{at, put};
 use std::alloc::{AllocError, Global};
 
 /// How wide the box is along each variable, and the least power of two above that.

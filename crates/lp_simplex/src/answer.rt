@@ -7,10 +7,10 @@ ghost use Rattle.lp_program.specs.Columns.{NamesColumns};
 
 use crate::advice::Advice;
 use crate::refine::refine;
-use lp_factors::fixed::{DUAL_BITS, VALUE_BITS, bit_length, shifted};
-use lp_factors::lookup::{at, put};
 use lp_pivots::{End, Simplex};
 use lp_program::{Lp, Program};
+use lp_sparse::fixed::{DUAL_BITS, VALUE_BITS, bit_length, shifted};
+use lp_sparse::lookup::{at, put};
 use std::alloc::{AllocError, Global};
 
 /// Duals and points are answered in units of 2^-32.

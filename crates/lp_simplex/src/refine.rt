@@ -6,11 +6,11 @@
 
 use crate::answer::MOST_DUAL;
 use box_space::Term;
-use lp_factors::Entry;
-use lp_factors::fixed::{bit_length, clamped, shifted, shifted_down};
-use lp_factors::lookup::{at, put};
 use lp_pivots::Simplex;
 use lp_program::{Lp, Program};
+use lp_sparse::Entry;
+use lp_sparse::fixed::{bit_length, clamped, shifted, shifted_down};
+use lp_sparse::lookup::{at, put};
 use std::alloc::{AllocError, Global};
 
 /// How often the duals are corrected at most.

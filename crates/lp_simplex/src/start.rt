@@ -6,9 +6,9 @@
 //! so the method goes on from the bound that the proof shows.
 
 use box_space::Proof;
-use lp_factors::fixed::bit_length;
-use lp_factors::lookup::{at, put};
 use lp_program::{Lp, LpRow};
+use lp_sparse::fixed::bit_length;
+use lp_sparse::lookup::{at, put};
 use std::alloc::{AllocError, Global};
 use std::collections::BTreeMap;
 

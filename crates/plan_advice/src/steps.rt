@@ -7,7 +7,7 @@
 //! the pooling problem, 1978). Changes are at most a radius, and sum to 0 in each pool.
 
 use flow_programs::{Blend, GRAIN, Layout, Limit, Outline, SmallProgram, flow_program, rounded};
-use lp_factors::lookup::at;
+use lp_sparse::lookup::at;
 use std::alloc::{AllocError, Global};
 
 /// How far a step may go, and what it keeps from the limits, in units of the grain times the spread of a pool's qualities:

@@ -12,7 +12,7 @@ use crate::steps::{Place, Reach, step};
 use crate::vertex::{Vertex, vertex_of};
 use blend_network::Network;
 use flow_programs::{Blend, Flows, GRAIN, Layout, Outline, flow_program, flows_of, rounded};
-use lp_factors::lookup::{at, put};
+use lp_sparse::lookup::{at, put};
 use plan_core::{Cost, WrittenPlan, check_plan, compare_cost};
 use std::alloc::{AllocError, Global};
 use std::cmp::Ordering;

@@ -6,8 +6,8 @@
 
 use exact_num::Frac;
 use flow_programs::SmallProgram;
-use lp_factors::lookup::{at, put};
 use lp_simplex::Advice;
+use lp_sparse::lookup::{at, put};
 use std::alloc::{AllocError, Global};
 
 /// The greatest flow base of a plan.

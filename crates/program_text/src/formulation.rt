@@ -3,7 +3,7 @@
 ghost use Rattle.std.specs.Prelude.{◌≡◌, ◌++◌, Err, OnErr};
 ghost use Rattle.edge_io.specs.Counts.{Grows, Rose};
 ghost use Rattle.edge_io.specs.Writing.{Wrote};
-ghost use Rattle.pool_model.specs.Network.{IsLimited, net_of};
+ghost use Rattle.pool_model.specs.Network.{net_of};
 ghost use Rattle.box_space.specs.Views.{IsView, shown_box};
 ghost use Rattle.program_text.specs.Outcomes.{WroteOrNothing};
 ghost use Rattle.program_text.specs.Lines.{cost_line, ends_lines};
@@ -54,7 +54,6 @@ fn write_program<K: Sink>(
     ensures wrote { Wrote result (K.taken out.old) (program_in (net_of net.now) (shown_box v.now) form) (K.taken out.new) }
     ensures failed { OnErr result (Rose (K.faults out.old) (K.faults out.new)) }
     ensures faults_grow { Grows (K.faults out.old) (K.faults out.new) }
-    ensures limited { IsLimited (net_of net.now) }
 {
     let mut text = TextBuffer::new();
     match put_program(net, v, form, row, &mut text) {
@@ -75,7 +74,6 @@ fn put_program<K: Sink>(
     ensures wrote { Wrote result (K.taken out.old) (program_in (net_of net.now) (shown_box v.now) form) (K.taken out.new) }
     ensures failed { OnErr result (Rose (K.faults out.old) (K.faults out.new)) }
     ensures faults_grow { Grows (K.faults out.old) (K.faults out.new) }
-    ensures limited { IsLimited (net_of net.now) }
 {
     write_first_lines(net, v, form, out)?;
     write_group(net, v, Group::Network, row, out)?;
@@ -191,7 +189,6 @@ fn write_group<K: Sink>(
     ensures wrote { Wrote result (K.taken out.old) (group_lines (net_of net.now) (shown_box v.now) group) (K.taken out.new) }
     ensures failed { OnErr result (Rose (K.faults out.old) (K.faults out.new)) }
     ensures faults_grow { Grows (K.faults out.old) (K.faults out.new) }
-    ensures limited { IsLimited (net_of net.now) }
 {
     let rows = exact_rows(net, group);
     write_rows(net, v, rows.first, rows.count, row, out)

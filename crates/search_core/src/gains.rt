@@ -3,8 +3,8 @@
 
 use crate::search::Search;
 use crate::square_root::square_root;
-use lp_factors::fixed::clamped;
-use lp_factors::lookup::{at, put};
+use lp_sparse::fixed::clamped;
+use lp_sparse::lookup::{at, put};
 use std::alloc::{AllocError, Global};
 
 /// How much of a gain counts: thousandths of money.

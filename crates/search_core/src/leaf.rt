@@ -18,8 +18,8 @@ use blend_network::Network;
 use box_space::{BoxEnds, Form, Proof, coord_at, coords, of_form, root_ends};
 use branching::{CoordRow, LeafView};
 use edge_io::Memory;
-use lp_factors::lookup::at;
 use lp_simplex::{Advice, advise_from, start_of_proof};
+use lp_sparse::lookup::at;
 use std::alloc::Global;
 
 /// How many splits there have to be before a leaf's program starts from a proof. Those before start from nothing: they end at other

@@ -14,8 +14,8 @@ use crate::search::Search;
 use blend_network::Network;
 use box_space::{can_cut, coords};
 use edge_io::Memory;
-use lp_factors::fixed::clamped;
-use lp_factors::lookup::{at, put};
+use lp_sparse::fixed::clamped;
+use lp_sparse::lookup::{at, put};
 use std::alloc::{AllocError, Global};
 
 /// What a look at a leaf found: by how much each coordinate is missed, and the cuts whose halves are proved already.

@@ -17,8 +17,8 @@ use crate::violation::{mixed_violations, path_violations};
 use blend_network::Network;
 use box_space::{BoxEnds, Coord, Form, can_cut, coord_at, coords, of_form};
 use edge_io::Memory;
-use lp_factors::fixed::clamped;
-use lp_factors::lookup::at;
+use lp_sparse::fixed::clamped;
+use lp_sparse::lookup::at;
 use std::alloc::Global;
 
 impl Search {

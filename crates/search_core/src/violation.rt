@@ -6,9 +6,9 @@ ghost use Rattle.pool_model.specs.Network.{net_of};
 use crate::square_root::square_root;
 use blend_network::Network;
 use box_space::{Block, coords, flow_coordinate, quality_coordinate, variable_number};
-use lp_factors::fixed::clamped;
-use lp_factors::lookup::{at, put};
 use lp_simplex::{Advice, Lp};
+use lp_sparse::fixed::clamped;
+use lp_sparse::lookup::{at, put};
 use row_book::{Group, exact_rows};
 use std::alloc::{AllocError, Global};
 
