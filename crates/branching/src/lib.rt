@@ -5,8 +5,7 @@
 //! answers the place of an open one; [`CutRule::new`] asks for that fact, so [`CutRule::pick`] rests on it and tests nothing.
 //!
 //! [`first_open`], [`widest`], [`most_violated`] and [`fewest`] are four rules, for closures to call; the last one goes by counts that
-//! its closure carries. A closure that is boxed has its clauses
-//! written:
+//! its closure carries. A [`RuleName`] names one of them. A closure that is boxed has its clauses written:
 //!
 //! ```text
 //! let closure = Box::new(alloc, |view: &LeafView| -> usize
@@ -25,10 +24,12 @@
 #![tactic(auto)]
 
 mod known;
+mod name;
 mod pick;
 mod rule;
 mod view;
 
 pub use known::{fewest, first_open, most_violated, widest};
+pub use name::RuleName;
 pub use rule::{CutRule, RuleClosure};
 pub use view::{CoordRow, LeafView};

@@ -2,21 +2,23 @@
 use Rattle.std.proofs.Common.{◌≡◌, ◌∙◌, ◌^◌, true≢false, false, refl, sym, ap, ap₂, subst, List, ℕ, ℤ, pos, ◌*ℤ◌, Option, Some, None, Ok, Err, codes, IfOk}
 use Rattle.std.specs.Prelude.{Result, IsSomeAnd}
 use Rattle.std.specs.Str.{bytes_eq}
-use Rattle.cli_words.proofs.Walks.{same_bytes}
+use Rattle.std.proofs.lemmas.Slice.Eq.{bytes_eq-Decides}
 use Rattle.quantity.proofs.Laws.{quantity-only}
-use Rattle.cli_words.specs.Items.{Text}
+use Rattle.command_items.specs.Items.{Text}
 use Rattle.cli_words.specs.Requests.{Asked, Solving, line_of, solve, check, report, formulate, make, trial}
-use Rattle.cli_words.specs.Asks.{Asks, IsForm, IsGap, IsNodes, IsNumber, IsRule, IsSolving, Says, form_name, labelled, rule_name, value_in}
+use Rattle.cli_words.specs.Asks.{Asks, IsForm, IsGap, IsNodes, IsNumber, IsRule, IsSolving, Says, form_name, rule_name}
 use Rattle.cli_words.specs.Views.{Answers, Means, shown_request}
 use Rattle.box_space.specs.declared.coordinates.Form.{Form}
 use Rattle.box_space.specs.declared.coordinates.Form.TheVariants.{P, Q, Pq}
-use Rattle.cli_words.specs.declared.request.RuleName.{RuleName}
-use Rattle.cli_words.specs.declared.request.RuleName.TheVariants.{First, Widest, Violated, Fewest}
+use Rattle.branching.specs.declared.name.RuleName.{RuleName}
+use Rattle.branching.specs.declared.name.RuleName.TheVariants.{First, Widest, Violated, Fewest}
 use Rattle.cli_words.specs.declared.request.Request.{Request}
 use Rattle.cli_words.specs.declared.request.WordsFault.{WordsFault}
 use Rattle.cli_words.specs.declared.request.WordsFault.TheVariants.{Usage, Memory}
-use Rattle.cli_words.specs.Lines.{Line, line_named}
-use Rattle.cli_words.proofs.Meanings.{line_named-command, same_parts, some_same}
+use Rattle.command_items.specs.Lines.{Line, line_named}
+use Rattle.command_items.specs.Commands.{labelled, value_in}
+use Rattle.command_items.proofs.Entering.{same_parts, some_same}
+use Rattle.cli_words.proofs.Meanings.{line_named-command}
 
 -- a part that is refused refuses the whole, where the whole needs it
 pub refused : {A B C D : Type 0} (shown : A → B) (Meant : B → Type 0) (whole : C → D) (WholeMeant : D → Type 0) (e : WordsFault) (r : Result C WordsFault)
@@ -29,7 +31,7 @@ refused shown Meant whole WholeMeant e r is part h = subst (Answers whole WholeM
 
 -- texts that a test tells apart
 apart : (a b : Text) → bytes_eq a b ≡ false → a ≡ b → ⊥
-apart a b differ e = true≢false (sym (same_bytes a) ∙ ap (bytes_eq a) e ∙ differ)
+apart a b differ e = true≢false (sym ((bytes_eq-Decides a b).1 e) ∙ differ)
 
 pub solving : (value : Text → Option Text) (asked : Asked) → Means (codes "solve") value asked → (s : Solving) × IsSolving value s
 solving value (solve s) m = (s, m.says)

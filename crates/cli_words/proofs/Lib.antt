@@ -1,9 +1,3 @@
 mod Answering
-mod ItemLemmas
-mod Levels
-mod Lists
 mod Meanings
 mod Money
-mod Readings
-mod Tables
-mod Walks

@@ -1,43 +1,14 @@
 -- Which words ask which request.
-use Rattle.std.specs.Prelude.{◌≡◌, ◌<◌, ◌≤◌, ◌^◌, ℕ, ℤ, pos, ◌*ℤ◌, ◌≤ℤ◌, true, List, [], ◌∷◌, Option, Some, None, length, codes, option_map, find, unwrap_or, IsSomeAnd}
-use Rattle.std.specs.Str.{bytes_eq}
+use Rattle.std.specs.Prelude.{◌≡◌, ◌<◌, ◌≤◌, ◌^◌, ℕ, ℤ, pos, ◌*ℤ◌, ◌≤ℤ◌, List, Option, Some, None, length, codes, IsSomeAnd}
 use Rattle.std.specs.Str.Parse.{IsNumeral, digits_value}
 use Rattle.pool_model.specs.Quantity.{StandsFor}
-use Rattle.cli_words.specs.Items.{Text, Given, ReadAs, fits}
-use Rattle.cli_words.specs.Lines.{Line}
+use Rattle.command_items.specs.Items.{Text, Given}
+use Rattle.command_items.specs.Commands.{Commands, labelled, value_in}
 use Rattle.cli_words.specs.Requests.{Asked, Solving, line_of, solve, check, report, formulate, make, trial}
 use Rattle.box_space.specs.declared.coordinates.Form.{Form}
 use Rattle.box_space.specs.declared.coordinates.Form.TheVariants.{P, Q, Pq}
-use Rattle.cli_words.specs.declared.request.RuleName.{RuleName}
-use Rattle.cli_words.specs.declared.request.RuleName.TheVariants.{First, Widest, Violated, Fewest}
-
--- the words are the command of the line and these items: as many positionals as it has, and of its options each at most once
-pub record Commands (words : List Text) (line : Line) (items : List Given) : Type 0 where
-  pub rest : List Text
-  pub first : words ≡ line.command ∷ rest
-  pub read : ReadAs rest items
-  pub fitting : fits (length line.places) line.options items ≡ true
-
--- ---- the value under each name of the line
-
--- the name of the next positional, and the names of those after an item
-abbrev pub next_place : List Text → Text
-next_place [] = []
-next_place (place ∷ places) = place
-
-abbrev pub places_after : Option Text → List Text → List Text
-places_after (Some name) places = places
-places_after None [] = []
-places_after None (place ∷ places) = places
-
--- each item's value under its name: an option's own, and a positional's that of its place
-abbrev pub labelled : List Text → List Given → List (Text × Text)
-labelled places [] = []
-labelled places (g ∷ gs) = (unwrap_or g.name (next_place places), g.value) ∷ labelled (places_after g.name places) gs
-
--- the value under a name
-abbrev pub value_in : List (Text × Text) → Text → Option Text
-value_in values name = option_map (λ v. v.1) (find (λ v. bytes_eq v.0 name) values)
+use Rattle.branching.specs.declared.name.RuleName.{RuleName}
+use Rattle.branching.specs.declared.name.RuleName.TheVariants.{First, Widest, Violated, Fewest}
 
 -- ---- what a value says
 

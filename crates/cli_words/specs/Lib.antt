@@ -1,5 +1,6 @@
+pub use Rattle.command_items.specs.Items
+pub use Rattle.command_items.specs.Lines
+pub use Rattle.command_items.specs.Commands
 pub mod Asks
-pub mod Items
-pub mod Lines
 pub mod Requests
 pub mod Views

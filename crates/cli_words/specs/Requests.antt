@@ -1,9 +1,9 @@
 -- What words can ask.
 use Rattle.std.specs.Prelude.{ℕ, ℤ, Option}
-use Rattle.cli_words.specs.Items.{Text}
-use Rattle.cli_words.specs.Lines.{Line, solve_line, check_line, report_line, formulate_line, make_line, trial_line}
+use Rattle.command_items.specs.Items.{Text}
+use Rattle.command_items.specs.Lines.{Line, solve_line, check_line, report_line, formulate_line, make_line, trial_line}
 use Rattle.box_space.specs.declared.coordinates.Form.{Form}
-use Rattle.cli_words.specs.declared.request.RuleName.{RuleName}
+use Rattle.branching.specs.declared.name.RuleName.{RuleName}
 
 -- what `solve` is asked; the gap is in picos
 pub record Solving : Type 0 where

@@ -1,8 +1,6 @@
 -- The values of the program, without where they lie in memory.
-use Rattle.std.specs.Prelude.{◌≡◌, Bool, false, List, [], ◌∷◌, Option, Some, None, Ok, Err, Result, map, option_map, string_bytes, length}
-use Rattle.std.specs.Option.{option_map_or}
-use Rattle.cli_words.specs.Items.{Text, Given, before, fits, items_of}
-use Rattle.cli_words.specs.Lines.{Line, line_named}
+use Rattle.std.specs.Prelude.{◌≡◌, Option, Ok, Err, Result, option_map, string_bytes}
+use Rattle.command_items.specs.Items.{Text}
 use Rattle.cli_words.specs.Requests.{Asked, Solving, line_of, solve, check, report, formulate, make, trial}
 use Rattle.cli_words.specs.Asks.{Says}
 use Rattle.cli_words.specs.declared.request.SolveWords.{SolveWords}
@@ -10,9 +8,6 @@ use Rattle.cli_words.specs.declared.request.Request.{Request}
 use Rattle.cli_words.specs.declared.request.Request.TheVariants.{Solve, Check, Report, Formulate, Make, Trial}
 use Rattle.cli_words.specs.declared.request.WordsFault.{WordsFault}
 use Rattle.cli_words.specs.declared.request.WordsFault.TheVariants.{Usage, Memory}
-use Rattle.cli_words.specs.declared.items.Item.{Item}
-use Rattle.cli_words.specs.declared.items.WordRead.{WordRead}
-use Rattle.cli_words.specs.declared.items.WordRead.TheVariants.{Waits, Has, Fails}
 
 -- what `solve` is asked
 abbrev pub shown_solving : SolveWords → Solving
@@ -27,33 +22,7 @@ shown_request (Formulate net form) = formulate (string_bytes net) form
 shown_request (Make n) = make n
 shown_request (Trial n) = trial n
 
--- an item
-abbrev pub shown_item : Item → Given
-shown_item i = record { name = option_map (λ s. s.now) i.name; value = i.value.now }
-
-abbrev pub shown_items : List Item → List Given
-shown_items = map shown_item
-
 -- ---- words of the inner contracts
-
--- what a word is, as an item or the name of one, and then what follows it
-abbrev pub read_then : WordRead → (Option Text → Option (List Given)) → Option (List Given)
-read_then (Waits name) next = next (Some name.now)
-read_then (Has item) next = before (shown_item item) (next None)
-read_then Fails next = None
-
--- the items fit the line
-abbrev pub fits_line : List Given → Line → Bool
-fits_line items line = fits (length line.places) line.options items
-
--- the items fit the command
-abbrev pub fits_command : Text → List Given → Bool
-fits_command command items = option_map_or (fits_line items) (line_named command) false
-
--- the words are a command and items that fit it
-abbrev pub has_form : List Text → Bool
-has_form [] = false
-has_form (command ∷ rest) = option_map_or (fits_command command) (items_of rest) false
 
 -- the command with these values asks this
 pub record Means (command : Text) (value : Text → Option Text) (asked : Asked) : Type 0 where

@@ -2,15 +2,15 @@
 
 ghost use Rattle.std.specs.Prelude.{◌≡◌, IfOk, true, map, string_bytes, option_map, codes, Some, Err, IfErr};
 ghost use Rattle.clap.specs.Words.{first_of, found_of, rows_of};
+ghost use Rattle.command_items.specs.Views.{has_form};
 ghost use Rattle.cli_words.specs.Requests.{Asked};
 ghost use Rattle.cli_words.specs.Asks.{Asks};
-ghost use Rattle.cli_words.specs.Views.{Answers, Means, has_form, shown_request};
+ghost use Rattle.cli_words.specs.Views.{Answers, Means, shown_request};
 
-use crate::items::has_form;
-use crate::program::{entered, matches_of, text_of};
 use crate::values::{read_form, read_gap, read_nodes, read_number, read_rule};
 use crate::{Request, SolveWords, WordsFault};
 use clap::ArgMatches;
+use command_items::{entered, has_form, matches_of, text_of};
 use std::alloc::Global;
 
 /// The request that the words ask. `words` leaves out the program's name.

@@ -4,8 +4,9 @@ ghost use Rattle.std.specs.Prelude.{option_map, IsSomeAnd};
 ghost use Rattle.cli_words.specs.Asks.{IsForm, IsGap, IsMoney, IsNodes, IsNumber, IsRule};
 ghost use Rattle.cli_words.specs.Views.{Answers};
 
-use crate::{RuleName, WordsFault};
+use crate::WordsFault;
 use box_space::Form;
+use branching::RuleName;
 use quantity::quantity_of;
 
 /// The form that is named; pq where none is.

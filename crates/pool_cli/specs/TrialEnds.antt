@@ -6,7 +6,7 @@ use Rattle.box_space.specs.declared.coordinates.Form.TheVariants.{Pq}
 use Rattle.cert_format.specs.Cert.{Cert}
 use Rattle.cert_format.specs.Text.{text_of}
 use Rattle.cert_checker.specs.Answers.{IsAccepted, verdict_of}
-use Rattle.cli_words.specs.declared.request.RuleName.TheVariants.{Widest}
+use Rattle.branching.specs.declared.name.RuleName.TheVariants.{Widest}
 use Rattle.network_maker.specs.Generated.{generated}
 use Rattle.search_run.specs.declared.orders.Orders.{Orders}
 use Rattle.trial_text.specs.Trial.{trial_text}

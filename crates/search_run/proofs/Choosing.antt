@@ -52,8 +52,8 @@ use Rattle.branching.specs.Rules.{Answers, IsPick}
 use Rattle.branching.specs.Known.{IsFirstOpen, IsFirstGreatest, IsMoreCut, IsNarrower}
 use Rattle.branching.specs.declared.view.CoordRow.{CoordRow}
 use Rattle.dual_rounding.proofs.FormRows.{passes_more, fails_more, All-numbers}
-use Rattle.cli_words.specs.declared.request.RuleName.{RuleName}
-use Rattle.cli_words.specs.declared.request.RuleName.TheVariants.{First, Widest, Violated, Fewest}
+use Rattle.branching.specs.declared.name.RuleName.{RuleName}
+use Rattle.branching.specs.declared.name.RuleName.TheVariants.{First, Widest, Violated, Fewest}
 use Rattle.search_core.specs.Views.{form_coords, IsRowOf, AreRowsOf, IsViewOf}
 use Rattle.search_core.specs.Cases.{IsCuttable}
 use Rattle.search_core.proofs.FormCoords.{cuts_at, row-of}

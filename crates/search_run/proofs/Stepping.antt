@@ -17,7 +17,7 @@ use Rattle.box_tree.specs.declared.entry.Entry.TheVariants.{Root, SplitOf, Impro
 use Rattle.std.specs.Prelude.{Result, Ok, Err, IfOk}
 use Rattle.branching.specs.Rows.{View, HasOpen}
 use Rattle.branching.specs.Rules.{IsPick}
-use Rattle.cli_words.specs.declared.request.RuleName.{RuleName}
+use Rattle.branching.specs.declared.name.RuleName.{RuleName}
 use Rattle.dual_rounding.specs.Price.{IsPriced}
 use Rattle.dual_rounding.proofs.Priced.{priced-raised}
 use Rattle.search_core.specs.Given.{IsGiven}

@@ -4,8 +4,8 @@ use denote.Ref.{Bor}
 use Rattle.branching.specs.Rows.{View, HasOpen}
 use Rattle.branching.specs.Known.{IsFirstOpen, IsFirstGreatest, IsLessMissed, IsMoreCut, IsNarrower}
 use Rattle.branching.specs.declared.view.CoordRow.{CoordRow}
-use Rattle.cli_words.specs.declared.request.RuleName.{RuleName}
-use Rattle.cli_words.specs.declared.request.RuleName.TheVariants.{First, Widest, Violated, Fewest}
+use Rattle.branching.specs.declared.name.RuleName.{RuleName}
+use Rattle.branching.specs.declared.name.RuleName.TheVariants.{First, Widest, Violated, Fewest}
 use Rattle.search_core.specs.declared.options.Options.{Options}
 use Rattle.search_run.specs.declared.orders.Orders.{Orders}
 

@@ -8,8 +8,8 @@ use Rattle.row_model.specs.Trees.{Split, box_of, raised, tree_bound, IsLeastLeaf
 use Rattle.row_model.specs.Entries.{Entry, root_proof, split_of, improve, Searched, IsEntryInOrder}
 use Rattle.box_space.specs.declared.coordinates.Form.{Form}
 use Rattle.box_tree.specs.Counts.{cuts_on}
-use Rattle.cli_words.specs.declared.request.RuleName.{RuleName}
-use Rattle.cli_words.specs.declared.request.RuleName.TheVariants.{First, Widest, Violated, Fewest}
+use Rattle.branching.specs.declared.name.RuleName.{RuleName}
+use Rattle.branching.specs.declared.name.RuleName.TheVariants.{First, Widest, Violated, Fewest}
 use Rattle.dual_rounding.specs.Price.{IsPriced}
 use Rattle.dual_rounding.specs.Programs.{has_row}
 use Rattle.search_core.specs.Cases.{IsBetterStart, IsCuttable, IsRepair, IsRootProof}

@@ -4,7 +4,7 @@ ghost use Rattle.std.specs.Prelude.{◌≡◌};
 ghost use Rattle.search_run.specs.Orders as given;
 
 use box_space::Form;
-use cli_words::RuleName;
+use branching::RuleName;
 use search_core::Options;
 
 /// How often the simplex method may change its basis, for one program.

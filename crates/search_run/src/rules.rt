@@ -10,8 +10,7 @@ ghost use Rattle.search_core.specs.Searches.{searched, IsSearchOf};
 ghost use Rattle.search_run.specs.Orders.{picked, IsPickedBy, Keeps};
 
 use blend_network::Network;
-use branching::{CutRule, LeafView, fewest, first_open, most_violated, widest};
-use cli_words::RuleName;
+use branching::{CutRule, LeafView, RuleName, fewest, first_open, most_violated, widest};
 use edge_io::Memory;
 use search_core::{Next, Search};
 use std::alloc::Global;

@@ -4,7 +4,7 @@ ghost use Rattle.std.specs.Prelude.{IsTrue};
 
 use blend_network::Network;
 use box_space::Form;
-use cli_words::RuleName;
+use branching::RuleName;
 use disk_model::{Disk, FailDisk};
 use node_journal::{Journal, JournalFault};
 use recorded_run::{RunFault, run_recorded};

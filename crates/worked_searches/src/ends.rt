@@ -6,7 +6,7 @@ ghost use Rattle.search_run.specs.Orders.{options_of};
 use blend_network::Network;
 use box_space::Form;
 use box_tree::Tree;
-use cli_words::RuleName;
+use branching::RuleName;
 use edge_io::Memory;
 use plan_core::Cost;
 use search_run::{Ended, Orders, Outcome, run_search};

@@ -1,7 +1,8 @@
 use Rattle.std.proofs.Common.{map, string_bytes}
+use Rattle.command_items.proofs.Entering.{met_by, some_by}
 use Rattle.cli_words.specs.Views.{shown_request}
 use Rattle.cli_words.proofs.Answering.{answers_same}
-use Rattle.cli_words.proofs.Meanings.{asks_means, means_asks, met_by, some_by}
+use Rattle.cli_words.proofs.Meanings.{asks_means, means_asks}
 use Rattle.cli_words.proofs.reading.read_formed.Goals as goal
 
 pub unwrap-requires : goal.unwrap-requires

@@ -1,5 +1,5 @@
 use Rattle.std.proofs.Common.{◌≡◌, ◌∙◌, sym, false, true≢false, map, string_bytes, rules}
-use Rattle.cli_words.specs.Views.{has_form}
+use Rattle.command_items.specs.Views.{has_form}
 use Rattle.cli_words.proofs.Answering.{only_answer}
 use Rattle.cli_words.proofs.Meanings.{asks_form}
 use Rattle.cli_words.proofs.reading.read_words.Goals as goal

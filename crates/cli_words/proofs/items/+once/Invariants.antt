@@ -1,5 +1,0 @@
-use Rattle.std.proofs.Common.{length}
-use Rattle.cli_words.proofs.items.+once.Given as goal
-
-abbrev pub decreases-once : goal.decreases-once
-decreases-once l = length l.items.now

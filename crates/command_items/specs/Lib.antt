@@ -1,0 +1,4 @@
+pub mod Commands
+pub mod Items
+pub mod Lines
+pub mod Views

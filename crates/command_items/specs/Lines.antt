@@ -1,0 +1,67 @@
+-- The commands: each with its positionals and its options, and what `clap` is told of them.
+use Rattle.std.specs.Prelude.{true, codes, List, [], ◌∷◌, ◌++◌, Option, Some, map, find, fold}
+use Rattle.std.specs.Str.{bytes_eq}
+use Rattle.clap.specs.Words.{App, Rule, new_app, new_rule, with_rule, with_subcommand}
+use Rattle.command_items.specs.Items.{Text}
+
+-- a command, the names of its positionals in order, and those of its options
+pub record Line : Type 0 where
+  pub command : Text
+  pub places : List Text
+  pub options : List Text
+
+abbrev pub solve_line : Line
+solve_line = record {
+  command = codes "solve";
+  places = codes "net" ∷ [];
+  options = codes "form" ∷ codes "nodes" ∷ codes "gap" ∷ codes "journal" ∷ codes "rule" ∷ [];
+}
+
+abbrev pub check_line : Line
+check_line = record { command = codes "check"; places = codes "net" ∷ codes "cert" ∷ []; options = [] }
+
+abbrev pub report_line : Line
+report_line = record { command = codes "report"; places = codes "net" ∷ codes "cert" ∷ []; options = [] }
+
+abbrev pub formulate_line : Line
+formulate_line = record { command = codes "formulate"; places = codes "net" ∷ []; options = codes "form" ∷ [] }
+
+abbrev pub make_line : Line
+make_line = record { command = codes "make"; places = codes "number" ∷ []; options = [] }
+
+abbrev pub trial_line : Line
+trial_line = record { command = codes "trial"; places = codes "number" ∷ []; options = [] }
+
+abbrev pub lines : List Line
+lines = solve_line ∷ check_line ∷ report_line ∷ formulate_line ∷ make_line ∷ trial_line ∷ []
+
+-- the line of the command
+abbrev pub line_named : Text → Option Line
+line_named command = find (λ l. bytes_eq command l.command) lines
+
+-- ---- the same, as `clap` is told of them
+
+abbrev pub long_rule : Text → Rule
+long_rule name = record (new_rule name) { long = Some name }
+
+-- a subcommand with its arguments
+abbrev pub line_app : Line → App
+line_app l = fold with_rule (new_app l.command) (map new_rule l.places ++ map long_rule l.options)
+
+-- the program with no command: words without its name, and no help
+abbrev pub bare_app : App
+bare_app = record {
+  top = record (new_app (codes "pool")).top {
+    no_binary_name = true;
+    disable_help_flag = true;
+    disable_help_subcommand = true;
+  };
+  subs = [];
+}
+
+abbrev pub app_with : App → List Line → App
+app_with = fold (λ a l. with_subcommand a (line_app l).top)
+
+-- the program with all its commands
+abbrev pub program_app : App
+program_app = app_with bare_app lines
