@@ -5,13 +5,12 @@ use Rattle.std.proofs.lemmas.List.{take-append-drop, take_at, drop_at}
 use Rattle.row_model.specs.Entries.{Entry}
 use Rattle.disk_model.specs.Disks.{written, Torn}
 use Rattle.disk_model.proofs.Calling.{torn_byte, torn-front}
-use Rattle.node_journal.specs.Fields.{field}
-use Rattle.node_journal.specs.Payload.{payload}
-use Rattle.node_journal.specs.Files.{header, record_bytes, records, IsRecordable, IsShut, IsKept}
-use Rattle.node_journal.specs.Records.{IsKeptAt}
-use Rattle.node_journal.specs.Journals.{IsBeforeOrAfter, behind_gate}
-use Rattle.node_journal.proofs.Numbers.{length-field}
-use Rattle.node_journal.proofs.RecordLaws.{all-push, records-push, length-record_bytes}
+use Rattle.journal_format.specs.Fields.{field}
+use Rattle.journal_format.specs.Payload.{payload}
+use Rattle.journal_format.specs.Files.{header, record_bytes, records, behind_gate, IsRecordable, IsShut, IsKept}
+use Rattle.journal_format.specs.Records.{IsKeptAt}
+use Rattle.node_journal.specs.Journals.{IsBeforeOrAfter}
+use Rattle.journal_format.proofs.RecordLaws.{all-push, records-push, length-record_bytes}
 
 -- all up to the last gate
 abbrev pub front_of : List ℕ → List Entry → List ℕ
@@ -148,8 +147,3 @@ module _ (gate : ℕ) (text : List ℕ) (list : List Entry) (file : List ℕ) (p
             ∙ ap (λ (l : List ℕ). front_of text list ++ (1 ∷ []) ++ l) back_stays
             ∙ append_assoc (front_of text list) (1 ∷ []) (bytes ++ rest_behind bytes)
             ∙ moved text list e bytes (rest_behind bytes) are
-
--- what stands behind the old gate ends with the new one
-pub length-behind_gate : (e : Entry) → length (behind_gate e) ≡ 5 + length (payload e)
-length-behind_gate e =
-    omega (arith, length-append (field 4 (length (payload e)) ++ payload e) (0 ∷ []), length-append (field 4 (length (payload e))) (payload e), length-field 4 (length (payload e)))

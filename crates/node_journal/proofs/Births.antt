@@ -1,32 +1,10 @@
 -- What a crash leaves while a journal is born.
-use Rattle.std.proofs.Common.{◌≡◌, ℕ, zero, suc, ◌+◌, ◌-◌, ◌<◌, ◌≤◌, ◌⊎◌, inl, inr, List, [], ◌∷◌, ◌++◌, length, get_or, take, drop, refl, sym, ap, subst, ◌∙◌, arith}
+use Rattle.std.proofs.Common.{◌≡◌, ℕ, zero, suc, ◌+◌, ◌-◌, ◌≤◌, inl, inr, List, [], ◌∷◌, ◌++◌, length, get_or, take, drop, refl, sym, ap, subst, ◌∙◌, arith}
 use Rattle.std.proofs.lemmas.List.{append-nil, drop_all, take_rest}
-use Rattle.row_model.specs.Entries.{Entry}
 use Rattle.disk_model.specs.Disks.{written, Torn, Shortened}
 use Rattle.disk_model.proofs.Calling.{torn_byte, torn-front, cut_front}
-use Rattle.node_journal.specs.Files.{header, newborn, IsShut, IsClosed, IsUnborn, IsZeroed, IsKept, IsOwn, IsOwnFor}
-
--- ---- what begins with 0, and what is short
-
-pub blank-own : (text file : List ℕ) → (length file ≤ 1) ⊎ (get_or file 0 0 ≡ 0) → IsOwnFor text [] file
-blank-own text file (inl short) = (inl short, inl (inl short, refl))
-blank-own text file (inr none) = (inr (inl none), inl (inr (inl none), refl))
-
-pub shut-closed : (rest : List ℕ) → IsShut rest → IsClosed rest
-shut-closed [] shut = absurd shut
-shut-closed (gate ∷ rest) shut = shut
-
-pub kept-own : (text : List ℕ) (list : List Entry) (file : List ℕ) → IsKept text list file → IsOwnFor text list file
-kept-own text list file kept = (inr (inr (inr (list, kept))), inr (kept.0, shut-closed kept.0 kept.1, kept.2))
-
--- ---- a birth byte in front of what is written before birth
-
--- the header with any birth byte, and a closed gate behind it
-pub any_birth : (text : List ℕ) (birth : ℕ) (rest : List ℕ) → IsShut rest → IsOwnFor text [] (header birth text ++ rest)
-any_birth text zero rest shut = blank-own text (header zero text ++ rest) (inr refl)
-any_birth text (suc zero) rest shut = kept-own text [] (header 1 text ++ rest) (rest, shut, record { parts = refl; each = tt })
-any_birth text (suc (suc b)) rest shut =
-    (inr (inr (inl (suc (suc b), omega arith, rest, shut, refl))), inl (inr (inr (omega arith, refl)), refl))
+use Rattle.journal_format.specs.Files.{header, newborn, records, IsShut, IsUnborn, IsZeroed, IsOwn, IsOwnFor}
+use Rattle.journal_format.proofs.OwnFiles.{blank-own, any_birth, born_not}
 
 -- ---- the first step
 
@@ -42,18 +20,6 @@ short_any text other [] le = blank-own text (other ∷ []) (inl (omega arith))
 short_any text other (b ∷ []) le = blank-own text (other ∷ []) (inl (omega arith))
 short_any text other (b ∷ d ∷ file) le = absurd (omega arith)
 
-born_first : (text : List ℕ) (list : List Entry) (file : List ℕ) → IsKept text list file → get_or file 0 0 ≡ 1
-born_first text list file kept = ap (λ (l : List ℕ). get_or l 0 0) kept.2.parts
-
-born_long : (text : List ℕ) (list : List Entry) (file : List ℕ) → IsKept text list file → 1 < length file
-born_long text list file kept = subst (λ (l : List ℕ). 1 < length l) (sym kept.2.parts) (omega arith)
-
--- no born file is unborn
-pub born-unborn : (text : List ℕ) (list : List Entry) (file : List ℕ) → IsKept text list file → IsUnborn file → ⊥
-born-unborn text list file kept (inl short) = let long = born_long text list file kept in omega arith
-born-unborn text list file kept (inr (inl none)) = let one = born_first text list file kept in omega arith
-born-unborn text list file kept (inr (inr (many, marked))) = let one = born_first text list file kept in omega arith
-
 -- a write of byte 0 of an unborn file that is not zeroed
 pub torn_first : (text file c : List ℕ) → IsUnborn file → IsOwn text file → (get_or file 0 0 ≡ 0 → length file ≤ 1) → Torn 0 1 file c → IsOwnFor text [] c
 torn_first text [] c unborn own marked torn = blank-own text c (inl (omega (arith, torn.no_longer)))
@@ -66,7 +32,7 @@ torn_first text (b ∷ file) c unborn own marked torn =
     by (inl short) = short_any text (torn_byte 0 (b ∷ file) c (omega arith) torn).0 (b ∷ file) short
     by (inr (inl none)) = short_any text (torn_byte 0 (b ∷ file) c (omega arith) torn).0 (b ∷ file) (marked none)
     by (inr (inr (inl half))) = other_birth text half.0 (torn_byte 0 (b ∷ file) c (omega arith) torn).0 half.2 (b ∷ file) half.3 half.4
-    by (inr (inr (inr kept))) = absurd (born-unborn text kept.0 (b ∷ file) kept.1 unborn)
+    by (inr (inr (inr kept))) = absurd (born_not text (records kept.0 ++ kept.1.0) (b ∷ file) kept.1.2.parts unborn)
 
 -- byte 0 as it is written
 pub written_first : (file : List ℕ) → written file 0 (0 ∷ []) ≡ 0 ∷ drop 1 file

@@ -1,12 +1,4 @@
-pub mod Numbers
-pub mod Entries
 pub mod Runs
 pub mod Births
-pub mod Heads
-pub mod Repeated
-pub mod Lengths
-pub mod RecordLaws
 pub mod Appends
 pub mod Openings
-pub mod ShortPayloads
-pub mod Decided

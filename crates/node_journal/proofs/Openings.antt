@@ -1,20 +1,21 @@
 -- What a file is when a journal has been opened on it.
-use Rattle.std.proofs.Common.{◌≡◌, ℕ, ◌-◌, ◌^◌, ◌<◌, ◌≤◌, ◌⊎◌, inl, inr, List, [], ◌∷◌, ◌++◌, length, get_or, take, drop, Option, refl, sym, ap, subst, ◌∙◌}
+use Rattle.std.proofs.Common.{◌≡◌, ℕ, ◌-◌, ◌^◌, ◌<◌, ◌≤◌, ◌⊎◌, inl, inr, List, [], ◌∷◌, ◌++◌, length, take, drop, Option, refl, sym, ap, subst, ◌∙◌}
 use Rattle.std.proofs.Common.{append_assoc, arith, length-append, length-drop}
 use Rattle.std.specs.List.{AllByRecursion}
 use Rattle.std.proofs.lemmas.List.{take-append-drop, take_at, drop_at, take_all, append_cancel_left}
 use Rattle.row_model.specs.Entries.{Entry}
 use Rattle.disk_model.specs.Disks.{written}
 use Rattle.disk_model.proofs.Calling.{written-behind}
-use Rattle.node_journal.specs.Fields.{field}
-use Rattle.node_journal.specs.Files.{header, newborn, records, IsRecordable, IsShut, IsClosed, IsUnborn, Holds, Stands, IsKept, IsOwn}
-use Rattle.node_journal.specs.Faults.{IsAllowed, IsFree, Has}
-use Rattle.node_journal.specs.Records.{IsKeptAt, IsHeaded, AreRecordsAt, IsBadBehind}
+use Rattle.journal_format.specs.Fields.{field}
+use Rattle.journal_format.specs.Files.{header, newborn, records, IsRecordable, IsShut, IsClosed, IsUnborn, Holds, IsKept}
+use Rattle.journal_format.specs.Faults.{IsAllowed, IsFree, Has}
+use Rattle.journal_format.specs.Records.{IsKeptAt, IsHeaded, AreRecordsAt, IsBadBehind}
 use Rattle.node_journal.specs.Settled.{IsOnDisk}
 use Rattle.node_journal.specs.Journals.{IsOpenedAs}
-use Rattle.node_journal.specs.declared.fault.JournalFault.{JournalFault}
-use Rattle.node_journal.proofs.Numbers.{length-field}
-use Rattle.node_journal.proofs.RecordLaws.{one_list}
+use Rattle.journal_format.specs.declared.fault.JournalFault.{JournalFault}
+use Rattle.journal_format.proofs.Numbers.{length-field}
+use Rattle.journal_format.proofs.RecordLaws.{one_list}
+use Rattle.journal_format.proofs.OwnFiles.{shut-closed}
 
 -- ---- the last gate
 
@@ -25,10 +26,6 @@ shut_cons (gate ∷ l) le closed = closed
 cons_shut : (l : List ℕ) → IsShut l → 1 ≤ length l
 cons_shut [] shut = absurd shut
 cons_shut (gate ∷ l) shut = omega arith
-
-closed_shut : (l : List ℕ) → IsShut l → IsClosed l
-closed_shut [] shut = absurd shut
-closed_shut (gate ∷ l) shut = shut
 
 -- a closed gate within the file is there
 pub shut_there : (gate : ℕ) (file : List ℕ) → gate < length file → IsClosed (drop gate file) → IsShut (drop gate file)
@@ -118,45 +115,11 @@ module _ (text : List ℕ) (start largest : ℕ) (file : List ℕ) (headed : IsH
   pub gate_there : (list m : List Entry) (gate : ℕ) → IsKept text list file → AreRecordsAt largest start file m gate → IsClosed (drop gate file) → gate < length file
   gate_there list m gate kept recs closed =
       let same = append_cancel_left (header 1 text) (records list ++ kept.0) (records m ++ drop gate file) (sym kept.2.parts ∙ parts_of m gate recs) in
-      let rest = one_list list m kept.0 (drop gate file) kept.2.each (all-recordable largest m recs.allowed) (closed_shut kept.0 kept.1) closed same in
+      let rest = one_list list m kept.0 (drop gate file) kept.2.each (all-recordable largest m recs.allowed) (shut-closed kept.0 kept.1) closed same in
       let some = cons_shut (drop gate file) (subst IsShut rest.1 kept.1) in
       omega (arith, length-drop gate file)
 
--- ---- states
-
-first_of : (text rest file : List ℕ) → file ≡ header 1 text ++ rest → get_or file 0 0 ≡ 1
-first_of text rest file is = ap (λ (l : List ℕ). get_or l 0 0) is
-
-long_of : (text rest file : List ℕ) → file ≡ header 1 text ++ rest → 1 < length file
-long_of text rest file is = subst (λ (l : List ℕ). 1 < length l) (sym is) (omega arith)
-
--- no born file is unborn
-pub born_not : (text rest file : List ℕ) → file ≡ header 1 text ++ rest → IsUnborn file → ⊥
-born_not text rest file is (inl short) = let long = long_of text rest file is in omega arith
-born_not text rest file is (inr (inl none)) = let one = first_of text rest file is in omega arith
-born_not text rest file is (inr (inr (many, marked))) = let one = first_of text rest file is in omega arith
-
--- an unborn file stands for nothing
-pub unborn_empty : (text file : List ℕ) (list : List Entry) → IsUnborn file → Stands file text list → list ≡ []
-unborn_empty text file list unborn (inl none) = none.1
-unborn_empty text file list unborn (inr born) = absurd (born_not text (records list ++ born.0) file born.2.parts unborn)
-
-half_first : (text rest file : List ℕ) (birth : ℕ) → file ≡ header birth text ++ rest → get_or file 0 0 ≡ birth
-half_first text rest file birth is = ap (λ (l : List ℕ). get_or l 0 0) is
-
--- an own file that is born has its first closed gate
-pub own_kept : (text : List ℕ) (start : ℕ) (file : List ℕ) (list : List Entry) → IsHeaded text start file → IsOwn text file → Stands file text list → IsKept text list file
-own_kept text start file list headed own (inl none) = absurd (born_not text (drop start file) file headed.parts none.0)
-own_kept text start file list headed (inl short) (inr born) = let long = long_of text (drop start file) file headed.parts in absurd (omega arith)
-own_kept text start file list headed (inr (inl none)) (inr born) = let one = first_of text (drop start file) file headed.parts in absurd (omega arith)
-own_kept text start file list headed (inr (inr (inl half))) (inr born) =
-    let one = first_of text (drop start file) file headed.parts in
-    let many = half_first text half.2 file half.0 half.4 in
-    absurd (omega (arith, half.1))
-own_kept text start file list headed (inr (inr (inr (m, kept)))) (inr born) =
-    let same = append_cancel_left (header 1 text) (records m ++ kept.0) (records list ++ born.0) (sym kept.2.parts ∙ born.2.parts) in
-    let lists = one_list m list kept.0 born.0 kept.2.each born.2.each (closed_shut kept.0 kept.1) born.1 same in
-    subst (λ (l : List Entry). IsKept text l file) lists.0 kept
+-- ---- heads
 
 -- what stands before the closed gate of a newborn file
 pub head_is : (text whole : List ℕ) → whole ≡ newborn text → take (length whole - 1) whole ≡ header 1 text

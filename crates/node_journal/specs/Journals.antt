@@ -1,12 +1,10 @@
 -- What an open journal knows, and what the file is then.
-use Rattle.std.specs.Prelude.{ℕ, ◌+◌, ◌^◌, ◌≤◌, ◌⊎◌, Bool, List, [], ◌∷◌, ◌++◌, Option, length}
+use Rattle.std.specs.Prelude.{ℕ, ◌+◌, ◌^◌, ◌≤◌, ◌⊎◌, Bool, List, [], ◌∷◌, ◌++◌, Option}
 use Rattle.std.specs.List.{AllByRecursion}
 use Rattle.row_model.specs.Entries.{Entry}
-use Rattle.node_journal.specs.Fields.{field}
-use Rattle.node_journal.specs.Payload.{payload}
-use Rattle.node_journal.specs.Files.{Stands, IsKept}
-use Rattle.node_journal.specs.Faults.{IsAllowed}
-use Rattle.node_journal.specs.Records.{IsKeptAt}
+use Rattle.journal_format.specs.Files.{Stands, IsKept}
+use Rattle.journal_format.specs.Faults.{IsAllowed}
+use Rattle.journal_format.specs.Records.{IsKeptAt}
 use Rattle.node_journal.specs.Settled.{IsOnDisk}
 
 -- where the last gate stands, how long a payload may be, and whether a call failed
@@ -28,10 +26,6 @@ IsLeft journal reads images = (text : List ℕ) × (list : List Entry) × (file 
 -- the file holds the entries of the list, or one more
 abbrev pub IsBeforeOrAfter : List ℕ → List Entry → Entry → List ℕ → Type 0
 IsBeforeOrAfter text list e c = IsKept text list c ⊎ IsKept text (list ++ e ∷ []) c
-
--- what is written behind a gate: the length of the payload, the payload, and a closed gate
-abbrev pub behind_gate : Entry → List ℕ
-behind_gate e = field 4 (length (payload e)) ++ payload e ++ 0 ∷ []
 
 -- the file stood for these entries, and holds them now, with the journal's gate behind them
 pub record IsOpenedAs (text : List ℕ) (largest : ℕ) (file : List ℕ) (list : List Entry) (gate : ℕ) (reads : Option (List ℕ)) (images : List ℕ → Type 0) : Type 0 where

@@ -1,12 +1,2 @@
-pub mod Fields
-pub mod Payload
-pub mod Reading
-pub mod Files
 pub mod Settled
 pub mod Journals
-pub mod Records
-pub mod Pages
-pub mod Gives
-pub mod Faults
-pub mod States
-pub mod Longest

@@ -3,7 +3,7 @@
 ghost use Rattle.std.specs.Prelude.{◌≡◌, ◌≤◌, [], ◌∷◌, ℕ, List, Some, length, drop, IsTrue, OnOk, OnErr};
 ghost use Rattle.edge_io.specs.Counts.{Rose};
 ghost use Rattle.disk_model.specs.Disks.{LeavesOnly};
-ghost use Rattle.node_journal.specs.Files.{newborn, IsUnborn, SaysZeroed, IsOwn, IsOwnFor};
+ghost use Rattle.journal_format.specs.Files.{newborn, IsUnborn, SaysZeroed, IsOwn, IsOwnFor};
 ghost use Rattle.node_journal.specs.Settled.{IsOnDisk, IsSettled, IsSameDisk};
 
 use crate::synced::{cut_synced, write_synced};

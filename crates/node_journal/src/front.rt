@@ -3,15 +3,14 @@
 ghost use Rattle.std.specs.Prelude.{◌≡◌, ◌≤◌, ◌⊎◌, ℕ, List, Some, Ok, length, take, IsTrue, IfOk, IfErr, OnOk, MatchResult, IsErrOf};
 ghost use Rattle.edge_io.specs.Counts.{Rose};
 ghost use Rattle.disk_model.specs.Disks.{Reaches, LeavesOnly};
-ghost use Rattle.node_journal.specs.Files.{header};
-ghost use Rattle.node_journal.specs.Faults.{Has, IsFree};
-ghost use Rattle.node_journal.specs.States.{IsIn};
+ghost use Rattle.journal_format.specs.Files.{header};
+ghost use Rattle.journal_format.specs.Faults.{Has, IsFree};
+ghost use Rattle.journal_format.specs.States.{IsIn};
 ghost use Rattle.node_journal.specs.Settled.{IsSameDisk};
 
-use crate::fault::JournalFault;
-use crate::head::{State, state_of};
 use crate::synced::read_back;
 use disk_model::Disk;
+use journal_format::{JournalFault, State, state_of};
 use std::alloc::Global;
 
 /// The state of the file, whose length is `end`; `head` is what a born file of the text begins with.

@@ -6,24 +6,20 @@ ghost use Rattle.edge_io.specs.Counts.{Rose};
 ghost use Rattle.disk_model.specs.Disks.{Reaches, LeavesOnly};
 ghost use Rattle.row_model.specs.Entries as entries;
 ghost use Rattle.box_tree.specs.Views.{shown_entry};
-ghost use Rattle.node_journal.specs.Payload.{payload, IsNarrow, EntryFits};
-ghost use Rattle.node_journal.specs.Files.{newborn, IsClosed, IsShut, IsUnborn, SaysZeroed, IsRecordable, Stands, IsKept, IsOwn, IsOwnFor};
-ghost use Rattle.node_journal.specs.Faults.{Has, IsFree, IsAllowed, IsDecided};
-ghost use Rattle.node_journal.specs.Records.{IsKeptAt, IsHeaded};
-ghost use Rattle.node_journal.specs.Journals.{IsSound, IsLeft, IsBeforeOrAfter, IsOpenedAs, behind_gate};
+ghost use Rattle.journal_format.specs.Payload.{payload, IsNarrow};
+ghost use Rattle.journal_format.specs.Files.{newborn, behind_gate, IsClosed, IsShut, IsUnborn, SaysZeroed, IsRecordable, Stands, IsKept, IsOwn, IsOwnFor};
+ghost use Rattle.journal_format.specs.Faults.{Has, IsFree, IsAllowed, IsDecided};
+ghost use Rattle.journal_format.specs.Records.{IsKeptAt, IsHeaded};
+ghost use Rattle.node_journal.specs.Journals.{IsSound, IsLeft, IsBeforeOrAfter, IsOpenedAs};
 ghost use Rattle.node_journal.specs.Settled.{IsOnDisk, IsSettled, IsSameDisk};
 
 use crate::birth::give_birth;
-use crate::fault::JournalFault;
-use crate::fields::u32_field;
 use crate::front::find_state;
-use crate::head::{State, newborn_file};
-use crate::page::Page;
 use crate::records::read_records;
 use crate::synced::{measure, write_synced};
-use crate::writing::{payload_len, put_payload};
 use box_tree::Entry;
 use disk_model::{Disk, DiskFailed};
+use journal_format::{JournalFault, Page, State, newborn_file, payload_len, put_behind_gate};
 use std::alloc::Global;
 use std::marker::Model;
 
@@ -88,7 +84,7 @@ impl Journal {
     {
         let gate = self.gate;
         let size = payload_len(entry) as u32;
-        fill(&mut self.page, size, entry);
+        put_behind_gate(&mut self.page, size, entry);
         match write_record(disk, gate, self.page.bytes()) {
             Ok(()) => {
                 self.gate = gate + FRAME as u64 + u64::from(size);
@@ -271,21 +267,6 @@ fn shut<D: Disk>(disk: &mut D, gate: u64, end: u64) -> Result<(), DiskFailed>
         return Ok(());
     }
     write_synced(disk, gate, &[0])
-}
-
-/// Puts together what is written behind the last gate: the length of the payload, the payload, and a closed gate.
-#[tactic(auto, using(crate::proofs::Lengths::sizes))]
-fn fill(page: &mut Page, size: u32, entry: &Entry)
-    requires size { size ≡ length (payload (shown_entry entry.now)) }
-    requires narrow { IsNarrow (shown_entry entry.now) }
-    requires room { size + 5 ≤ page.old.room }
-    ensures bytes { page.new ≡ record { bytes = behind_gate (shown_entry entry.now); room = page.old.room } }
-    ensures fits { EntryFits (shown_entry entry.now) }
-{
-    page.clear();
-    page.put(&u32_field(size));
-    put_payload(page, entry);
-    page.put(&[0]);
 }
 
 /// Writes a record behind the last gate, and then opens that gate; each is on the disk before what follows.

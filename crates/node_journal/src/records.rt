@@ -4,19 +4,17 @@ ghost use Rattle.std.specs.Prelude.{◌≡◌, ◌+◌, ◌-◌, ◌^◌, ◌<�
 ghost use Rattle.edge_io.specs.Counts.{Rose};
 ghost use Rattle.disk_model.specs.Disks.{Reaches, LeavesOnly};
 ghost use Rattle.box_tree.specs.Views.{shown_entry};
-ghost use Rattle.node_journal.specs.Payload.{payload, EntryFits};
-ghost use Rattle.node_journal.specs.Reading.{payload_at};
-ghost use Rattle.node_journal.specs.Files.{IsClosed};
-ghost use Rattle.node_journal.specs.Faults.{IsFree};
-ghost use Rattle.node_journal.specs.Records.{Opens, IsRecordAt, AreRecordsAt, FailsAt, IsBadBehind};
+ghost use Rattle.journal_format.specs.Payload.{payload, EntryFits};
+ghost use Rattle.journal_format.specs.Reading.{payload_at};
+ghost use Rattle.journal_format.specs.Files.{IsClosed};
+ghost use Rattle.journal_format.specs.Faults.{IsFree};
+ghost use Rattle.journal_format.specs.Records.{Opens, IsRecordAt, AreRecordsAt, FailsAt, IsBadBehind};
 ghost use Rattle.node_journal.specs.Settled.{IsSameDisk};
 
-use crate::fault::{JournalFault, Unread};
-use crate::opening::{HEAD, Opening, opening_of};
-use crate::reading::read_payload;
 use crate::synced::read_back;
 use box_tree::Entry;
 use disk_model::{Disk, DiskFailed};
+use journal_format::{HEAD, JournalFault, Opening, Unread, opening_of, read_payload};
 use std::alloc::Global;
 
 /// The entries of the records from a place on, up to the first gate that is not open, and the place of that gate. `room` has the

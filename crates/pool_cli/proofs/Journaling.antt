@@ -12,10 +12,10 @@ use Rattle.cert_format.specs.Text.{text_of}
 use Rattle.cli_words.specs.Requests.{Solving}
 use Rattle.network_text.specs.Canonical.{canonical_text}
 use Rattle.tree_certificate.specs.Certificates.{cert_of}
-use Rattle.node_journal.specs.Files.{Stands}
-use Rattle.node_journal.specs.declared.fault.JournalFault.{JournalFault}
-use Rattle.node_journal.specs.declared.fault.JournalFault.TheVariants as journal_faults
-use Rattle.node_journal.proofs.Decided.{one_standing}
+use Rattle.journal_format.specs.Files.{Stands}
+use Rattle.journal_format.specs.declared.fault.JournalFault.{JournalFault}
+use Rattle.journal_format.specs.declared.fault.JournalFault.TheVariants as journal_faults
+use Rattle.journal_format.proofs.Decided.{one_standing}
 use Rattle.search_run.specs.Runs.{IsRun}
 use Rattle.search_run.specs.Found.{IsFound}
 use Rattle.search_run.specs.declared.orders.Orders.{Orders}

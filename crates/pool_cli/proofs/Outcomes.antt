@@ -22,7 +22,7 @@ use Rattle.edge_io.specs.Writing.{behind}
 use Rattle.pool_cli.specs.Solution.{IsSolutionFrom, end_by, status_of}
 use Rattle.pool_cli.specs.Took.{IsCutShort, Part, whole, printed_by, Took, TookPart, unread_status}
 use Rattle.pool_cli.specs.Journaled.{IsUnopened}
-use Rattle.node_journal.specs.declared.fault.JournalFault.TheVariants as journal_faults
+use Rattle.journal_format.specs.declared.fault.JournalFault.TheVariants as journal_faults
 use Rattle.recorded_run.specs.declared.fault.RunFault.{RunFault}
 use Rattle.recorded_run.specs.declared.fault.RunFault.TheVariants as faults
 use Rattle.pool_cli.specs.declared.reading.Unread.{Unread}

@@ -6,11 +6,11 @@ use Rattle.cert_format.specs.Cert.{Cert}
 use Rattle.tree_certificate.specs.Certificates.{cert_of}
 use Rattle.cli_words.specs.Requests.{Solving}
 use Rattle.network_text.specs.Canonical.{canonical_text}
-use Rattle.node_journal.specs.Files.{Stands}
-use Rattle.node_journal.specs.Faults.{Has}
-use Rattle.node_journal.specs.Longest.{longest}
+use Rattle.journal_format.specs.Files.{Stands}
+use Rattle.journal_format.specs.Faults.{Has}
+use Rattle.journal_format.specs.Longest.{longest}
 use Rattle.node_journal.specs.Settled.{IsOnDisk}
-use Rattle.node_journal.specs.declared.fault.JournalFault.TheVariants as faults
+use Rattle.journal_format.specs.declared.fault.JournalFault.TheVariants as faults
 use Rattle.search_run.specs.Found.{IsGrown}
 use Rattle.search_run.specs.declared.orders.Orders.{Orders}
 use Rattle.recorded_run.specs.Recorded.{BeginsWith, HasOutOfOrder, IsBetween, IsNetworksOwn, StandsNow}

@@ -12,7 +12,7 @@ use Rattle.cert_checker.specs.Answers.{Spells}
 use Rattle.cli_words.specs.Requests.{Solving}
 use Rattle.search_run.specs.Found.{HasNoStart}
 use Rattle.search_run.specs.declared.orders.Orders.{Orders}
-use Rattle.node_journal.specs.declared.fault.JournalFault.TheVariants as journal_faults
+use Rattle.journal_format.specs.declared.fault.JournalFault.TheVariants as journal_faults
 use Rattle.recorded_run.specs.declared.fault.RunFault.{RunFault}
 use Rattle.recorded_run.specs.declared.fault.RunFault.TheVariants as faults
 use Rattle.pool_cli.specs.Solution.{IsSolutionFrom, status_of}

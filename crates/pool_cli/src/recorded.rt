@@ -7,7 +7,7 @@ ghost use Rattle.pool_model.specs.Network.{net_of};
 ghost use Rattle.cert_format.specs.Cert.{IsCert};
 ghost use Rattle.cert_format.specs.Views.{shown_cert};
 ghost use Rattle.network_text.specs.Canonical.{canonical_text};
-ghost use Rattle.node_journal.specs.declared.fault.JournalFault.TheVariants as journal_faults;
+ghost use Rattle.journal_format.specs.declared.fault.JournalFault.TheVariants as journal_faults;
 ghost use Rattle.search_core.specs.Searches.{IsAsked};
 ghost use Rattle.search_run.specs.Orders.{options_of};
 ghost use Rattle.pool_cli.specs.Recorded.{IsBegun, IsOpened};

@@ -11,7 +11,7 @@ ghost use Rattle.cert_format.specs.Text.{text_of};
 ghost use Rattle.cli_words.specs.Requests.{Solving};
 ghost use Rattle.cli_words.specs.Views.{shown_solving};
 ghost use Rattle.network_text.specs.Canonical.{canonical_text};
-ghost use Rattle.node_journal.specs.declared.fault.JournalFault.TheVariants as journal_faults;
+ghost use Rattle.journal_format.specs.declared.fault.JournalFault.TheVariants as journal_faults;
 ghost use Rattle.search_core.specs.Searches.{IsAsked};
 ghost use Rattle.search_run.specs.Orders.{options_of};
 ghost use Rattle.pool_cli.specs.Gaps.{IsGapAsked};

@@ -3,11 +3,11 @@ use Rattle.std.proofs.Common.{◌≡◌, ◌⊎◌, inl, inr, ℕ, List, [], ◌
 use Rattle.std.specs.List.{AllByRecursion}
 use Rattle.pool_model.specs.Network.{Net}
 use Rattle.row_model.specs.Entries.{Entry, Searched, start, after, made_from, AreInOrder, AreInOrderFrom, IsEntryInOrder}
-use Rattle.node_journal.specs.Faults.{IsAllowed}
-use Rattle.node_journal.specs.Files.{Stands}
-use Rattle.node_journal.specs.Longest.{longest}
-use Rattle.node_journal.proofs.Decided.{one_fault, one_standing, stands_sound}
-use Rattle.node_journal.proofs.ShortPayloads.{allowed_in_order}
+use Rattle.journal_format.specs.Faults.{IsAllowed}
+use Rattle.journal_format.specs.Files.{Stands}
+use Rattle.journal_format.specs.Longest.{longest}
+use Rattle.journal_format.proofs.Decided.{one_fault, one_standing, stands_sound}
+use Rattle.journal_format.proofs.ShortPayloads.{allowed_in_order}
 use Rattle.recorded_run.specs.Recorded.{IsFirstOutOfOrder, IsReplayFault, IsCause, IsFreeFault, IsLeftAlone}
 use Rattle.recorded_run.specs.declared.fault.RunFault.{RunFault}
 use Rattle.recorded_run.specs.declared.fault.RunFault.TheVariants.{Journal, OutOfOrder}

@@ -8,15 +8,14 @@ use Rattle.pool_model.specs.Network.{Net}
 use Rattle.row_model.specs.Entries.{Entry, Searched, start, after, made_from, made_by, AreInOrder, AreInOrderFrom, IsEntryInOrder}
 use Rattle.box_tree.specs.declared.entry.EntryFault.{EntryFault}
 use Rattle.box_tree.specs.declared.entry.EntryFault.TheVariants as entry_faults
-use Rattle.node_journal.specs.Files.{IsKept, IsOwnFor}
+use Rattle.journal_format.specs.Files.{IsKept, IsOwnFor}
 use Rattle.node_journal.specs.Journals.{IsBeforeOrAfter}
-use Rattle.node_journal.specs.Records.{IsKeptAt}
+use Rattle.journal_format.specs.Records.{IsKeptAt}
 use Rattle.edge_io.proofs.Counting.{grows-same, grows-then}
 use Rattle.node_journal.specs.Settled.{IsOnDisk, IsSameDisk}
-use Rattle.node_journal.specs.declared.fault.JournalFault.{JournalFault}
-use Rattle.node_journal.specs.declared.fault.JournalFault.TheVariants as journal_faults
-use Rattle.node_journal.proofs.Births.{kept-own}
-use Rattle.node_journal.proofs.Decided.{kept_of}
+use Rattle.journal_format.specs.declared.fault.JournalFault.{JournalFault}
+use Rattle.journal_format.specs.declared.fault.JournalFault.TheVariants as journal_faults
+use Rattle.journal_format.proofs.OwnFiles.{kept-own, kept_of}
 use Rattle.node_journal.proofs.Runs.{quiet-start}
 use Rattle.recorded_run.specs.declared.fault.RunFault.TheVariants as faults
 use Rattle.recorded_run.specs.Recorded.{BeginsWith, IsNetworksOwn, IsBetween, IsRecorded, StandsNow, Ends, IsFirstOutOfOrder, IsReplayFault, refused_as}

@@ -5,12 +5,12 @@ use Rattle.pool_model.specs.Network.{Net}
 use Rattle.row_model.specs.Entries.{Entry, Searched, made_by, AreInOrder, IsEntryInOrder}
 use Rattle.box_tree.specs.declared.entry.EntryFault.{EntryFault}
 use Rattle.box_tree.specs.declared.entry.EntryFault.TheVariants as entry_faults
-use Rattle.node_journal.specs.Files.{Stands, IsOwn}
-use Rattle.node_journal.specs.Faults.{Has, IsAllowed, IsFree}
-use Rattle.node_journal.specs.Longest.{longest}
-use Rattle.node_journal.specs.Records.{IsKeptAt}
+use Rattle.journal_format.specs.Files.{Stands, IsOwn}
+use Rattle.journal_format.specs.Faults.{Has, IsAllowed, IsFree}
+use Rattle.journal_format.specs.Longest.{longest}
+use Rattle.journal_format.specs.Records.{IsKeptAt}
 use Rattle.node_journal.specs.Settled.{IsOnDisk}
-use Rattle.node_journal.specs.declared.fault.JournalFault.TheVariants.{Memory}
+use Rattle.journal_format.specs.declared.fault.JournalFault.TheVariants.{Memory}
 use Rattle.recorded_run.specs.declared.fault.RunFault.{RunFault}
 use Rattle.recorded_run.specs.declared.fault.RunFault.TheVariants.{Journal, OutOfOrder}
 

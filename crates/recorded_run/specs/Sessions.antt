@@ -3,15 +3,15 @@ use Rattle.std.specs.Prelude.{◌≡◌, ℕ, List, false, Option, Some, Result,
 use Rattle.disk_model.specs.Disks.{LeavesOnly}
 use Rattle.pool_model.specs.Network.{Net}
 use Rattle.row_model.specs.Entries.{Entry, Searched, made_by, AreInOrder}
-use Rattle.node_journal.specs.Files.{Stands}
-use Rattle.node_journal.specs.Longest.{longest}
+use Rattle.journal_format.specs.Files.{Stands}
+use Rattle.journal_format.specs.Longest.{longest}
 use Rattle.search_core.specs.Searches.{IsSearchOf, searched}
 use Rattle.search_run.specs.Found.{IsFound}
 use Rattle.search_run.specs.Orders.{options_of}
 use Rattle.search_run.specs.Runs.{IsRun}
 use Rattle.search_run.specs.declared.ended.Ended.{Ended}
 use Rattle.search_run.specs.declared.orders.Orders.{Orders}
-use Rattle.node_journal.specs.declared.fault.JournalFault.TheVariants.{Memory}
+use Rattle.journal_format.specs.declared.fault.JournalFault.TheVariants.{Memory}
 use Rattle.recorded_run.specs.Recorded.{BeginsWith, IsBetween, IsRecorded, StandsNow}
 use Rattle.recorded_run.specs.declared.fault.RunFault.{RunFault}
 use Rattle.recorded_run.specs.declared.fault.RunFault.TheVariants.{Journal}

@@ -1,7 +1,7 @@
 //! Why a recorded run gives no answer.
 
 ghost use Rattle.std.specs.Prelude.{◌≡◌};
-ghost use Rattle.node_journal.specs.declared.fault.JournalFault.TheVariants as journal_faults;
+ghost use Rattle.journal_format.specs.declared.fault.JournalFault.TheVariants as journal_faults;
 ghost use Rattle.recorded_run.specs.declared.fault.RunFault.TheVariants as faults;
 
 use disk_model::DiskFailed;

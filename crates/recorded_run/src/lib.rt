@@ -5,7 +5,7 @@
 //! a list that begins with the entries that were found; and what is answered is the tree of all that the file stands for then.
 //!
 //! `specs/Sessions.antt` says what stands on the disk between two steps, and which files a crash leaves. What the steps are, is said in
-//! `search_run`, and what a journal is, in `node_journal`. The layer above attaches the file, and prints what was found.
+//! `search_run`, and what a journal is, in `node_journal` and `journal_format`. The layer above attaches the file, and prints what was found.
 //!
 //! Proofs above may cite `proofs/Causes.antt`: a file has one cause to be refused at most, and none where its entries are in order.
 #![tactic(auto)]

@@ -5,7 +5,7 @@ ghost use Rattle.pool_model.specs.Network.{net_of};
 ghost use Rattle.row_model.specs.Entries.{made_by, AreInOrder};
 ghost use Rattle.box_tree.specs.Kept.{IsOf, searched_of};
 ghost use Rattle.box_tree.specs.Views.{shown_entry};
-ghost use Rattle.node_journal.specs.declared.fault.JournalFault.TheVariants as journal_faults;
+ghost use Rattle.journal_format.specs.declared.fault.JournalFault.TheVariants as journal_faults;
 ghost use Rattle.recorded_run.specs.Recorded.{IsReplayFault, refused_as};
 
 use crate::fault::RunFault;

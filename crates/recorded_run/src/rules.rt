@@ -8,7 +8,7 @@ ghost use Rattle.row_model.specs.Entries as entries;
 ghost use Rattle.box_tree.specs.Kept.{IsOf, searched_of};
 ghost use Rattle.node_journal.specs.Journals.{IsLeft};
 ghost use Rattle.node_journal.specs.Settled.{IsOnDisk, IsSameDisk};
-ghost use Rattle.node_journal.specs.declared.fault.JournalFault.TheVariants as journal_faults;
+ghost use Rattle.journal_format.specs.declared.fault.JournalFault.TheVariants as journal_faults;
 ghost use Rattle.search_core.specs.Searches.{searched, IsAsked};
 ghost use Rattle.search_run.specs.Orders.{options_of};
 ghost use Rattle.search_run.specs.Runs.{IsRun};

@@ -2,7 +2,7 @@
 
 ghost use Rattle.std.specs.Prelude.{◌≤◌, ◌^◌, length, IsTrue, IfOk};
 ghost use Rattle.box_tree.specs.Views.{shown_entry};
-ghost use Rattle.node_journal.specs.Payload.{IsNarrow};
+ghost use Rattle.journal_format.specs.Payload.{IsNarrow};
 
 use box_tree::Entry;
 use disk_model::{Disk, FailDisk};

@@ -3,7 +3,7 @@ use Rattle.std.specs.Prelude.{IsTrue}
 use Rattle.std.proofs.lemmas.Result.{on_ok_weaker}
 use Rattle.disk_model.specs.Disks.{Shortened}
 use Rattle.disk_model.proofs.Moments.{goes_further, leaves-weaker}
-use Rattle.node_journal.specs.Files.{IsOwnFor}
+use Rattle.journal_format.specs.Files.{IsOwnFor}
 use Rattle.node_journal.proofs.Births.{shortened_blank}
 use Rattle.node_journal.proofs.Runs.{reaches-known}
 use Rattle.node_journal.proofs.birth.clear.Goals as goal

@@ -3,7 +3,7 @@ use Rattle.std.specs.Prelude.{IsTrue}
 use Rattle.std.proofs.lemmas.Result.{on_ok_weaker}
 use Rattle.disk_model.specs.Disks.{written, Torn}
 use Rattle.disk_model.proofs.Moments.{goes_further, leaves-weaker}
-use Rattle.node_journal.specs.Files.{IsOwnFor}
+use Rattle.journal_format.specs.Files.{IsOwnFor}
 use Rattle.node_journal.specs.Settled.{IsOnDisk}
 use Rattle.node_journal.proofs.Births.{torn_tail, torn_birth, written_tail, written_birth}
 use Rattle.node_journal.proofs.Runs.{reaches-known}

@@ -1,7 +1,7 @@
 use Rattle.std.proofs.Common.{[], List, ℕ, subst}
 use Rattle.std.proofs.lemmas.Result.{on_ok_weaker}
 use Rattle.disk_model.proofs.Moments.{goes_further}
-use Rattle.node_journal.specs.Files.{IsOwnFor}
+use Rattle.journal_format.specs.Files.{IsOwnFor}
 use Rattle.node_journal.specs.Settled.{IsOnDisk}
 use Rattle.node_journal.proofs.Births.{newborn_tail}
 use Rattle.node_journal.proofs.birth.give_birth.Goals as goal

@@ -1,7 +1,7 @@
 use Rattle.std.proofs.Common.{[], List, ℕ, subst}
 use Rattle.disk_model.specs.Disks.{Torn}
 use Rattle.disk_model.proofs.Moments.{leaves-weaker}
-use Rattle.node_journal.specs.Files.{IsOwnFor, SaysZeroed}
+use Rattle.journal_format.specs.Files.{IsOwnFor, SaysZeroed}
 use Rattle.node_journal.specs.Settled.{IsOnDisk}
 use Rattle.node_journal.proofs.Births.{torn_first, zeroed_first}
 use Rattle.node_journal.proofs.birth.unmark.Goals as goal

@@ -4,10 +4,11 @@ use Rattle.std.proofs.lemmas.Result.{err_from_is_err_and, MatchResult-weaker}
 use Rattle.disk_model.proofs.Calling.{at-file}
 use Rattle.disk_model.proofs.Moments.{goes_further, leaves-weaker}
 use Rattle.row_model.specs.Entries.{Entry}
-use Rattle.node_journal.specs.Files.{IsOwnFor}
-use Rattle.node_journal.specs.States.{IsIn}
+use Rattle.journal_format.specs.Files.{IsOwnFor}
+use Rattle.journal_format.specs.States.{IsIn}
 use Rattle.node_journal.proofs.Runs.{reaches-known, quiet-then, still}
-use Rattle.node_journal.proofs.Openings.{head_is, headed_is, any_largest, own_kept, unborn_empty}
+use Rattle.journal_format.proofs.OwnFiles.{own_kept, unborn_empty}
+use Rattle.node_journal.proofs.Openings.{head_is, headed_is, any_largest}
 use Rattle.node_journal.proofs.journal.open_measured.Goals as goal
 
 pub find_state-requires : goal.find_state-requires

@@ -3,8 +3,8 @@ use Rattle.std.specs.Prelude.{IsTrue, IfSome}
 use Rattle.std.proofs.lemmas.Result.{err_from_is_err_and}
 use Rattle.disk_model.proofs.Calling.{at-file}
 use Rattle.box_tree.specs.Views.{shown_entry}
-use Rattle.node_journal.specs.Faults.{IsFree}
-use Rattle.node_journal.specs.Records.{AreRecordsAt, IsBadBehind}
+use Rattle.journal_format.specs.Faults.{IsFree}
+use Rattle.journal_format.specs.Records.{AreRecordsAt, IsBadBehind}
 use Rattle.node_journal.specs.Journals.{Ready, IsOpenedAs}
 use Rattle.node_journal.proofs.Runs.{reaches-known, quiet-then, still}
 use Rattle.node_journal.proofs.Openings.{recovered, refused_of, gate_there}

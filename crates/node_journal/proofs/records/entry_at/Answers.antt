@@ -1,7 +1,7 @@
 use Rattle.std.proofs.Common.{◌≡◌, ℕ, List, length, take, drop, subst}
 use Rattle.disk_model.proofs.Calling.{at-file}
 use Rattle.box_tree.specs.Views.{shown_entry}
-use Rattle.node_journal.specs.Payload.{payload, EntryFits}
+use Rattle.journal_format.specs.Payload.{payload, EntryFits}
 use Rattle.node_journal.proofs.records.entry_at.Goals as goal
 
 pub returns-in-Ok-clause-read : goal.returns-in-Ok-clause-read

@@ -1,6 +1,6 @@
 use Rattle.std.proofs.Common.{refl, inr, length, drop, subst}
-use Rattle.node_journal.specs.Records.{Opens}
-use Rattle.node_journal.proofs.RecordLaws.{bad_cut}
+use Rattle.journal_format.specs.Records.{Opens}
+use Rattle.journal_format.proofs.RecordLaws.{bad_cut}
 use Rattle.node_journal.proofs.records.next_record.Goals as goal
 
 pub returns-in-CutShort-clause-read : goal.returns-in-CutShort-clause-read

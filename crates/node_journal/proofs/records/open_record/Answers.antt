@@ -1,10 +1,10 @@
 use Rattle.std.proofs.Common.{◌≡◌, ◌⊎◌, ℕ, ◌+◌, ◌<◌, length, take, drop, None, inl, inr, refl, sym, subst, arith, length-take}
 use Rattle.std.proofs.lemmas.Option.{MatchOption-at_some, MatchOption-at_none}
 use Rattle.box_tree.specs.Views.{shown_entry}
-use Rattle.node_journal.specs.Payload.{payload, EntryFits}
-use Rattle.node_journal.specs.Reading.{payload_at}
-use Rattle.node_journal.specs.Records.{IsRecordAt}
-use Rattle.node_journal.proofs.RecordLaws.{opened_long, opened_none, opened_some}
+use Rattle.journal_format.specs.Payload.{payload, EntryFits}
+use Rattle.journal_format.specs.Reading.{payload_at}
+use Rattle.journal_format.specs.Records.{IsRecordAt}
+use Rattle.journal_format.proofs.RecordLaws.{opened_long, opened_none, opened_some}
 use Rattle.node_journal.proofs.records.open_record.Goals as goal
 use Rattle.node_journal.proofs.records.open_record.Goals.{then-size-room-via-then-size-room, then-size-room-via-else-size-room+then-after-end}
 

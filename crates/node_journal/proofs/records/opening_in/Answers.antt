@@ -1,6 +1,6 @@
 use Rattle.std.proofs.Common.{◌≡◌, ℕ, List, length, take, drop, ◌∙◌}
 use Rattle.disk_model.proofs.Calling.{at-file}
-use Rattle.node_journal.proofs.RecordLaws.{first_bytes}
+use Rattle.journal_format.proofs.RecordLaws.{first_bytes}
 use Rattle.node_journal.proofs.records.opening_in.Goals as goal
 
 pub returns-clause-opens : goal.returns-clause-opens

@@ -1,7 +1,7 @@
 use Rattle.std.proofs.Common.{◌≡◌, ℕ, ◌-◌, ◌≤◌, List, length, map, Some}
 use Rattle.disk_model.specs.Disks.{LeavesOnly}
 use Rattle.box_tree.specs.Views.{shown_entry}
-use Rattle.node_journal.specs.Records.{AreRecordsAt}
+use Rattle.journal_format.specs.Records.{AreRecordsAt}
 use Rattle.node_journal.specs.Settled.{IsSameDisk}
 use Rattle.node_journal.proofs.records.read_records.Given as goal
 

@@ -10,7 +10,7 @@ use Rattle.box_tree.specs.Kept.{searched_of}
 use Rattle.cert_format.specs.Valid.{IsValid}
 use Rattle.cert_format.specs.Views.{shown_cert}
 use Rattle.node_journal.proofs.Runs.{quiet-start, quiet-call}
-use Rattle.node_journal.specs.declared.fault.JournalFault.TheVariants as journal_faults
+use Rattle.journal_format.specs.declared.fault.JournalFault.TheVariants as journal_faults
 use Rattle.recorded_run.specs.declared.fault.RunFault.TheVariants as faults
 use Rattle.pool_cli.specs.Recorded.{IsOpened, shows}
 use Rattle.pool_cli.proofs.Journaling.{one_of-reaches, one_of-file, attached-unsolved, attached-solved}

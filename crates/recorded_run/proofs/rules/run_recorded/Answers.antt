@@ -8,10 +8,10 @@ use Rattle.pool_model.specs.Network.{net_of}
 use Rattle.row_model.specs.Entries.{Entry, Searched, made_by, AreInOrder, IsSearched}
 use Rattle.box_tree.specs.Kept.{Held, searched_of}
 use Rattle.box_tree.specs.Views.{shown_entry}
-use Rattle.node_journal.specs.Faults.{IsAllowed, IsFree, Has}
-use Rattle.node_journal.specs.Records.{IsKeptAt}
-use Rattle.node_journal.proofs.Decided.{one_standing}
-use Rattle.node_journal.proofs.ShortPayloads.{allowed_in_order}
+use Rattle.journal_format.specs.Faults.{IsAllowed, IsFree, Has}
+use Rattle.journal_format.specs.Records.{IsKeptAt}
+use Rattle.journal_format.proofs.Decided.{one_standing}
+use Rattle.journal_format.proofs.ShortPayloads.{allowed_in_order}
 use Rattle.search_core.specs.Searches.{searched}
 use Rattle.search_run.specs.Runs.{IsRun}
 use Rattle.search_run.proofs.Ending.{found-by}

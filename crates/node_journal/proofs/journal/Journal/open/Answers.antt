@@ -5,11 +5,11 @@ use Rattle.std.proofs.lemmas.Result.{MatchResult-weaker}
 use Rattle.disk_model.proofs.Calling.{reaches-file}
 use Rattle.disk_model.proofs.Moments.{goes_further, leaves-weaker, now-has}
 use Rattle.box_tree.specs.Views.{shown_entry}
-use Rattle.node_journal.specs.Files.{IsOwnFor}
-use Rattle.node_journal.specs.Faults.{IsAllowed, IsFree, Has}
+use Rattle.journal_format.specs.Files.{IsOwnFor}
+use Rattle.journal_format.specs.Faults.{IsAllowed, IsFree, Has}
 use Rattle.node_journal.specs.Journals.{Ready}
 use Rattle.node_journal.proofs.Runs.{quiet-start, quiet-then}
-use Rattle.node_journal.proofs.Decided.{decided_of, taken_of}
+use Rattle.journal_format.proofs.Decided.{decided_of, taken_of}
 use Rattle.node_journal.proofs.Openings.{newborn_short}
 use Rattle.node_journal.proofs.journal.Journal.«open».Goals as goal
 

@@ -1,7 +1,7 @@
 use Rattle.std.proofs.Common.{arith}
 use Rattle.pool_model.specs.Network.{net_of}
 use Rattle.box_tree.specs.Views.{shown_entry}
-use Rattle.node_journal.proofs.ShortPayloads.{short_payload, narrow_entry}
+use Rattle.journal_format.proofs.ShortPayloads.{short_payload, narrow_entry}
 use Rattle.search_core.specs.Searches.{searched}
 use Rattle.recorded_run.proofs.session.Session.record.Goals as goal
 

@@ -1,0 +1,9 @@
+pub mod Numbers
+pub mod Entries
+pub mod Heads
+pub mod Repeated
+pub mod Lengths
+pub mod RecordLaws
+pub mod OwnFiles
+pub mod ShortPayloads
+pub mod Decided

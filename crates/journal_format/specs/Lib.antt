@@ -1,0 +1,10 @@
+pub mod Fields
+pub mod Payload
+pub mod Reading
+pub mod Files
+pub mod Pages
+pub mod Gives
+pub mod Faults
+pub mod Records
+pub mod States
+pub mod Longest

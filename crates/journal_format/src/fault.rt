@@ -1,0 +1,74 @@
+//! Why a journal is not opened.
+
+ghost use Rattle.std.specs.Prelude.{◌≡◌};
+ghost use Rattle.journal_format.specs.declared.fault.JournalFault.TheVariants as faults;
+ghost use Rattle.journal_format.specs.declared.fault.Unread.TheVariants as unread;
+
+use disk_model::DiskFailed;
+use std::alloc::{AllocError, AllocFailed};
+
+/// Why a journal is not opened: the first cause in this order. The file may have been put on the disk, or be partly born.
+#[derive(Clone, Copy, Debug, PartialEq, Eq)]
+pub enum JournalFault {
+    /// The disk failed. It may come in place of any other answer.
+    Disk,
+    /// The file has more than one byte, byte 0 is not 0, and the bytes 1 to 7 are not the magic.
+    NotAJournal,
+    /// The file is born with this version, which is not 1; where the byte is missing the version is 0.
+    UnknownVersion(u8),
+    /// The file is born with another text.
+    OtherNetwork,
+    /// The record of this number, from 0, has an open gate and holds no entry's bytes.
+    BadRecord(u64),
+    /// There was no memory. It may come in place of any other answer.
+    Memory,
+}
+
+impl From<DiskFailed> for JournalFault {
+    ghost from_gives = { λ _ e. e ≡ faults.Disk };
+
+    fn from(_e: DiskFailed) -> JournalFault {
+        JournalFault::Disk
+    }
+}
+
+impl From<AllocError> for JournalFault {
+    ghost from_gives = { λ _ e. e ≡ faults.Memory };
+
+    fn from(_e: AllocError) -> JournalFault {
+        JournalFault::Memory
+    }
+}
+
+impl<T: Drop> From<AllocFailed<T>> for JournalFault {
+    ghost from_gives = { λ _ e. e ≡ faults.Memory };
+
+    fn from(_e: AllocFailed<T>) -> JournalFault {
+        JournalFault::Memory
+    }
+}
+
+/// Why bytes are not read as an entry.
+#[derive(Clone, Copy, Debug, PartialEq, Eq)]
+pub enum Unread {
+    /// They are no entry's.
+    Malformed,
+    /// There was no memory. It may come in place of any other answer.
+    Memory,
+}
+
+impl From<AllocError> for Unread {
+    ghost from_gives = { λ _ e. e ≡ unread.Memory };
+
+    fn from(_e: AllocError) -> Unread {
+        Unread::Memory
+    }
+}
+
+impl<T: Drop> From<AllocFailed<T>> for Unread {
+    ghost from_gives = { λ _ e. e ≡ unread.Memory };
+
+    fn from(_e: AllocFailed<T>) -> Unread {
+        Unread::Memory
+    }
+}

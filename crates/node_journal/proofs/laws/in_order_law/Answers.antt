@@ -1,5 +1,0 @@
-use Rattle.node_journal.proofs.ShortPayloads.{allowed_in_order}
-use Rattle.node_journal.proofs.laws.in_order_law.Goals as goal
-
-pub returns : goal.returns
-returns c = allowed_in_order
