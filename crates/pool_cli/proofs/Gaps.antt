@@ -5,7 +5,7 @@ use Rattle.integers.proofs.Ring.{linear}
 use Rattle.cli_words.specs.Items.{Text}
 use Rattle.cli_words.specs.Asks.{Asks, IsGap}
 use Rattle.cli_words.specs.Requests.{Solving, solve}
-use Rattle.pool_cli.specs.Gaps.{IsGapAsked}
+use Rattle.solve_command.specs.Gaps.{IsGapAsked}
 
 low : (z q : ℤ) → z ≡ q *ℤ pos (10 ^ 6) → pos 0 ≤ℤ q → pos 0 ≤ℤ z
 low z q e h = omega (arith, linear)

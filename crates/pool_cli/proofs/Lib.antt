@@ -1,10 +1,5 @@
 mod Commands
+mod Decided
 mod Gaps
-mod Journaling
-mod Networks
-mod Outcomes
-mod Resuming
-mod Solutions
 mod Trials
-mod Reported
-mod Streamed
+mod Words

@@ -16,10 +16,10 @@ use Rattle.drawn_numbers.specs.Draws.{state_after}
 use Rattle.network_maker.specs.Generated.{generated, drawn_product}
 use Rattle.search_run.specs.Found.{CoversStarts}
 use Rattle.search_run.specs.declared.orders.Orders.{Orders}
-use Rattle.pool_cli.specs.Messages.{code_of}
-use Rattle.pool_cli.specs.Solution.{IsSolution}
+use Rattle.run_status.specs.Messages.{code_of}
+use Rattle.solve_command.specs.Solution.{IsSolution}
 use Rattle.pool_cli.specs.TrialEnds.{IsToldOf}
-use Rattle.pool_cli.specs.declared.status.Status.{Status}
+use Rattle.run_status.specs.declared.status.Status.{Status}
 
 -- no product of a made network must take anything
 pub made-no_minima : (number : ℕ) → HasNoMinima (net_of (generated number))

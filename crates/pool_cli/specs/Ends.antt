@@ -1,15 +1,19 @@
 -- How a run ends, by what its words ask.
-use Rattle.std.specs.Prelude.{◌≡◌, ℕ, List, Option, None}
-use Rattle.cli_words.specs.Requests.{Asked, solve, check, report, formulate, make, trial}
-use Rattle.pool_cli.specs.Reads.{Files}
-use Rattle.pool_cli.specs.SolveEnds.{SolveDecided, SolveEnds, SolvesAs}
-use Rattle.pool_cli.specs.CheckEnds.{CheckDecided, CheckEnds, ChecksAs}
-use Rattle.pool_cli.specs.ReportEnds.{ReportDecided, ReportEnds, ReportsAs}
+use Rattle.std.specs.Prelude.{◌≡◌, ℕ, List, Option, None, Some}
+use Rattle.pool_model.specs.Network.{Network}
+use Rattle.cli_words.specs.Requests.{Asked, Solving, solve, check, report, formulate, make, trial}
+use Rattle.cli_words.specs.declared.request.WordsFault.{WordsFault}
+use Rattle.cli_words.specs.declared.request.WordsFault.TheVariants as faults
+use Rattle.run_status.specs.Reads.{Files, ReadsUnder}
+use Rattle.solve_command.specs.Gaps.{IsGapAsked}
+use Rattle.solve_command.specs.SolveEnds.{SolveDecided, SolveEnds, SolvesAs}
+use Rattle.certificate_commands.specs.CheckEnds.{CheckDecided, CheckEnds, ChecksAs}
+use Rattle.certificate_commands.specs.ReportEnds.{ReportDecided, ReportEnds, ReportsAs}
 use Rattle.pool_cli.specs.FormulateEnds.{FormulateDecided, FormulateEnds, FormulatesAs}
 use Rattle.pool_cli.specs.MakeEnds.{MakeDecided, MakeEnds, MakesAs}
 use Rattle.pool_cli.specs.TrialEnds.{TrialDecided, TrialEnds, TriesAs}
-use Rattle.pool_cli.specs.declared.status.Status.{Status}
-use Rattle.pool_cli.specs.declared.status.Status.TheVariants as statuses
+use Rattle.run_status.specs.declared.status.Status.{Status}
+use Rattle.run_status.specs.declared.status.Status.TheVariants as statuses
 
 -- the texts that answer what is asked, by the status
 abbrev pub AnswersAs : Option Files → Asked → Status → List ℕ → Type 0
@@ -48,3 +52,24 @@ IsUnanswered status = ⊥
 abbrev pub HasNoJournal : Asked → Type 0
 HasNoJournal (solve s) = s.journal ≡ None
 HasNoJournal asked = Unit {0}
+
+-- ---- words of the inner contracts
+
+-- the status of words that no request was read from
+abbrev pub words_status : WordsFault → Status
+words_status faults.Usage = statuses.Usage
+words_status faults.Memory = statuses.OutOfMemory
+
+-- What is asked can be done: the gap is one that a search takes, and `Shelf` and `Disk` hold of the names that shelf and disk are asked
+-- for. The certificate is asked for only where a network is read.
+abbrev pub IsAdmitted : (Shelf Disk : List ℕ → Type 0) → Option Files → Asked → Type 0
+IsAdmitted Shelf Disk files (solve s) = IsGapAsked s.gap × Shelf s.net × ((file : List ℕ) → s.journal ≡ Some file → Disk file)
+IsAdmitted Shelf Disk files (check net cert) = Shelf net × ((network : Network) → ReadsUnder files net network → Shelf cert)
+IsAdmitted Shelf Disk files (report net cert) = Shelf net × ((network : Network) → ReadsUnder files net network → Shelf cert)
+IsAdmitted Shelf Disk files (formulate net form) = Shelf net
+IsAdmitted Shelf Disk files asked = Unit {0}
+
+-- of a request that names a journal this holds
+abbrev pub JournalsAs : (Solving → Type 0) → Asked → Type 0
+JournalsAs Holds (solve s) = (file : List ℕ) → s.journal ≡ Some file → Holds s
+JournalsAs Holds asked = Unit {0}

@@ -3,12 +3,12 @@ use Rattle.std.specs.Prelude.{◌≡◌, ◌⊎◌, ℕ, List, Option, Some}
 use Rattle.pool_model.specs.Network.{Network, net_of}
 use Rattle.box_space.specs.declared.coordinates.Form.{Form}
 use Rattle.program_text.specs.Programs.{program_text}
-use Rattle.pool_cli.specs.Reads.{Files, IsRefusedAs, ReadsNone, ReadsSome, ReadsUnder}
-use Rattle.pool_cli.specs.Took.{IsCutShort, IsNetworkRefused, unread_status}
+use Rattle.run_status.specs.Reads.{Files, IsRefusedAs, ReadsNone, ReadsSome, ReadsUnder}
+use Rattle.run_status.specs.Took.{IsCutShort, IsNetworkRefused, unread_status}
 use Rattle.pool_cli.specs.declared.formulate.FormulateOutcome.{FormulateOutcome}
 use Rattle.pool_cli.specs.declared.formulate.FormulateOutcome.TheVariants as outcomes
-use Rattle.pool_cli.specs.declared.status.Status.{Status}
-use Rattle.pool_cli.specs.declared.status.Status.TheVariants as statuses
+use Rattle.run_status.specs.declared.status.Status.{Status}
+use Rattle.run_status.specs.declared.status.Status.TheVariants as statuses
 
 -- the status that it ends with
 abbrev pub formulate_status : FormulateOutcome → Status

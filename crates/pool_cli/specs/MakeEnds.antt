@@ -4,8 +4,8 @@ use Rattle.network_text.specs.Canonical.{canonical_text}
 use Rattle.network_maker.specs.Generated.{generated}
 use Rattle.pool_cli.specs.declared.make.MakeOutcome.{MakeOutcome}
 use Rattle.pool_cli.specs.declared.make.MakeOutcome.TheVariants as outcomes
-use Rattle.pool_cli.specs.declared.status.Status.{Status}
-use Rattle.pool_cli.specs.declared.status.Status.TheVariants as statuses
+use Rattle.run_status.specs.declared.status.Status.{Status}
+use Rattle.run_status.specs.declared.status.Status.TheVariants as statuses
 
 -- the status that it ends with
 abbrev pub make_status : MakeOutcome → Status

@@ -11,12 +11,12 @@ use Rattle.network_maker.specs.Generated.{generated}
 use Rattle.search_run.specs.declared.orders.Orders.{Orders}
 use Rattle.trial_text.specs.Trial.{trial_text}
 use Rattle.trial_text.specs.declared.trial.Trial.{Trial}
-use Rattle.pool_cli.specs.Messages.{code_of}
-use Rattle.pool_cli.specs.Solution.{IsSolution}
+use Rattle.run_status.specs.Messages.{code_of}
+use Rattle.solve_command.specs.Solution.{IsSolution}
 use Rattle.pool_cli.specs.declared.trial.TrialOutcome.{TrialOutcome}
 use Rattle.pool_cli.specs.declared.trial.TrialOutcome.TheVariants as outcomes
-use Rattle.pool_cli.specs.declared.status.Status.{Status}
-use Rattle.pool_cli.specs.declared.status.Status.TheVariants as statuses
+use Rattle.run_status.specs.declared.status.Status.{Status}
+use Rattle.run_status.specs.declared.status.Status.TheVariants as statuses
 
 -- the status that it ends with
 abbrev pub trial_status : TrialOutcome → Status

@@ -9,21 +9,21 @@ ghost use Rattle.box_space.specs.declared.coordinates.Form.{Form};
 ghost use Rattle.cert_format.specs.Text.{text_of};
 ghost use Rattle.cli_words.specs.Asks.{Asks};
 ghost use Rattle.cli_words.specs.Requests.{Asked, Solving, solve, check, report, formulate};
-ghost use Rattle.pool_cli.specs.Ends.{AnswersAs, DecidedAs, EndsAs, HasNoJournal, IsUnanswered};
-ghost use Rattle.pool_cli.specs.Journaled.{Journaled};
-ghost use Rattle.pool_cli.specs.Reads.{Files, ReadsUnder};
-ghost use Rattle.pool_cli.specs.Took.{Took};
+ghost use Rattle.cli_words.specs.Views.{shown_request};
+ghost use Rattle.run_status.specs.Reads.{Files, ReadsUnder};
+ghost use Rattle.run_status.specs.Took.{Took};
+ghost use Rattle.solve_command.specs.Journaled.{Journaled};
+ghost use Rattle.pool_cli.specs.Ends.{AnswersAs, DecidedAs, EndsAs, HasNoJournal, IsAdmitted, IsUnanswered, JournalsAs, words_status};
 
-use crate::check::check;
 use crate::formulate::formulate;
 use crate::make::make;
-use crate::report::report;
-use crate::solve::solve;
-use crate::status::Status;
 use crate::trial::trial;
+use certificate_commands::{check, report};
 use cli_words::{Request, WordsFault, read_words};
 use disk_model::Disk;
 use edge_io::{Shelf, Sink};
+use run_status::Status;
+use solve_command::solve;
 use std::alloc::Global;
 
 /// Runs the program on the words behind its name: takes files from the shelf, gives what it prints to the sink, and keeps the journal
@@ -83,19 +83,52 @@ pub fn run<S: Shelf, K: Sink, D: Disk>(
     ensures unasked { ((asked : Asked) → ¬ Asks (map string_bytes words.now) asked) → disk.new ≡ disk.old }
 {
     match read_words(alloc, words) {
-        Ok(Request::Solve(words)) => Status::from(solve(alloc, &words, shelf, out, disk)),
-        Ok(Request::Check(net, cert)) => {
+        Ok(request) => answer(alloc, request, shelf, out, disk),
+        Err(fault) => status_of_words(fault),
+    }
+}
+
+/// The status of words that no request was read from.
+fn status_of_words(fault: WordsFault) -> Status
+    ensures { result ≡ words_status fault }
+{
+    match fault {
+        WordsFault::Usage => Status::Usage,
+        WordsFault::Memory => Status::OutOfMemory,
+    }
+}
+
+/// Does what a request asks.
+fn answer<S: Shelf, K: Sink, D: Disk>(
+    alloc: Global,
+    request: Request,
+    shelf: &mut S,
+    out: &mut K,
+    disk: &mut D,
+) -> Status
+    requires { IsAdmitted (λ name. IsTrue (S.admits shelf.old name)) (λ name. IsTrue (D.admits disk.old name)) (S.files shelf.old) (shown_request request) }
+    ensures took { Took (AnswersAs (S.files shelf.old) (shown_request request)) result (K.taken out.old) (K.taken out.new) }
+    ensures ends { EndsAs (S.files shelf.old) (S.taken shelf.old) (S.taken shelf.new) (shown_request request) result }
+    ensures read_fault { result ≡ Status.ReadFault → Rose (S.faults shelf.old) (S.faults shelf.new) }
+    ensures write_fault { result ≡ Status.WriteFault → Rose (K.faults out.old) (K.faults out.new) }
+    ensures disk_fault { result ≡ Status.DiskFault → Rose (D.faults disk.old) (D.faults disk.new) }
+    ensures journal { IsTrue (D.tells disk.old) → JournalsAs (λ s. Journaled (S.files shelf.old) s
+        (LeavesOnly D.moment D.left_since disk.old disk.new) (D.may_leave disk.old) (D.reads disk.new) (D.may_leave disk.new)
+        result (λ c. K.taken out.new ≡ behind (K.taken out.old) (text_of c))) (shown_request request) }
+    ensures apart { HasNoJournal (shown_request request) → disk.new ≡ disk.old }
+{
+    match request {
+        Request::Solve(words) => Status::from(solve(alloc, &words, shelf, out, disk)),
+        Request::Check(net, cert) => {
             Status::from(check(alloc, net.as_str(), cert.as_str(), shelf, out))
         }
-        Ok(Request::Report(net, cert)) => {
+        Request::Report(net, cert) => {
             Status::from(report(alloc, net.as_str(), cert.as_str(), shelf, out))
         }
-        Ok(Request::Formulate(net, form)) => {
+        Request::Formulate(net, form) => {
             Status::from(formulate(alloc, net.as_str(), form, shelf, out))
         }
-        Ok(Request::Make(number)) => Status::from(make(alloc, number, out)),
-        Ok(Request::Trial(number)) => Status::from(trial(alloc, number, out)),
-        Err(WordsFault::Usage) => Status::Usage,
-        Err(WordsFault::Memory) => Status::OutOfMemory,
+        Request::Make(number) => Status::from(make(alloc, number, out)),
+        Request::Trial(number) => Status::from(trial(alloc, number, out)),
     }
 }

@@ -3,15 +3,14 @@
 ghost use Rattle.std.specs.Prelude.{◌≡◌, ◌≢◌, ℕ, List, Option, IsTrue};
 ghost use Rattle.edge_io.specs.Counts.{Rose};
 ghost use Rattle.pool_cli.specs.FormulateEnds.{FormulateEnds, FormulatesAs, formulate_status};
-ghost use Rattle.pool_cli.specs.Reads.{Files, ReadsUnder};
-ghost use Rattle.pool_cli.specs.Took.{Took};
+ghost use Rattle.run_status.specs.Reads.{Files, ReadsUnder};
+ghost use Rattle.run_status.specs.Took.{Took};
 
-use crate::reading::{Unread, network_under};
-use crate::status::Status;
 use blend_network::Network;
 use box_space::Form;
 use edge_io::{Shelf, Sink};
 use program_text::{FormulationFault, write_formulation};
+use run_status::{Status, Unread, network_under};
 use std::alloc::Global;
 
 /// How `formulate` ended.

@@ -7,25 +7,17 @@
 //! or the line of the first cause to refuse it; of `report`, the report of that certificate, or that line. Of `formulate`, it is
 //! the text of an exact program of the network, of `make` the text of the network of a number, and of `trial` four lines on a search
 //! of that network. And it says when each other status comes. The words of that contract are in `specs/Ends.antt`, which has a line
-//! for each command, and beside it a file for each, as `specs/SolveEnds.antt`.
+//! for each command. What each command promises stands in a file of its own: `specs/FormulateEnds.antt`, `MakeEnds.antt` and
+//! `TrialEnds.antt` here, `SolveEnds.antt` in `solve_command`, `CheckEnds.antt` and `ReportEnds.antt` in `certificate_commands`.
 //!
-//! The layer above may use `run`, `Status::code` and `write_message`; it brings the real files and streams. What a file
-//! says is left to `network_json`, and the text of a certificate to `cert_format`.
+//! The layer above may use `run`, and of `run_status` the status that it answers: `Status::code` and `write_message`. It brings the real
+//! files and streams. What a file says is left to `network_json`, and the text of a certificate to `cert_format`.
 #![tactic(auto)]
 
-mod budget;
-mod check;
 mod command;
 mod formulate;
 mod make;
-mod reading;
-mod recorded;
-mod report;
-mod solution;
-mod solve;
-mod status;
 mod trial;
-mod verdict;
 
 pub use command::run;
-pub use status::{Status, write_message};
+pub use run_status::{Status, write_message};

@@ -3,12 +3,12 @@
 ghost use Rattle.std.specs.Prelude.{◌≡◌, IfOk};
 ghost use Rattle.edge_io.specs.Counts.{Rose};
 ghost use Rattle.pool_cli.specs.MakeEnds.{MakeEnds, MakesAs, made_text, make_status};
-ghost use Rattle.pool_cli.specs.Took.{Took};
+ghost use Rattle.run_status.specs.Took.{Took};
 
-use crate::status::Status;
 use edge_io::{Memory, Sink, write_whole};
 use network_maker::make_network;
 use network_text::write_canonical;
+use run_status::Status;
 use std::alloc::Global;
 
 /// How `make` ended.

@@ -13,10 +13,8 @@ ghost use Rattle.search_core.specs.Searches.{IsAsked};
 ghost use Rattle.search_run.specs.Orders.{options_of};
 ghost use Rattle.pool_cli.specs.TrialEnds as ends;
 ghost use Rattle.pool_cli.specs.TrialEnds.{IsTrialOf, TrialEnds, TriesAs, TriesOn, trial_status};
-ghost use Rattle.pool_cli.specs.Took.{Took};
+ghost use Rattle.run_status.specs.Took.{Took};
 
-use crate::solution::solution_of;
-use crate::status::Status;
 use blend_network::Network;
 use box_space::Form;
 use branching::RuleName;
@@ -24,7 +22,9 @@ use cert_checker::{Verdict, check};
 use cert_format::{Certificate, write_cert};
 use edge_io::{MemSink, Memory, Sink};
 use network_maker::make_network;
+use run_status::Status;
 use search_run::Orders;
+use solve_command::{ended_status, solution_of};
 use std::alloc::Global;
 use trial_text::{Trial, write_trial};
 
@@ -92,7 +92,7 @@ fn trial_of(alloc: Global, network: &Network) -> Result<Trial, Memory>
             bound,
             gap,
         } => Ok(Trial {
-            status: Status::from(solution.ended).code(),
+            status: ended_status(solution.ended).code(),
             cost,
             base,
             bound,

@@ -1,7 +1,7 @@
 use Rattle.std.proofs.Common.{refl}
 use Rattle.pool_model.specs.Network.{net_of}
 use Rattle.program_text.specs.Programs.{program_text}
-use Rattle.pool_cli.specs.declared.status.Status.TheVariants as statuses
+use Rattle.run_status.specs.declared.status.Status.TheVariants as statuses
 use Rattle.pool_cli.proofs.formulate.formulate_network.Goals as goal
 
 pub returns-in-Err-Write-clause-took : goal.returns-in-Err-Write-clause-took

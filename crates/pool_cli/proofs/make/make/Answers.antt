@@ -1,7 +1,7 @@
 use Rattle.std.proofs.Common.{refl, subst, ◌∙◌}
 use Rattle.edge_io.specs.Writing.{TookFront}
 use Rattle.pool_cli.specs.MakeEnds.{made_text}
-use Rattle.pool_cli.specs.declared.status.Status.TheVariants as statuses
+use Rattle.run_status.specs.declared.status.Status.TheVariants as statuses
 use Rattle.pool_cli.proofs.make.make.Goals as goal
 
 pub returns-in-Ok-clause-took : goal.returns-in-Ok-clause-took

@@ -7,8 +7,8 @@ use Rattle.cert_checker.specs.declared.verdict.Verdict.{Verdict}
 use Rattle.cert_format.specs.Views.{shown_cert}
 use Rattle.cert_format.specs.Text.{text_of}
 use Rattle.search_run.specs.declared.orders.Orders.{Orders}
-use Rattle.pool_cli.specs.Solution.{IsSolution, status_of}
-use Rattle.pool_cli.specs.Messages.{code_of}
+use Rattle.solve_command.specs.Solution.{IsSolution, status_of}
+use Rattle.run_status.specs.Messages.{code_of}
 use Rattle.pool_cli.proofs.Trials.{planned-gap, solution-planned, told-of}
 use Rattle.pool_cli.proofs.trial.trial_of.Goals as goal
 
@@ -36,6 +36,6 @@ returns c =
         solution = subst (λ (o : Orders). IsSolution n o (status_of s.ended) (shown_cert s.certificate)) c.orders.ensures.orders c.in_ok-solution.ensures.solved;
         accepted = subst (λ (v : Verdict). IsAccepted n (text_of (shown_cert s.certificate)) v) c.in_ok-cost.ensures.numbers c.in_ok-cost.ensures.accepted;
         told = told-of (status_of s.ended) claim c.in_ok-cost.field-0 c.in-Gap.cost c.in-Gap.bound c.in-Gap.gap c.in-Gap.base c.code.result planned
-            c.in_ok-cost.ensures.numbers c.in-Gap.is (c.code.ensures ∙ ap code_of c.from.ensures);
+            c.in_ok-cost.ensures.numbers c.in-Gap.is (c.code.ensures ∙ ap code_of c.ended_status.ensures);
       };
     })

@@ -1,7 +1,7 @@
 use Rattle.std.proofs.Common.{refl}
 use Rattle.pool_model.specs.Network.{net_of}
 use Rattle.trial_text.specs.Trial.{trial_text}
-use Rattle.pool_cli.specs.declared.status.Status.TheVariants.{Done}
+use Rattle.run_status.specs.declared.status.Status.TheVariants.{Done}
 use Rattle.pool_cli.proofs.trial.try_network.Goals as goal
 
 pub returns-in-Err-write_trial-clause-took : goal.returns-in-Err-write_trial-clause-took

@@ -1,0 +1,3 @@
+pub mod Decided
+mod Reported
+mod Streamed

@@ -1,0 +1,132 @@
+-- How `check` ends.
+use Rattle.std.specs.Prelude.{◌≡◌, ◌≢◌, ◌⊎◌, ℕ, ◌≤◌, List, length, Option, Some}
+use Rattle.edge_io.specs.Files.{HasFile, IsTooLong}
+use Rattle.pool_model.specs.Network.{Network, Net, net_of}
+use Rattle.pool_model.specs.Claim.{Follows}
+use Rattle.cert_format.specs.Cert.{Cert}
+use Rattle.cert_format.specs.Valid.{IsValid}
+use Rattle.cert_checker.specs.declared.refusal.Refusal.{Refusal}
+use Rattle.cert_checker.specs.declared.refusal.Refusal.TheVariants as refusals
+use Rattle.cert_checker.specs.declared.verdict.Verdict.{Verdict}
+use Rattle.cert_checker.specs.Answers.{Spells, IsAccepted, IsRefused}
+use Rattle.run_status.specs.Reads.{Files, IsRefusedAs, ReadsNone, ReadsUnder}
+use Rattle.run_status.specs.Took.{IsCutShort, IsNetworkRefused, unread_status}
+use Rattle.verdict_text.specs.Verdicts.{accepted_line, refused_line}
+use Rattle.certificate_commands.specs.declared.checking.CheckOutcome.{CheckOutcome}
+use Rattle.certificate_commands.specs.declared.checking.CheckOutcome.TheVariants as outcomes
+use Rattle.run_status.specs.declared.status.Status.{Status}
+use Rattle.run_status.specs.declared.status.Status.TheVariants as statuses
+
+-- how many bytes a certificate may have
+abbrev pub most_bytes : ℕ
+most_bytes = 1073741824
+
+-- the status that it ends with
+abbrev pub check_status : CheckOutcome → Status
+check_status outcomes.Accepted = statuses.Accepted
+check_status (outcomes.Refused refusal) = statuses.Refused refusal
+check_status (outcomes.Unread why) = unread_status why
+check_status outcomes.ReadFault = statuses.ReadFault
+check_status outcomes.TooLong = statuses.CertTooLong
+check_status outcomes.Memory = statuses.OutOfMemory
+check_status outcomes.WriteFault = statuses.WriteFault
+
+-- ---- what is printed
+
+-- the line of a verdict on the bytes: they are a valid certificate of the network, and what they claim follows
+pub record Accepts (n : Net) (bytes : List ℕ) (text : List ℕ) : Type 0 where
+  pub verdict : Verdict
+  pub accepted : IsAccepted n bytes verdict
+  pub follows : (c : Cert) → Spells bytes c → Follows n c.claim
+  pub spelled : text ≡ accepted_line verdict
+
+-- the line of the first cause to refuse the bytes
+pub record Refuses (n : Net) (bytes : List ℕ) (refusal : Refusal) (text : List ℕ) : Type 0 where
+  pub refused : IsRefused n bytes refusal
+  pub own : refusal ≢ refusals.Memory
+  pub spelled : text ≡ refused_line refusal
+
+-- the lines that answer on the bytes, by the status
+abbrev pub LineOn : Net → List ℕ → Status → List ℕ → Type 0
+LineOn n bytes statuses.Accepted text = Accepts n bytes text
+LineOn n bytes (statuses.Refused refusal) text = Refuses n bytes refusal text
+LineOn n bytes status text = ⊥
+
+-- a network and a certificate of at most so many bytes are read from these files
+pub record AreRead (files : Option Files) (net cert : List ℕ) (network : Network) (bytes : List ℕ) : Type 0 where
+  pub reads : ReadsUnder files net network
+  pub file : HasFile files cert bytes
+  pub short : length bytes ≤ most_bytes
+
+-- the lines that answer on the certificate under the second name, for the network under the first, by the status
+abbrev pub ChecksAs : Option Files → (net cert : List ℕ) → Status → List ℕ → Type 0
+ChecksAs files net cert status text = (network : Network) × ((bytes : List ℕ) × AreRead files net cert network bytes × LineOn (net_of network) bytes status text)
+
+-- ---- when each status comes
+
+-- what the bytes are, by the status
+abbrev pub IsJudged : Net → List ℕ → Status → Type 0
+IsJudged n bytes statuses.Accepted = (c : Cert) × Spells bytes c × IsValid n c
+IsJudged n bytes (statuses.Refused refusal) = (c : Cert) → Spells bytes c → ¬ IsValid n c
+IsJudged n bytes statuses.WriteFault = Unit {0}
+IsJudged n bytes statuses.OutOfMemory = Unit {0}
+IsJudged n bytes status = ⊥
+
+-- they are read from these files
+pub record JudgedUnder (files : Option Files) (net cert : List ℕ) (status : Status) : Type 0 where
+  pub network : Network
+  pub bytes : List ℕ
+  pub read : AreRead files net cert network bytes
+  pub judged : IsJudged (net_of network) bytes status
+
+-- the certificate under the second name is longer than may be, and a network is read from the file of the first
+pub record LongUnder (files : Option Files) (net cert : List ℕ) (before after : ℕ) : Type 0 where
+  pub network : Network
+  pub reads : ReadsUnder files net network
+  pub more : IsTooLong files cert most_bytes before after
+
+-- Each status comes only where its line holds of the files of these names; no other comes. The counts are of the bytes taken.
+abbrev pub CheckEnds : Option Files → (net cert : List ℕ) → (before after : ℕ) → Status → Type 0
+CheckEnds files net cert before after statuses.Accepted = JudgedUnder files net cert statuses.Accepted
+CheckEnds files net cert before after (statuses.Refused refusal) = JudgedUnder files net cert (statuses.Refused refusal)
+CheckEnds files net cert before after statuses.WriteFault = JudgedUnder files net cert statuses.WriteFault
+CheckEnds files net cert before after statuses.CertTooLong = LongUnder files net cert before after
+CheckEnds files net cert before after (statuses.NetworkRefused cause) = IsRefusedAs files net before after cause
+CheckEnds files net cert before after statuses.ReadFault = Unit {0}
+CheckEnds files net cert before after statuses.OutOfMemory = Unit {0}
+CheckEnds files net cert before after status = ⊥
+
+-- the certificate under the second name is valid for the network under the first, and not too long
+pub record ValidUnder (told : Files) (net cert : List ℕ) : Type 0 where
+  pub network : Network
+  pub bytes : List ℕ
+  pub certificate : Cert
+  pub read : AreRead (Some told) net cert network bytes
+  pub spelled : Spells bytes certificate
+  pub valid : IsValid (net_of network) certificate
+
+-- the bytes under the second name are not too many, and are of no certificate that is valid for the network under the first
+pub record InvalidUnder (told : Files) (net cert : List ℕ) : Type 0 where
+  pub network : Network
+  pub bytes : List ℕ
+  pub read : AreRead (Some told) net cert network bytes
+  pub none : (c : Cert) → Spells bytes c → ¬ IsValid (net_of network) c
+
+-- the certificate is accepted, or the sink failed
+abbrev pub IsAcceptance : Status → Type 0
+IsAcceptance statuses.Accepted = Unit {0}
+IsAcceptance statuses.WriteFault = Unit {0}
+IsAcceptance status = ⊥
+
+-- the certificate is refused, or the sink failed
+abbrev pub IsDenial : Status → Type 0
+IsDenial (statuses.Refused refusal) = Unit {0}
+IsDenial statuses.WriteFault = Unit {0}
+IsDenial status = ⊥
+
+-- which status comes, by what the told files say, where the run isn't cut short
+pub record CheckDecided (told : Files) (net cert : List ℕ) (status : Status) : Type 0 where
+  pub no_network : ReadsNone told net → IsNetworkRefused status ⊎ IsCutShort status
+  pub too_long : (before after : ℕ) → LongUnder (Some told) net cert before after → (status ≡ statuses.CertTooLong) ⊎ IsCutShort status
+  pub valid : ValidUnder told net cert → IsAcceptance status ⊎ IsCutShort status
+  pub invalid : InvalidUnder told net cert → IsDenial status ⊎ IsCutShort status

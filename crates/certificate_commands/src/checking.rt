@@ -1,0 +1,126 @@
+//! The command `check`.
+
+ghost use Rattle.std.specs.Prelude.{◌≡◌, ◌≤◌, ℕ, List, IsTrue};
+ghost use Rattle.edge_io.specs.Counts.{Grows, Rose};
+ghost use Rattle.pool_model.specs.Network.{Network as ANetwork, net_of};
+ghost use Rattle.certificate_commands.specs.CheckEnds.{CheckEnds, ChecksAs, check_status};
+ghost use Rattle.certificate_commands.specs.OpenedEnds.{LineOnRest, OpenedEnds};
+ghost use Rattle.run_status.specs.Reads.{ReadsUnder};
+ghost use Rattle.run_status.specs.Took.{Took};
+
+use blend_network::Network;
+use cert_checker::{Refusal, StreamRefusal, check_stream};
+use edge_io::{OpenFault, Shelf, Sink};
+use run_status::{Status, Unread, network_under};
+use std::alloc::Global;
+use verdict_text::{write_refused, write_verdict};
+
+/// How many bytes a certificate may have.
+pub(crate) const MOST_BYTES: usize = 1_073_741_824;
+
+/// How `check` ended.
+#[derive(Debug, Drop)]
+pub enum CheckOutcome {
+    /// The certificate is valid for the network.
+    Accepted,
+    /// The certificate is refused.
+    Refused(Refusal),
+    /// No network was read.
+    Unread(Unread),
+    /// The shelf failed where the certificate was opened or read.
+    ReadFault,
+    /// The certificate is longer than may be.
+    TooLong,
+    /// Memory ran out.
+    Memory,
+    /// The sink failed.
+    WriteFault,
+}
+
+impl From<CheckOutcome> for Status {
+    ghost from_gives = { λ outcome status. status ≡ check_status outcome };
+
+    fn from(outcome: CheckOutcome) -> Status {
+        match outcome {
+            CheckOutcome::Accepted => Status::Accepted,
+            CheckOutcome::Refused(refusal) => Status::Refused(refusal),
+            CheckOutcome::Unread(why) => Status::from(why),
+            CheckOutcome::ReadFault => Status::ReadFault,
+            CheckOutcome::TooLong => Status::CertTooLong,
+            CheckOutcome::Memory => Status::OutOfMemory,
+            CheckOutcome::WriteFault => Status::WriteFault,
+        }
+    }
+}
+
+/// Checks the certificate in the file of the second name for the network in the file of the first.
+///
+/// The shelf is asked for the certificate only where a network was read. It is read once, piece by piece, and its text is not kept.
+pub fn check<S: Shelf, K: Sink>(
+    alloc: Global,
+    net: &str,
+    cert: &str,
+    shelf: &mut S,
+    out: &mut K,
+) -> CheckOutcome
+    requires network { IsTrue (S.admits shelf.old net.now) }
+    requires certificate { (network : ANetwork) → ReadsUnder (S.files shelf.old) net.now network → IsTrue (S.admits shelf.old cert.now) }
+    ensures took { Took (ChecksAs (S.files shelf.old) net.now cert.now) (check_status result) (K.taken out.old) (K.taken out.new) }
+    ensures ends { CheckEnds (S.files shelf.old) net.now cert.now (S.taken shelf.old) (S.taken shelf.new) (check_status result) }
+    ensures read_fault { check_status result ≡ Status.ReadFault → Rose (S.faults shelf.old) (S.faults shelf.new) }
+    ensures write_fault { check_status result ≡ Status.WriteFault → Rose (K.faults out.old) (K.faults out.new) }
+{
+    match network_under(alloc, net, shelf) {
+        Ok(network) => check_file(alloc, &network, cert, shelf, out),
+        Err(why) => CheckOutcome::Unread(why),
+    }
+}
+
+/// Checks the certificate in the file of this name for a network that was read.
+fn check_file<S: Shelf, K: Sink>(
+    alloc: Global,
+    network: &Network,
+    cert: &str,
+    shelf: &mut S,
+    out: &mut K,
+) -> CheckOutcome
+    requires { IsTrue (S.admits shelf.old cert.now) }
+    ensures took { (net : List ℕ) → ReadsUnder (S.files shelf.old) net network.now → Took (ChecksAs (S.files shelf.old) net cert.now) (check_status result) (K.taken out.old) (K.taken out.new) }
+    ensures ends { (net : List ℕ) (before : ℕ) → ReadsUnder (S.files shelf.old) net network.now → Grows before (S.taken shelf.old)
+        → CheckEnds (S.files shelf.old) net cert.now before (S.taken shelf.new) (check_status result) }
+    ensures read_fault { check_status result ≡ Status.ReadFault → Rose (S.faults shelf.old) (S.faults shelf.new) }
+    ensures write_fault { check_status result ≡ Status.WriteFault → Rose (K.faults out.old) (K.faults out.new) }
+{
+    match shelf.open_read(alloc, cert) {
+        Ok(()) => check_opened(alloc, network, shelf, out),
+        Err(OpenFault::Failed) => CheckOutcome::ReadFault,
+        Err(OpenFault::Memory) => CheckOutcome::Memory,
+    }
+}
+
+/// Checks the certificate in the opened file, and writes the line on it.
+fn check_opened<S: Shelf, K: Sink>(
+    alloc: Global,
+    network: &Network,
+    shelf: &mut S,
+    out: &mut K,
+) -> CheckOutcome
+    ensures took { Took (LineOnRest (net_of network.now) (S.rest shelf.old)) (check_status result) (K.taken out.old) (K.taken out.new) }
+    ensures ends { OpenedEnds (net_of network.now) (S.rest shelf.old) (S.taken shelf.old) (S.taken shelf.new) (check_status result) }
+    ensures read_fault { check_status result ≡ Status.ReadFault → Rose (S.faults shelf.old) (S.faults shelf.new) }
+    ensures write_fault { check_status result ≡ Status.WriteFault → Rose (K.faults out.old) (K.faults out.new) }
+{
+    match check_stream(alloc, network, shelf, MOST_BYTES as u64) {
+        Ok(verdict) => match write_verdict(&verdict, out) {
+            Ok(()) => CheckOutcome::Accepted,
+            Err(_) => CheckOutcome::WriteFault,
+        },
+        Err(StreamRefusal::Refused(refusal)) => match write_refused(&refusal, out) {
+            Ok(()) => CheckOutcome::Refused(refusal),
+            Err(_) => CheckOutcome::WriteFault,
+        },
+        Err(StreamRefusal::Read) => CheckOutcome::ReadFault,
+        Err(StreamRefusal::TooLong) => CheckOutcome::TooLong,
+        Err(StreamRefusal::Memory) => CheckOutcome::Memory,
+    }
+}

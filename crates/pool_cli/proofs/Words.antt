@@ -1,0 +1,43 @@
+-- A run on words that no request was read from.
+use Rattle.std.proofs.Common.{◌≡◌, ◌≢◌, ℕ, List, Option, refl}
+use Rattle.cli_words.specs.Requests.{Asked, solve, check, report, formulate, make, trial}
+use Rattle.cli_words.specs.declared.request.WordsFault.{WordsFault}
+use Rattle.cli_words.specs.declared.request.WordsFault.TheVariants as faults
+use Rattle.run_status.specs.Reads.{Files}
+use Rattle.run_status.specs.Took.{Took}
+use Rattle.run_status.specs.declared.status.Status.{Status}
+use Rattle.run_status.specs.declared.status.Status.TheVariants as statuses
+use Rattle.solve_command.specs.Journaled.{IsUnopened}
+use Rattle.pool_cli.specs.Ends.{EndsAs, IsUnanswered, words_status}
+
+pub words_took : (Answer : Status → List ℕ → Type 0) (fault : WordsFault) (taken : Option (List ℕ)) → Took Answer (words_status fault) taken taken
+words_took Answer faults.Usage taken = refl
+words_took Answer faults.Memory taken = refl
+
+pub words_unanswered : (fault : WordsFault) → IsUnanswered (words_status fault)
+words_unanswered faults.Usage = tt
+words_unanswered faults.Memory = tt
+
+-- usage is told where the words ask nothing, and only there
+pub words_usage : (fault : WordsFault) → words_status fault ≡ statuses.Usage → fault ≡ faults.Usage
+words_usage faults.Usage e = refl
+words_usage faults.Memory e = cc
+
+-- no fault of the words is told as one of shelf, sink or disk
+pub no_words_fault : (fault : WordsFault) → (words_status fault ≢ statuses.ReadFault) × (words_status fault ≢ statuses.WriteFault) × (words_status fault ≢ statuses.DiskFault)
+no_words_fault faults.Usage = (λ e. cc, λ e. cc, λ e. cc)
+no_words_fault faults.Memory = (λ e. cc, λ e. cc, λ e. cc)
+
+-- words that ask for something fail for want of memory alone
+pub words_ends : (files : Option Files) (before after : ℕ) (fault : WordsFault) (asked : Asked) → fault ≢ faults.Usage → EndsAs files before after asked (words_status fault)
+words_ends files before after faults.Usage asked h = absurd (h refl)
+words_ends files before after faults.Memory (solve s) h = tt
+words_ends files before after faults.Memory (check net cert) h = tt
+words_ends files before after faults.Memory (report net cert) h = tt
+words_ends files before after faults.Memory (formulate net form) h = tt
+words_ends files before after faults.Memory (make number) h = tt
+words_ends files before after faults.Memory (trial number) h = tt
+
+pub words_unopened : (fault : WordsFault) → fault ≢ faults.Usage → IsUnopened (words_status fault)
+words_unopened faults.Usage h = absurd (h refl)
+words_unopened faults.Memory h = tt

@@ -1,0 +1,4 @@
+pub mod Messages
+pub mod Reads
+pub mod Took
+pub mod Unreads

@@ -1,0 +1,64 @@
+//! The network in a file.
+
+ghost use Rattle.std.specs.Prelude.{◌≡◌, IsTrue, IfOk, IfErr};
+ghost use Rattle.edge_io.specs.Counts.{Grows, Rose};
+ghost use Rattle.run_status.specs.Reads.{ReadsUnder};
+ghost use Rattle.run_status.specs.Took.{unread_status};
+ghost use Rattle.run_status.specs.Unreads.{IsCauseOf, IsUnread};
+
+use crate::status::Status;
+use blend_network::{NetFault, Network};
+use edge_io::{Shelf, ShelfFault};
+use network_json::{MAX_TEXT, ReadNet, read_network};
+use std::alloc::Global;
+
+/// Why no network was read from a file.
+#[derive(Debug, Drop)]
+pub enum Unread {
+    /// It is no network.
+    Refused(ReadNet),
+    /// The shelf failed.
+    Failed,
+    /// Memory ran out.
+    Memory,
+}
+
+impl From<Unread> for Status {
+    ghost from_gives = { λ why status. status ≡ unread_status why };
+
+    fn from(why: Unread) -> Status {
+        match why {
+            Unread::Refused(cause) => Status::NetworkRefused(cause),
+            Unread::Failed => Status::ReadFault,
+            Unread::Memory => Status::OutOfMemory,
+        }
+    }
+}
+
+/// The network in the file of this name.
+pub fn network_under<S: Shelf>(alloc: Global, name: &str, shelf: &mut S) -> Result<Network, Unread>
+    requires { IsTrue (S.admits shelf.old name.now) }
+    ensures reads { IfOk result (ReadsUnder (S.files shelf.old) name.now) }
+    ensures unread { IfErr result (IsUnread (S.files shelf.old) name.now (S.taken shelf.old) (S.taken shelf.new) (S.faults shelf.old) (S.faults shelf.new)) }
+    ensures same_files { S.files shelf.new ≡ S.files shelf.old }
+    ensures same_names { S.admits shelf.new ≡ S.admits shelf.old }
+    ensures taken_grows { Grows (S.taken shelf.old) (S.taken shelf.new) }
+    ensures faults_grow { Grows (S.faults shelf.old) (S.faults shelf.new) }
+{
+    match shelf.read_all(alloc, name, MAX_TEXT) {
+        Ok(bytes) => read_network(alloc, &bytes).map_err(cause_of),
+        Err(ShelfFault::Failed) => Err(Unread::Failed),
+        Err(ShelfFault::TooLong) => Err(Unread::Refused(ReadNet::TooLong)),
+        Err(ShelfFault::Memory) => Err(Unread::Memory),
+    }
+}
+
+/// Why bytes that the shelf gave are no network. They are never too long, since it was asked for no more.
+fn cause_of(cause: ReadNet) -> Unread
+    ensures { IsCauseOf cause result }
+{
+    match cause {
+        ReadNet::Net(NetFault::Memory) | ReadNet::Memory | ReadNet::TooLong => Unread::Memory,
+        cause => Unread::Refused(cause),
+    }
+}

@@ -1,0 +1,340 @@
+-- A run with a journal: from what the search with it leaves to what the program leaves.
+use Rattle.std.proofs.Common.{◌≡◌, ◌⊎◌, inl, inr, ℕ, ◌≤◌, List, Option, Some, None, Ok, Err, refl, sym, ap, subst, ◌∙◌, arith}
+use Rattle.disk_model.specs.Disks.{LeavesOnly, Reaches, IsOneOf}
+use Rattle.disk_model.proofs.Moments.{goes_further, leaves-weaker, now-has}
+use Rattle.edge_io.specs.Writing.{behind}
+use Rattle.pool_model.specs.Network.{Net, Network, IsLimited, net_of}
+use Rattle.row_model.specs.Entries.{Entry, Searched, made_by, AreInOrder}
+use Rattle.cert_format.specs.Cert.{Cert}
+use Rattle.cert_format.specs.Valid.{IsValid}
+use Rattle.cert_format.specs.Views.{shown_cert}
+use Rattle.cert_format.specs.Text.{text_of}
+use Rattle.cli_words.specs.Requests.{Solving}
+use Rattle.network_text.specs.Canonical.{canonical_text}
+use Rattle.tree_certificate.specs.Certificates.{cert_of}
+use Rattle.journal_format.specs.Files.{Stands}
+use Rattle.journal_format.specs.declared.fault.JournalFault.{JournalFault}
+use Rattle.journal_format.specs.declared.fault.JournalFault.TheVariants as journal_faults
+use Rattle.journal_format.proofs.Decided.{one_standing}
+use Rattle.search_run.specs.Runs.{IsRun}
+use Rattle.search_run.specs.Found.{IsFound}
+use Rattle.search_run.specs.declared.orders.Orders.{Orders}
+use Rattle.search_run.specs.declared.ended.Ended.{Ended}
+use Rattle.search_run.specs.declared.ended.Ended.TheVariants as ends
+use Rattle.recorded_run.specs.Recorded.{BeginsWith, IsBetween, IsCause, IsFreeFault, IsLeftAlone, IsNetworksOwn, StandsNow, Ends}
+use Rattle.recorded_run.specs.Sessions.{IsResumed}
+use Rattle.recorded_run.specs.declared.fault.RunFault.{RunFault}
+use Rattle.recorded_run.specs.declared.fault.RunFault.TheVariants as faults
+use Rattle.recorded_run.proofs.Causes.{no_cause}
+use Rattle.solve_command.specs.Journaled.{IsRefused, IsForeign, IsFailed, IsUnopened, IsCauseOf, Holds, IsPrintOf, IsAttached, Journaled}
+use Rattle.run_status.specs.Reads.{Files, ReadsUnder}
+use Rattle.solve_command.specs.Recorded.{IsOpened}
+use Rattle.solve_command.specs.Solution.{status_of}
+use Rattle.solve_command.specs.SolveEnds.{EndsWith, IsEnded, IsPrinted, IsWithinBudget, fault_status, orders_of}
+use Rattle.solve_command.specs.declared.solution.Solution.{Solution}
+use Rattle.run_status.specs.declared.status.Status.{Status}
+use Rattle.run_status.specs.declared.status.Status.TheVariants as statuses
+use Rattle.solve_command.proofs.Resuming.{no_worse}
+use Rattle.solve_command.proofs.Solutions.{solved-from}
+
+-- ---- the file that an attach reads
+
+pub one_of-reaches : (reads : Option (List ℕ)) (images : List ℕ → Type 0) → IsOneOf reads images → Reaches reads 0
+one_of-reaches None images h = absurd h
+one_of-reaches (Some file) images h = omega arith
+
+pub one_of-file : (reads : Option (List ℕ)) (images : List ℕ → Type 0) → IsOneOf reads images → (file : List ℕ) × (reads ≡ Some file) × images file
+one_of-file None images h = absurd h
+one_of-file (Some file) images h = (file, refl, h)
+
+module _ {D : Type 0} (moment : D → ℕ) (left_since : D → ℕ → List ℕ → Type 0) (may_leave : D → List ℕ → Type 0)
+    (counts_now : (disk : D) (t : ℕ) (c : List ℕ) → t ≤ moment disk → may_leave disk c → left_since disk t c) where
+  -- what follows an attach leaves no more than was there before, beside its own
+  pub behind-attach : (old mid new : D) (Q : List ℕ → Type 0) → LeavesOnly moment left_since old mid (may_leave old) → LeavesOnly moment left_since mid new (λ c. may_leave mid c ⊎ Q c)
+      → LeavesOnly moment left_since old new (λ c. may_leave old c ⊎ Q c)
+  behind-attach old mid new Q attach run =
+      let P : List ℕ → Type 0 = λ c. may_leave mid c ⊎ Q c in
+      let R : List ℕ → Type 0 = λ c. may_leave old c ⊎ Q c in
+      goes_further moment left_since old mid new R
+      (leaves-weaker moment left_since old mid (may_leave old) R (λ c h. inl h) attach)
+      (leaves-weaker moment left_since mid new P R
+      (λ c h. elim h [ inl now ↦ inl (now-has moment left_since may_leave counts_now old mid (may_leave old) attach c now) | inr q ↦ inr q ]) run)
+
+-- ---- causes
+
+-- the cause of a fault is that of its status
+status-cause : (n : Net) (text file : List ℕ) (fault : RunFault) → IsCause n text file fault → IsCauseOf n text file (fault_status fault)
+status-cause n text file (faults.Journal journal_faults.Disk) h = absurd h
+status-cause n text file (faults.Journal journal_faults.NotAJournal) h = h
+status-cause n text file (faults.Journal (journal_faults.UnknownVersion version)) h = h
+status-cause n text file (faults.Journal journal_faults.OtherNetwork) h = h
+status-cause n text file (faults.Journal (journal_faults.BadRecord number)) h = inl h
+status-cause n text file (faults.Journal journal_faults.Memory) h = absurd h
+status-cause n text file (faults.OutOfOrder number) h = inr h
+
+-- a cause of a status is that of a fault
+cause-fault : (n : Net) (text file : List ℕ) (status : Status) → IsCauseOf n text file status → (fault : RunFault) × (fault_status fault ≡ status) × IsCause n text file fault
+cause-fault n text file statuses.OtherNetwork h = (faults.Journal journal_faults.OtherNetwork, refl, h)
+cause-fault n text file (statuses.BadJournal number) (inl h) = (faults.Journal (journal_faults.BadRecord number), refl, h)
+cause-fault n text file (statuses.BadJournal number) (inr h) = (faults.OutOfOrder number, refl, h)
+cause-fault n text file (statuses.UnknownVersion version) h = (faults.Journal (journal_faults.UnknownVersion version), refl, h)
+cause-fault n text file statuses.NotAJournal h = (faults.Journal journal_faults.NotAJournal, refl, h)
+cause-fault n text file status h = absurd h
+
+-- disk or memory failed
+failed-status : (fault : RunFault) → IsFreeFault fault → IsFailed (fault_status fault)
+failed-status (faults.Journal fault) (inl e) = subst (λ (f : JournalFault). IsFailed (fault_status (faults.Journal f))) (sym e) tt
+failed-status (faults.Journal fault) (inr e) = subst (λ (f : JournalFault). IsFailed (fault_status (faults.Journal f))) (sym e) tt
+failed-status (faults.OutOfOrder number) h = absurd h
+
+failed-not-refused : (status : Status) → IsFailed status → ¬ IsRefused status
+failed-not-refused statuses.DiskFault h r = r
+failed-not-refused statuses.OutOfMemory h r = r
+failed-not-refused status h r = h
+
+foreign-refused : (status : Status) → IsForeign status → IsRefused status
+foreign-refused statuses.OtherNetwork h = tt
+foreign-refused (statuses.UnknownVersion version) h = tt
+foreign-refused statuses.NotAJournal h = tt
+foreign-refused status h = absurd h
+
+-- a file that stands for entries in order is not refused
+no-refusal : (n : Net) (text file : List ℕ) (status : Status) → (IsRefused status → IsCauseOf n text file status) → (list : List Entry) → Stands file text list → AreInOrder n list → ¬ IsRefused status
+no-refusal n text file status caused list stands are refused =
+    let cause = cause-fault n text file status (caused refused) in
+    no_cause n text file list cause.0 stands are cause.2
+
+-- a search that ended is neither refused nor failed
+ended-not-refused : (ended : Ended) → ¬ IsRefused (status_of ended)
+ended-not-refused ends.Closed h = h
+ended-not-refused ends.Stopped h = h
+ended-not-refused ends.Stuck h = h
+ended-not-refused ends.Infeasible h = h
+ended-not-refused ends.Undecided h = h
+
+ended-not-failed : (ended : Ended) → ¬ IsFailed (status_of ended)
+ended-not-failed ends.Closed h = h
+ended-not-failed ends.Stopped h = h
+ended-not-failed ends.Stuck h = h
+ended-not-failed ends.Infeasible h = h
+ended-not-failed ends.Undecided h = h
+
+ended-not-unopened : (ended : Ended) → ¬ IsUnopened (status_of ended)
+ended-not-unopened ends.Closed h = h
+ended-not-unopened ends.Stopped h = h
+ended-not-unopened ends.Stuck h = h
+ended-not-unopened ends.Infeasible h = h
+ended-not-unopened ends.Undecided h = h
+
+ended-whole : (ended : Ended) → IsEnded (status_of ended)
+ended-whole ends.Closed = tt
+ended-whole ends.Stopped = tt
+ended-whole ends.Stuck = tt
+ended-whole ends.Infeasible = tt
+ended-whole ends.Undecided = tt
+
+-- ---- a file that was read
+
+-- what is printed of the last list
+module _ (n : Net) (text : List ℕ) (o : Orders) (first : List Entry) (file : List ℕ) (limited : IsLimited n) (own : IsNetworksOwn n text first file) where
+  print-of : (reads : Option (List ℕ)) (found : Searched) (ended : Ended) (last : List Entry) (Prints : Cert → Type 0) → reads ≡ Some file → IsResumed n o text reads found ended → found ≡ made_by last
+      → IsValid n (cert_of n found) → Prints (cert_of n found) → IsPrintOf n o (made_by first) (made_by last) (status_of ended) Prints
+  print-of reads found ended last Prints is resumed made valid prints =
+      let same = one_standing file text resumed.first first (resumed.stands file is) own.stands in
+      let run : IsRun n o (made_by first) found ended = subst (λ (l : List Entry). IsRun n o (made_by l) found ended) same resumed.run in
+      let search : IsFound n o (made_by first) found ended = subst (λ (l : List Entry). IsFound n o (made_by l) found ended) same resumed.search in
+      subst (λ (s : Searched). IsPrintOf n o (made_by first) s (status_of ended) Prints) made record {
+        prints = prints;
+        solution = solved-from n o (made_by first) found ended (cert_of n found) limited run search refl valid;
+        grown = search.grown;
+        no_worse = no_worse n limited o first found ended own.in_order run;
+      }
+
+  ends-holds : (last : List Entry) (s : Searched) (reads : Option (List ℕ)) (images : List ℕ → Type 0) → Ends n text last s reads images → Holds n text last reads images
+  ends-holds last s reads images at = record { file = at.file; on_disk = at.on_disk; own = at.own }
+
+fault-not-ended : (fault : RunFault) → ¬ IsPrinted (fault_status fault)
+fault-not-ended (faults.Journal journal_faults.Disk) h = h
+fault-not-ended (faults.Journal journal_faults.NotAJournal) h = h
+fault-not-ended (faults.Journal (journal_faults.UnknownVersion version)) h = h
+fault-not-ended (faults.Journal journal_faults.OtherNetwork) h = h
+fault-not-ended (faults.Journal (journal_faults.BadRecord number)) h = h
+fault-not-ended (faults.Journal journal_faults.Memory) h = h
+fault-not-ended (faults.OutOfOrder number) h = h
+
+-- memory ran out exactly where the fault says so
+memory-fault : (fault : RunFault) → fault_status fault ≡ statuses.OutOfMemory → fault ≡ faults.Journal journal_faults.Memory
+memory-fault (faults.Journal journal_faults.Disk) is = absurd (cc)
+memory-fault (faults.Journal journal_faults.NotAJournal) is = absurd (cc)
+memory-fault (faults.Journal (journal_faults.UnknownVersion version)) is = absurd (cc)
+memory-fault (faults.Journal journal_faults.OtherNetwork) is = absurd (cc)
+memory-fault (faults.Journal (journal_faults.BadRecord number)) is = absurd (cc)
+memory-fault (faults.Journal journal_faults.Memory) is = refl
+memory-fault (faults.OutOfOrder number) is = absurd (cc)
+
+ended-printed : (status : Status) → IsEnded status → IsPrinted status
+ended-printed statuses.Closed h = tt
+ended-printed statuses.Stopped h = tt
+ended-printed statuses.Stuck h = tt
+ended-printed statuses.Infeasible h = tt
+ended-printed statuses.Undecided h = tt
+ended-printed status h = absurd h
+
+module _ {D : Type 0} (moment : D → ℕ) (left_since : D → ℕ → List ℕ → Type 0) (reads : D → Option (List ℕ)) (may_leave : D → List ℕ → Type 0)
+    (counts_now : (disk : D) (t : ℕ) (c : List ℕ) → t ≤ moment disk → may_leave disk c → left_since disk t c)
+    (n : Net) (text : List ℕ) (o : Orders) (file : List ℕ) (old mid new : D) (image : may_leave old file) (attach : LeavesOnly moment left_since old mid (may_leave old)) where
+  -- what the run behind the attach leaves of an own file
+  abbrev Goes : List Entry → (List Entry → Type 0) → Type 0
+  Goes first More = (last : List Entry) × BeginsWith last first × LeavesOnly moment left_since mid new (λ c. may_leave mid c ⊎ IsBetween n text first last c) × More last
+
+  abbrev Attached : Status → (Cert → Type 0) → Type 0
+  Attached status Prints = IsAttached n text o (LeavesOnly moment left_since old new) (may_leave old) (reads new) (may_leave new) status Prints
+
+  left-alone : (fault : RunFault) → IsForeign (fault_status fault) → IsLeftAlone fault (LeavesOnly moment left_since mid new (may_leave mid)) → LeavesOnly moment left_since old new (may_leave old)
+  left-alone (faults.Journal fault) foreign (inl free) = absurd (failed-not-refused (fault_status (faults.Journal fault))
+      (failed-status (faults.Journal fault) free) (foreign-refused (fault_status (faults.Journal fault)) foreign))
+  left-alone (faults.Journal fault) foreign (inr left) =
+      goes_further moment left_since old mid new (may_leave old) attach
+      (leaves-weaker moment left_since mid new (may_leave mid) (may_leave old) (now-has moment left_since may_leave counts_now old mid (may_leave old) attach) left)
+  left-alone (faults.OutOfOrder number) foreign h = absurd foreign
+
+  -- the run gave no answer
+  pub attached-unsolved : (fault : RunFault) (Prints : Cert → Type 0) → IsFreeFault fault ⊎ IsCause n text file fault →
+      ((cause : RunFault) → IsCause n text file cause → IsFreeFault fault ⊎ (fault ≡ cause))
+      → IsLeftAlone fault (LeavesOnly moment left_since mid new (may_leave mid)) →
+      ((first : List Entry) → IsNetworksOwn n text first file → Goes first (λ last. fault ≡ faults.Journal journal_faults.Memory → StandsNow n text last (reads new))) →
+      Attached (fault_status fault) Prints
+  attached-unsolved fault Prints refused decided alone own =
+      let status = fault_status fault in
+      let caused : IsRefused status → IsCauseOf n text file status =
+      λ r. elim refused [ inl free ↦ absurd (failed-not-refused status (failed-status fault free) r) | inr cause ↦ status-cause n text file fault cause ] in
+      record {
+        file = file;
+        image = image;
+        caused = caused;
+        decided = λ other has.
+            let cause = cause-fault n text file other has in
+            elim (decided cause.0 cause.2) [ inl free ↦ inr (failed-status fault free) | inr e ↦ inl (ap fault_status e ∙ cause.1) ];
+        taken = no-refusal n text file status caused;
+        untouched = λ foreign. left-alone fault foreign alone;
+        own = λ first is.
+            let goes = own first is in
+            record {
+              last = goes.0;
+              begins = goes.1;
+              any_moment = behind-attach moment left_since may_leave counts_now old mid new (IsBetween n text first goes.0) attach goes.2;
+              held = λ printed. absurd (fault-not-ended fault printed);
+              stands = λ memory. goes.3 (memory-fault fault memory);
+              printed = λ ended. absurd (fault-not-ended fault (ended-printed status ended));
+            };
+      }
+
+  -- the run came to its end
+  pub attached-solved : (limited : IsLimited n) (found : Searched) (ended : Ended) (Prints : Cert → Type 0) → reads mid ≡ Some file → ((cause : RunFault) → ¬ IsCause n text file cause)
+      → IsResumed n o text (reads mid) found ended → IsValid n (cert_of n found) → Prints (cert_of n found)
+      → ((first : List Entry) → IsNetworksOwn n text first file → Goes first (λ last. Ends n text last found (reads new) (may_leave new))) → Attached (status_of ended) Prints
+  attached-solved limited found ended Prints is sound resumed valid prints own = record {
+    file = file;
+    image = image;
+    caused = λ r. absurd (ended-not-refused ended r);
+    decided = λ other has. let cause = cause-fault n text file other has in absurd (sound cause.0 cause.2);
+    taken = λ list stands are r. ended-not-refused ended r;
+    untouched = λ foreign. absurd (ended-not-refused ended (foreign-refused (status_of ended) foreign));
+    own = λ first at.
+        let goes = own first at in
+        record {
+          last = goes.0;
+          begins = goes.1;
+          any_moment = behind-attach moment left_since may_leave counts_now old mid new (IsBetween n text first goes.0) attach goes.2;
+          held = λ printed. ends-holds n text o first file limited at goes.0 found (reads new) (may_leave new) goes.3;
+          stands = λ memory. absurd (ended-not-failed ended (subst IsFailed (sym memory) tt));
+          printed = λ whole. print-of n text o first file limited at (reads mid) found ended goes.0 Prints is resumed goes.3.made valid prints;
+        };
+  }
+
+-- ---- from what was found to what was printed
+
+module _ (n : Net) (text : List ℕ) (o : Orders) (Leaves : (List ℕ → Type 0) → Type 0) (before : List ℕ →
+    Type 0) (reads : Option (List ℕ)) (images : List ℕ → Type 0) (Found Prints : Cert → Type 0) where
+  -- the same of what is printed in place of what was found
+  attached-as : (status : Status) → IsAttached n text o Leaves before reads images status Found → (IsEnded status → (c : Cert) → Found c → Prints c) →
+      IsAttached n text o Leaves before reads images status Prints
+  attached-as status at prints = record {
+    file = at.file;
+    image = at.image;
+    caused = at.caused;
+    decided = at.decided;
+    taken = at.taken;
+    untouched = at.untouched;
+    own = λ first is.
+        let run = at.own first is in
+        record {
+          last = run.last;
+          begins = run.begins;
+          any_moment = run.any_moment;
+          held = run.held;
+          stands = run.stands;
+          printed = λ whole.
+              let print = run.printed whole in
+              record { prints = prints whole (cert_of n (made_by run.last)) print.prints; solution = print.solution; grown = print.grown; no_worse = print.no_worse };
+        };
+  }
+
+  -- the search ended so, and the sink failed
+  attached-cut : (ended : Ended) → IsAttached n text o Leaves before reads images (status_of ended) Found → IsAttached n text o Leaves before reads images statuses.WriteFault Prints
+  attached-cut ended at = record {
+    file = at.file;
+    image = at.image;
+    caused = λ r. absurd r;
+    decided = λ cause has. elim (at.decided cause has) [
+      | inl is ↦ let fault = cause-fault n text at.file cause has in absurd (fault-not-ended fault.0 (subst IsPrinted (is ∙ sym fault.1) (ended-printed (status_of ended) (ended-whole ended))))
+      | inr failed ↦ absurd (ended-not-failed ended failed)
+    ];
+    taken = λ list stands are r. r;
+    untouched = λ foreign. absurd foreign;
+    own = λ first is.
+        let run = at.own first is in
+        record {
+          last = run.last;
+          begins = run.begins;
+          any_moment = run.any_moment;
+          held = λ printed. run.held (ended-printed (status_of ended) (ended-whole ended));
+          stands = λ memory. absurd (cc);
+          printed = λ whole. absurd whole;
+        };
+  }
+
+-- what is printed of a solution
+module _ (files : Option Files) (s : Solving) (network : Network) (read : ReadsUnder files s.net network) (within : IsWithinBudget (net_of network) s.nodes)
+    (Leaves : (List ℕ → Type 0) → Type 0) (before : List ℕ → Type 0) (reads : Option (List ℕ)) (images : List ℕ → Type 0) (old new : Option (List ℕ)) where
+  abbrev Prints : Cert → Type 0
+  Prints c = new ≡ behind old (text_of c)
+
+  pub journaled-printed : (solution : Solution) (status : Status) → EndsWith (status_of solution.ended) status → (IsEnded status → Prints (shown_cert solution.certificate))
+      → IsOpened (net_of network) (canonical_text network) (orders_of s) Leaves before reads images (Ok solution) → Journaled files s Leaves before reads images status Prints
+  journaled-printed solution status ends whole (inl none) = absurd (ended-not-unopened solution.ended none.0)
+  journaled-printed solution status (inl e) whole (inr at) = inr record {
+    network = network;
+    read = read;
+    within = within;
+    attached = subst (λ (t : Status). IsAttached (net_of network) (canonical_text network) (orders_of s) Leaves before reads images t Prints) (sym e)
+        (attached-as (net_of network) (canonical_text network) (orders_of s) Leaves before reads images (λ c. shown_cert solution.certificate ≡ c) Prints (status_of solution.ended) at
+        (λ ended c found. subst Prints found (whole (subst IsEnded (sym e) ended))));
+  }
+  journaled-printed solution status (inr e) whole (inr at) = inr record {
+    network = network;
+    read = read;
+    within = within;
+    attached = subst (λ (t : Status). IsAttached (net_of network) (canonical_text network) (orders_of s) Leaves before reads images t Prints) (sym e)
+        (attached-cut (net_of network) (canonical_text network) (orders_of s) Leaves before reads images (λ c. shown_cert solution.certificate ≡ c) Prints solution.ended at);
+  }
+
+  pub journaled-unsolved : (fault : RunFault) → IsOpened (net_of network) (canonical_text network) (orders_of s) Leaves before reads images (Err fault)
+      → Journaled files s Leaves before reads images (fault_status fault) Prints
+  journaled-unsolved fault (inl none) = inl none
+  journaled-unsolved fault (inr at) = inr record {
+    network = network;
+    read = read;
+    within = within;
+    attached = attached-as (net_of network) (canonical_text network) (orders_of s) Leaves before reads images (λ c. ⊥) Prints (fault_status fault) at (λ ended c found. absurd found);
+  }

@@ -1,0 +1,5 @@
+pub mod Decided
+mod Journaling
+mod Outcomes
+mod Resuming
+mod Solutions

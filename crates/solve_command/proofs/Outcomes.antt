@@ -1,0 +1,152 @@
+-- What an outcome of `solve` tells of the files.
+use Rattle.std.proofs.Common.{◌≡◌, ◌≢◌, ℕ, inl, inr, List, length, nat_lt, Bool, true, false, if◌then◌else◌, Option, None, Some, ℤ, pos, ◌*ℤ◌, int_le, refl, sym, ap, subst, ◌∙◌}
+use Rattle.pool_model.specs.Network.{Network, net_of}
+use Rattle.cert_format.specs.Cert.{Cert}
+use Rattle.cli_words.specs.Requests.{Solving}
+use Rattle.pool_model.specs.Plan.{Written}
+use Rattle.pool_model.specs.Claim.{Claimed, with_gap, with_bound, no_plan, Follows}
+use Rattle.row_model.specs.Trees.{tree_bound}
+use Rattle.row_model.specs.Entries.{Searched}
+use Rattle.search_run.specs.Found.{CoversStarts, HasNoStart}
+use Rattle.search_run.specs.declared.ended.Ended.{Ended}
+use Rattle.search_run.specs.declared.ended.Ended.TheVariants as ends
+use Rattle.tree_certificate.specs.Certificates.{claim_of}
+use Rattle.run_status.specs.Reads.{Files, ReadsUnder}
+use Rattle.edge_io.specs.Writing.{behind}
+use Rattle.solve_command.specs.Solution.{IsSolutionFrom, end_by, status_of}
+use Rattle.run_status.specs.Took.{IsCutShort, Part, whole, printed_by, Took, TookPart, unread_status}
+use Rattle.solve_command.specs.Journaled.{IsUnopened}
+use Rattle.journal_format.specs.declared.fault.JournalFault.TheVariants as journal_faults
+use Rattle.recorded_run.specs.declared.fault.RunFault.{RunFault}
+use Rattle.recorded_run.specs.declared.fault.RunFault.TheVariants as faults
+use Rattle.run_status.specs.declared.reading.Unread.{Unread}
+use Rattle.run_status.specs.declared.reading.Unread.TheVariants as unread
+use Rattle.solve_command.specs.SolveEnds.{EndsWith, IsHeldUp, IsJournalEnd, IsWithinBudget, JournalUnder}
+use Rattle.solve_command.specs.SolveEnds.{SolveEnds, SolvesAs, WithinUnder, fault_status, orders_of}
+use Rattle.run_status.specs.declared.status.Status.{Status}
+use Rattle.run_status.specs.declared.status.Status.TheVariants as statuses
+
+-- ---- a certificate of `solve` was printed, or a front of it
+
+-- a search that ended prints all of its certificate
+printed_end : (ended : Ended) → printed_by (status_of ended) ≡ whole
+printed_end ends.Closed = refl
+printed_end ends.Stopped = refl
+printed_end ends.Stuck = refl
+printed_end ends.Infeasible = refl
+printed_end ends.Undecided = refl
+
+pub took_whole : (files : Option Files) (s : Solving) (ended : Ended) (text : List ℕ) (old new : Option (List ℕ)) → SolvesAs files s (status_of ended) text → new ≡ behind old text
+    → Took (SolvesAs files s) (status_of ended) old new
+took_whole files s ended text old new answers e =
+    subst (λ (p : Part). TookPart p (SolvesAs files s) (status_of ended) old new) (sym (printed_end ended)) (text, answers, e)
+
+-- how a certificate's claim ends, of a network that was read
+module _ (files : Option Files) (s : Solving) (network : Network) (reads : ReadsUnder files s.net network) (within : IsWithinBudget (net_of network) s.nodes) where
+  abbrev here : WithinUnder files s
+  here = record { network = network; reads = reads; within = within }
+
+  by_gap : (before after : ℕ) (closed stuck : Bool) → SolveEnds files s before after (if closed then statuses.Closed else (if stuck then statuses.Stuck else statuses.Stopped))
+  by_gap before after true stuck = here
+  by_gap before after false true = here
+  by_gap before after false false = here
+
+  no_start : (best : Option Written) (bound : Option ℤ) (z : ℤ) → with_bound z ≡ claim_of (net_of network) best bound → CoversStarts (net_of network) best → HasNoStart (net_of network)
+  no_start best None z e covers = cc
+  no_start None (Some x) z e covers = covers
+  no_start (Some w) (Some x) z e covers = cc
+
+  by_claim : (before after : ℕ) (asked : ℤ) (nodes splits : ℕ) (claim : Claimed) (best : Option Written) (bound : Option ℤ) → claim ≡ claim_of (net_of network) best bound
+      → CoversStarts (net_of network) best → Follows (net_of network) claim → SolveEnds files s before after (end_by asked nodes splits claim)
+  by_claim before after asked nodes splits (with_gap plan cost base z gap) best bound e covers follows = by_gap before after (int_le gap (asked *ℤ pos base)) (nat_lt splits nodes)
+  by_claim before after asked nodes splits (with_bound z) best bound e covers follows = record { solvable = here; none = no_start best bound z e covers }
+  by_claim before after asked nodes splits no_plan best bound e covers follows = record { solvable = here; none = follows }
+
+  pub solution_ends : (before after : ℕ) (begun : Searched) (c : Cert) (end status : Status) →
+      IsSolutionFrom (net_of network) (orders_of s) begun end c → EndsWith end status → SolveEnds files s before after status
+  solution_ends before after begun c end status found ended = elim ended [
+    | inl is ↦ subst (SolveEnds files s before after) (sym (is ∙ found.ends))
+        (by_claim before after s.gap s.nodes (length c.splits) c.claim found.found.best (tree_bound (net_of network) found.found.tree)
+        (ap (λ (x : Cert). x.claim) found.is) found.search.starts found.follows)
+    | inr is ↦ subst (SolveEnds files s before after) (sym is) here
+  ]
+
+-- ---- a search gave no answer
+
+-- nothing was printed
+pub took_nothing : (Answer : Status → List ℕ → Type 0) (fault : RunFault) (taken : Option (List ℕ)) → Took Answer (fault_status fault) taken taken
+took_nothing Answer (faults.Journal journal_faults.Disk) taken = refl
+took_nothing Answer (faults.Journal journal_faults.NotAJournal) taken = refl
+took_nothing Answer (faults.Journal (journal_faults.UnknownVersion version)) taken = refl
+took_nothing Answer (faults.Journal journal_faults.OtherNetwork) taken = refl
+took_nothing Answer (faults.Journal (journal_faults.BadRecord number)) taken = refl
+took_nothing Answer (faults.Journal journal_faults.Memory) taken = refl
+took_nothing Answer (faults.OutOfOrder number) taken = refl
+
+-- only a failed disk is told as such, and no fault is told as one of shelf or sink
+pub disk_fault_is : (fault : RunFault) → fault_status fault ≡ statuses.DiskFault → fault ≡ faults.Journal journal_faults.Disk
+disk_fault_is (faults.Journal journal_faults.Disk) e = refl
+disk_fault_is (faults.Journal journal_faults.NotAJournal) e = cc
+disk_fault_is (faults.Journal (journal_faults.UnknownVersion version)) e = cc
+disk_fault_is (faults.Journal journal_faults.OtherNetwork) e = cc
+disk_fault_is (faults.Journal (journal_faults.BadRecord number)) e = cc
+disk_fault_is (faults.Journal journal_faults.Memory) e = cc
+disk_fault_is (faults.OutOfOrder number) e = cc
+
+pub no_read_fault : (fault : RunFault) → fault_status fault ≢ statuses.ReadFault
+no_read_fault (faults.Journal journal_faults.Disk) e = cc
+no_read_fault (faults.Journal journal_faults.NotAJournal) e = cc
+no_read_fault (faults.Journal (journal_faults.UnknownVersion version)) e = cc
+no_read_fault (faults.Journal journal_faults.OtherNetwork) e = cc
+no_read_fault (faults.Journal (journal_faults.BadRecord number)) e = cc
+no_read_fault (faults.Journal journal_faults.Memory) e = cc
+no_read_fault (faults.OutOfOrder number) e = cc
+
+pub no_write_fault : (fault : RunFault) → fault_status fault ≢ statuses.WriteFault
+no_write_fault (faults.Journal journal_faults.Disk) e = cc
+no_write_fault (faults.Journal journal_faults.NotAJournal) e = cc
+no_write_fault (faults.Journal (journal_faults.UnknownVersion version)) e = cc
+no_write_fault (faults.Journal journal_faults.OtherNetwork) e = cc
+no_write_fault (faults.Journal (journal_faults.BadRecord number)) e = cc
+no_write_fault (faults.Journal journal_faults.Memory) e = cc
+no_write_fault (faults.OutOfOrder number) e = cc
+
+-- a search that ended is told as a failure of nothing
+pub no_end_fault : (ended : Ended) (status : Status) → EndsWith (status_of ended) status → status ≢ statuses.DiskFault
+no_end_fault ended status (inr e) f = cc (e, f)
+no_end_fault ends.Closed status (inl e) f = cc (e, f)
+no_end_fault ends.Stopped status (inl e) f = cc (e, f)
+no_end_fault ends.Stuck status (inl e) f = cc (e, f)
+no_end_fault ends.Infeasible status (inl e) f = cc (e, f)
+no_end_fault ends.Undecided status (inl e) f = cc (e, f)
+
+pub no_unread_disk : (why : Unread) → unread_status why ≢ statuses.DiskFault
+no_unread_disk (unread.Refused cause) e = cc
+no_unread_disk unread.Failed e = cc
+no_unread_disk unread.Memory e = cc
+
+pub unread_unopened : (why : Unread) → IsUnopened (unread_status why)
+unread_unopened (unread.Refused cause) = tt
+unread_unopened unread.Failed = tt
+unread_unopened unread.Memory = tt
+
+-- it ends so where a network is read, what is asked is within the budget, and a journal is named
+module _ (files : Option Files) (s : Solving) (before after : ℕ) where
+  journal_ends : (status : Status) → IsJournalEnd status → JournalUnder files s → SolveEnds files s before after status
+  journal_ends statuses.DiskFault h under = under
+  journal_ends statuses.OtherNetwork h under = under
+  journal_ends (statuses.BadJournal number) h under = under
+  journal_ends (statuses.UnknownVersion version) h under = under
+  journal_ends statuses.NotAJournal h under = under
+  journal_ends status h under = absurd h
+
+  cut_ends : (status : Status) → IsCutShort status → SolveEnds files s before after status
+  cut_ends statuses.ReadFault h = tt
+  cut_ends statuses.OutOfMemory h = tt
+  cut_ends status h = absurd h
+
+  pub unsolved_ends : (network : Network) (status : Status) → ReadsUnder files s.net network → IsWithinBudget (net_of network) s.nodes →
+      IsHeldUp s.journal status → SolveEnds files s before after status
+  unsolved_ends network status reads within (inl cut) = cut_ends status cut
+  unsolved_ends network status reads within (inr held) =
+      journal_ends status held.0 record { solvable = record { network = network; reads = reads; within = within }; journal = held.1.0; named = held.1.1 }

@@ -1,0 +1,27 @@
+use Rattle.std.proofs.Common.{inl, ℕ, List, subst}
+use Rattle.node_journal.proofs.Runs.{quiet-start}
+use Rattle.run_status.specs.Reads.{ReadsUnder}
+use Rattle.solve_command.proofs.Outcomes.{no_unread_disk, unread_unopened}
+use Rattle.solve_command.proofs.solving.solve.Goals as goal
+
+pub returns-in-Ok-clause-took : goal.returns-in-Ok-clause-took
+returns-in-Ok-clause-took g c =
+    c.solve_network.ensures.took (g.S.Shelf.files c.args.shelf.now)
+    (subst (λ (name : List ℕ). ReadsUnder (g.S.Shelf.files c.args.shelf.now) name c.in-Ok.net) c.as_str.ensures.value c.in-Ok.ensures.reads)
+
+pub returns-in-Ok-clause-ends : goal.returns-in-Ok-clause-ends
+returns-in-Ok-clause-ends g c =
+    c.solve_network.ensures.ends (g.S.Shelf.files c.args.shelf.now) _ _
+    (subst (λ (name : List ℕ). ReadsUnder (g.S.Shelf.files c.args.shelf.now) name c.in-Ok.net) c.as_str.ensures.value c.in-Ok.ensures.reads)
+
+pub returns-in-Ok-clause-journal : goal.returns-in-Ok-clause-journal
+returns-in-Ok-clause-journal g c = λ file named tells.
+    c.solve_network.ensures.journal (g.S.Shelf.files c.args.shelf.now) file
+    (subst (λ (name : List ℕ). ReadsUnder (g.S.Shelf.files c.args.shelf.now) name c.in-Ok.net) c.as_str.ensures.value c.in-Ok.ensures.reads) named tells
+
+pub returns-in-Err-clause-journal : goal.returns-in-Err-clause-journal
+returns-in-Err-clause-journal g c = λ file named tells.
+    inl (unread_unopened c.in-Err.why, quiet-start g.D.Disk.moment g.D.Disk.left_since g.D.Disk.may_leave g.met.D.Disk.counts_now g.met.D.Disk.only_now c.args.disk.now)
+
+pub returns-in-Err-clause-disk_fault : goal.returns-in-Err-clause-disk_fault
+returns-in-Err-clause-disk_fault g c = λ e. absurd (no_unread_disk c.in-Err.why e)

@@ -1,0 +1,117 @@
+-- What a run with a journal leaves on the disk, and what it prints of it.
+use Rattle.std.specs.Prelude.{◌≡◌, ◌⊎◌, ℕ, List, Option}
+use Rattle.pool_model.specs.Network.{Net, Network, net_of}
+use Rattle.row_model.specs.Entries.{Entry, Searched, made_by, AreInOrder}
+use Rattle.cert_format.specs.Cert.{Cert}
+use Rattle.tree_certificate.specs.Certificates.{cert_of}
+use Rattle.cli_words.specs.Requests.{Solving}
+use Rattle.network_text.specs.Canonical.{canonical_text}
+use Rattle.journal_format.specs.Files.{Stands}
+use Rattle.journal_format.specs.Faults.{Has}
+use Rattle.journal_format.specs.Longest.{longest}
+use Rattle.node_journal.specs.Settled.{IsOnDisk}
+use Rattle.journal_format.specs.declared.fault.JournalFault.TheVariants as faults
+use Rattle.search_run.specs.Found.{IsGrown}
+use Rattle.search_run.specs.declared.orders.Orders.{Orders}
+use Rattle.recorded_run.specs.Recorded.{BeginsWith, HasOutOfOrder, IsBetween, IsNetworksOwn, StandsNow}
+use Rattle.run_status.specs.Reads.{Files, ReadsUnder}
+use Rattle.solve_command.specs.Resumed.{IsNoWorse}
+use Rattle.solve_command.specs.Solution.{IsSolutionFrom}
+use Rattle.solve_command.specs.SolveEnds.{IsEnded, IsPrinted, IsWithinBudget, orders_of}
+use Rattle.run_status.specs.declared.status.Status.{Status}
+use Rattle.run_status.specs.declared.status.Status.TheVariants as statuses
+
+-- ---- statuses
+
+-- the journal is refused
+abbrev pub IsRefused : Status → Type 0
+IsRefused statuses.OtherNetwork = Unit {0}
+IsRefused (statuses.BadJournal number) = Unit {0}
+IsRefused (statuses.UnknownVersion version) = Unit {0}
+IsRefused statuses.NotAJournal = Unit {0}
+IsRefused status = ⊥
+
+-- no journal of this network stands in the file
+abbrev pub IsForeign : Status → Type 0
+IsForeign statuses.OtherNetwork = Unit {0}
+IsForeign (statuses.UnknownVersion version) = Unit {0}
+IsForeign statuses.NotAJournal = Unit {0}
+IsForeign status = ⊥
+
+-- the disk failed, or memory ran out
+abbrev pub IsFailed : Status → Type 0
+IsFailed statuses.DiskFault = Unit {0}
+IsFailed statuses.OutOfMemory = Unit {0}
+IsFailed status = ⊥
+
+-- the run came to no file: the network is refused, or what is asked is over the budget; or shelf, disk or memory failed
+abbrev pub IsUnopened : Status → Type 0
+IsUnopened (statuses.NetworkRefused cause) = Unit {0}
+IsUnopened statuses.BudgetTooLarge = Unit {0}
+IsUnopened statuses.ReadFault = Unit {0}
+IsUnopened status = IsFailed status
+
+-- ---- causes
+
+-- The file is a cause of this status. A record is bad where it holds no entry's bytes, or else where it is the first of an entry that
+-- is not in order after those before it.
+abbrev pub IsCauseOf : Net → List ℕ → List ℕ → Status → Type 0
+IsCauseOf n text file statuses.OtherNetwork = Has text (longest n) file faults.OtherNetwork
+IsCauseOf n text file (statuses.BadJournal number) = Has text (longest n) file (faults.BadRecord number) ⊎ HasOutOfOrder n text file number
+IsCauseOf n text file (statuses.UnknownVersion version) = Has text (longest n) file (faults.UnknownVersion version)
+IsCauseOf n text file statuses.NotAJournal = Has text (longest n) file faults.NotAJournal
+IsCauseOf n text file status = ⊥
+
+-- ---- what stands on the disk
+
+-- the file is the only image, and it is the network's own for the list
+pub record Holds (n : Net) (text : List ℕ) (list : List Entry) (reads : Option (List ℕ)) (images : List ℕ → Type 0) : Type 0 where
+  pub file : List ℕ
+  pub on_disk : IsOnDisk file reads images
+  pub own : IsNetworksOwn n text list file
+
+-- What is printed of the tree that was found: its certificate. The search went on from the tree that it began with: the splits and
+-- proofs there stand, and bound and plan are no worse.
+pub record IsPrintOf (n : Net) (o : Orders) (begun found : Searched) (status : Status) (Prints : Cert → Type 0) : Type 0 where
+  pub prints : Prints (cert_of n found)
+  pub solution : IsSolutionFrom n o begun status (cert_of n found)
+  pub grown : IsGrown n o begun.tree found.tree
+  pub no_worse : IsNoWorse n begun found (cert_of n found)
+
+-- A run on a file that is the network's own and stands for the first list. A crash at any moment leaves what it might have left before,
+-- or the network's own file, for a list between the first and the last: so of two such lists one begins with the other. Where the run
+-- came to its end, the file stands for the last list, and what is printed is the certificate of its tree. Where memory ran out, the file
+-- that reads then stands for the last list too.
+pub record IsRunOn (n : Net) (text : List ℕ) (o : Orders) (first : List Entry) (Leaves : (List ℕ → Type 0) → Type 0) (before : List ℕ → Type 0) (reads : Option (List ℕ)) (images : List ℕ → Type 0)
+    (status : Status) (Prints : Cert → Type 0) : Type 0 where
+  pub last : List Entry
+  pub begins : BeginsWith last first
+  pub any_moment : Leaves (λ c. before c ⊎ IsBetween n text first last c)
+  pub held : IsPrinted status → Holds n text last reads images
+  pub stands : status ≡ statuses.OutOfMemory → StandsNow n text last reads
+  pub printed : IsEnded status → IsPrintOf n o (made_by first) (made_by last) status Prints
+
+-- A run that read a file, which was one of the images of before. A refusal has its cause in the file, and a cause that is there is
+-- answered, unless disk or memory failed; a file that stands for entries in order is never refused. A foreign file is left as it is.
+pub record IsAttached (n : Net) (text : List ℕ) (o : Orders) (Leaves : (List ℕ → Type 0) → Type 0) (before : List ℕ → Type 0) (reads : Option (List ℕ)) (images : List ℕ → Type 0)
+    (status : Status) (Prints : Cert → Type 0) : Type 0 where
+  pub file : List ℕ
+  pub image : before file
+  pub caused : IsRefused status → IsCauseOf n text file status
+  pub decided : (cause : Status) → IsCauseOf n text file cause → (status ≡ cause) ⊎ IsFailed status
+  pub taken : (list : List Entry) → Stands file text list → AreInOrder n list → ¬ IsRefused status
+  pub untouched : IsForeign status → Leaves before
+  pub own : (first : List Entry) → IsNetworksOwn n text first file → IsRunOn n text o first Leaves before reads images status Prints
+
+-- a run that read a network, and a file as its journal, for what is within the budget
+pub record AttachedUnder (files : Option Files) (s : Solving) (Leaves : (List ℕ → Type 0) → Type 0) (before : List ℕ → Type 0) (reads : Option (List ℕ)) (images : List ℕ → Type 0)
+    (status : Status) (Prints : Cert → Type 0) : Type 0 where
+  pub network : Network
+  pub read : ReadsUnder files s.net network
+  pub within : IsWithinBudget (net_of network) s.nodes
+  pub attached : IsAttached (net_of network) (canonical_text network) (orders_of s) Leaves before reads images status Prints
+
+-- A run whose words name a journal: it came to no file, and no image is new; or it read one. `Leaves` says what a crash at any moment
+-- leaves, `before` what a crash might have left before, `reads` what the file reads at the end, and `images` what a crash leaves then.
+abbrev pub Journaled : Option Files → Solving → ((List ℕ → Type 0) → Type 0) → (List ℕ → Type 0) → Option (List ℕ) → (List ℕ → Type 0) → Status → (Cert → Type 0) → Type 0
+Journaled files s Leaves before reads images status Prints = (IsUnopened status × Leaves before) ⊎ AttachedUnder files s Leaves before reads images status Prints

@@ -1,0 +1,62 @@
+-- What a printed certificate is for its network, and the status that it ends with.
+use Rattle.std.specs.Prelude.{◌≡◌, ◌⊎◌, ℕ, length, nat_lt, if◌then◌else◌, ℤ, pos, ◌*ℤ◌, int_le}
+use Rattle.pool_model.specs.Network.{Net}
+use Rattle.pool_model.specs.Claim.{Claimed, with_gap, with_bound, no_plan, Follows}
+use Rattle.row_model.specs.Entries.{Searched, start}
+use Rattle.cert_format.specs.Cert.{Cert}
+use Rattle.cert_format.specs.Valid.{IsValid}
+use Rattle.tree_certificate.specs.Certificates.{cert_of}
+use Rattle.search_core.specs.Cases.{IsSpent, IsStuck}
+use Rattle.search_run.specs.Orders.{options_of}
+use Rattle.search_run.specs.Runs.{IsRun}
+use Rattle.search_run.specs.Found.{IsFound}
+use Rattle.search_run.specs.declared.orders.Orders.{Orders}
+use Rattle.search_run.specs.declared.ended.Ended.{Ended}
+use Rattle.search_run.specs.declared.ended.Ended.TheVariants as ends
+use Rattle.run_status.specs.declared.status.Status.{Status}
+use Rattle.run_status.specs.declared.status.Status.TheVariants as statuses
+
+-- The status by what is claimed, the asked gap, the asked number of splits and those that there are. With a plan: closed where the
+-- gap is at most the asked one; else stopped, or stuck where there are fewer splits. Without a plan: infeasible where none obeys, else
+-- undecided.
+abbrev pub end_by : (asked : ℤ) (nodes splits : ℕ) → Claimed → Status
+end_by asked nodes splits (with_gap plan cost base bound gap) =
+    if int_le gap (asked *ℤ pos base) then statuses.Closed else (if nat_lt splits nodes then statuses.Stuck else statuses.Stopped)
+end_by asked nodes splits (with_bound bound) = statuses.Undecided
+end_by asked nodes splits no_plan = statuses.Infeasible
+
+-- the status by what is printed
+abbrev pub end_of : Orders → Cert → Status
+end_of o c = end_by o.gap o.nodes (length c.splits) c.claim
+
+-- the status by how the search ended
+abbrev pub status_of : Ended → Status
+status_of ends.Closed = statuses.Closed
+status_of ends.Stopped = statuses.Stopped
+status_of ends.Stuck = statuses.Stuck
+status_of ends.Infeasible = statuses.Infeasible
+status_of ends.Undecided = statuses.Undecided
+
+-- Why a search could not go on: under `Stuck` the least leaf can't be cut at any coordinate of the form, and under `Undecided` it
+-- can't, or there are as many splits as were asked for.
+pub record IsHeld (n : Net) (o : Orders) (found : Searched) (status : Status) : Type 0 where
+  pub stuck : status ≡ statuses.Stuck → IsStuck n o.form found
+  pub undecided : status ≡ statuses.Undecided → IsSpent (options_of o) found ⊎ IsStuck n o.form found
+
+-- The certificate of what a search found that began with this tree, with the status that it ends with. It is valid, and what it
+-- claims follows. What the steps were, and what follows of the tree and the plan, is said by `search_run`.
+pub record IsSolutionFrom (n : Net) (o : Orders) (begun : Searched) (status : Status) (c : Cert) : Type 0 where
+  pub found : Searched
+  pub ended : Ended
+  pub is : c ≡ cert_of n found
+  pub valid : IsValid n c
+  pub follows : Follows n c.claim
+  pub run : IsRun n o begun found ended
+  pub search : IsFound n o begun found ended
+  pub told : status ≡ status_of ended
+  pub ends : status ≡ end_of o c
+  pub held : IsHeld n o found status
+
+-- the same of a search that began with the root alone
+abbrev pub IsSolution : Net → Orders → Status → Cert → Type 0
+IsSolution n o status c = IsSolutionFrom n o start status c

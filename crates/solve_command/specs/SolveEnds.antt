@@ -1,0 +1,174 @@
+-- How `solve` ends.
+use Rattle.std.specs.Prelude.{◌≡◌, ◌⊎◌, ◌+◌, ◌*◌, ◌≤◌, ℕ, List, [], Option, None, Some}
+use Rattle.pool_model.specs.Network.{Net, Network, net_of}
+use Rattle.pool_model.specs.Plan.{Written, plan_of, Obeys}
+use Rattle.pool_model.specs.Starting.{IsStarting}
+use Rattle.pool_model.specs.Claim.{HasNoPlan}
+use Rattle.row_model.specs.Catalogue.{rows}
+use Rattle.row_model.specs.Trees.{most_splits}
+use Rattle.row_model.specs.Entries.{Entry, made_by, AreInOrder}
+use Rattle.cert_format.specs.Cert.{Cert}
+use Rattle.cert_checker.specs.Answers.{Spells}
+use Rattle.cli_words.specs.Requests.{Solving}
+use Rattle.search_run.specs.Found.{HasNoStart}
+use Rattle.search_run.specs.declared.orders.Orders.{Orders}
+use Rattle.journal_format.specs.declared.fault.JournalFault.TheVariants as journal_faults
+use Rattle.recorded_run.specs.declared.fault.RunFault.{RunFault}
+use Rattle.recorded_run.specs.declared.fault.RunFault.TheVariants as faults
+use Rattle.solve_command.specs.Solution.{IsSolutionFrom, status_of}
+use Rattle.run_status.specs.Reads.{Files, IsRefusedAs, ReadsNone, ReadsUnder}
+use Rattle.run_status.specs.Took.{IsCutShort, IsNetworkRefused, unread_status}
+use Rattle.solve_command.specs.declared.solving.SolveOutcome.{SolveOutcome}
+use Rattle.solve_command.specs.declared.solving.SolveOutcome.TheVariants as outcomes
+use Rattle.run_status.specs.declared.status.Status.{Status}
+use Rattle.run_status.specs.declared.status.Status.TheVariants as statuses
+
+-- the status of a search that gives no answer
+abbrev pub fault_status : RunFault → Status
+fault_status (faults.Journal journal_faults.Disk) = statuses.DiskFault
+fault_status (faults.Journal journal_faults.NotAJournal) = statuses.NotAJournal
+fault_status (faults.Journal (journal_faults.UnknownVersion version)) = statuses.UnknownVersion version
+fault_status (faults.Journal journal_faults.OtherNetwork) = statuses.OtherNetwork
+fault_status (faults.Journal (journal_faults.BadRecord number)) = statuses.BadJournal number
+fault_status (faults.Journal journal_faults.Memory) = statuses.OutOfMemory
+fault_status (faults.OutOfOrder number) = statuses.BadJournal number
+
+-- the status that it ends with
+abbrev pub solve_status : SolveOutcome → Status
+solve_status (outcomes.Ended ended) = status_of ended
+solve_status outcomes.OverBudget = statuses.BudgetTooLarge
+solve_status (outcomes.Unread why) = unread_status why
+solve_status (outcomes.Unsolved fault) = fault_status fault
+solve_status outcomes.WriteFault = statuses.WriteFault
+
+-- what the search is asked for
+abbrev pub orders_of : Solving → Orders
+orders_of s = record { form = s.form; nodes = s.nodes; gap = s.gap; rule = s.rule }
+
+-- how many rows of a network, node by node, a certificate may speak of
+abbrev pub most_rows : ℕ
+most_rows = 32000000
+
+-- The budget: no more splits than there may be, and of all nodes together no more rows than a certificate may speak of.
+pub record IsWithinBudget (n : Net) (nodes : ℕ) : Type 0 where
+  pub few : nodes ≤ most_splits
+  pub short : (2 * nodes + 1) * rows n ≤ most_rows
+
+-- The text of a certificate of the network in the file that is named, and the status that it ends with. The search began with the
+-- tree of entries that a journal held, or without one with the root alone.
+pub record SolvesAs (files : Option Files) (s : Solving) (status : Status) (text : List ℕ) : Type 0 where
+  pub network : Network
+  pub certificate : Cert
+  pub reads : ReadsUnder files s.net network
+  pub within : IsWithinBudget (net_of network) s.nodes
+  pub first : List Entry
+  pub in_order : AreInOrder (net_of network) first
+  pub alone : s.journal ≡ None → first ≡ []
+  pub solution : IsSolutionFrom (net_of network) (orders_of s) (made_by first) status certificate
+  pub spelled : Spells text certificate
+
+-- a network is read from the file that is named, and what is asked is within the budget
+pub record WithinUnder (files : Option Files) (s : Solving) : Type 0 where
+  pub network : Network
+  pub reads : ReadsUnder files s.net network
+  pub within : IsWithinBudget (net_of network) s.nodes
+
+-- a network is read, and what is asked is over the budget
+pub record OverUnder (files : Option Files) (s : Solving) : Type 0 where
+  pub network : Network
+  pub reads : ReadsUnder files s.net network
+  pub over : ¬ IsWithinBudget (net_of network) s.nodes
+
+-- no plan obeys the network
+pub record NoPlanUnder (files : Option Files) (s : Solving) : Type 0 where
+  pub solvable : WithinUnder files s
+  pub none : HasNoPlan (net_of solvable.network)
+
+-- no starting plan obeys it
+pub record NoStartUnder (files : Option Files) (s : Solving) : Type 0 where
+  pub solvable : WithinUnder files s
+  pub none : HasNoStart (net_of solvable.network)
+
+-- a starting plan obeys it
+pub record StartUnder (files : Option Files) (s : Solving) : Type 0 where
+  pub solvable : WithinUnder files s
+  pub plan : Written
+  pub starting : IsStarting (net_of solvable.network) plan
+  pub obeys : Obeys (net_of solvable.network) (plan_of (net_of solvable.network) plan)
+
+-- a network is read, what is asked is within the budget, and a journal is named
+pub record JournalUnder (files : Option Files) (s : Solving) : Type 0 where
+  pub solvable : WithinUnder files s
+  pub journal : List ℕ
+  pub named : s.journal ≡ Some journal
+
+-- Each status comes only where its line holds of what is asked; no other comes. The counts are of the bytes taken. Of the file of
+-- the journal more is said in `specs/Journaled.antt`.
+abbrev pub SolveEnds : Option Files → Solving → (before after : ℕ) → Status → Type 0
+SolveEnds files s before after statuses.Closed = WithinUnder files s
+SolveEnds files s before after statuses.Stopped = WithinUnder files s
+SolveEnds files s before after statuses.Stuck = WithinUnder files s
+SolveEnds files s before after statuses.Infeasible = NoPlanUnder files s
+SolveEnds files s before after statuses.Undecided = NoStartUnder files s
+SolveEnds files s before after statuses.WriteFault = WithinUnder files s
+SolveEnds files s before after statuses.BudgetTooLarge = OverUnder files s
+SolveEnds files s before after (statuses.NetworkRefused cause) = IsRefusedAs files s.net before after cause
+SolveEnds files s before after statuses.ReadFault = Unit {0}
+SolveEnds files s before after statuses.DiskFault = JournalUnder files s
+SolveEnds files s before after statuses.OtherNetwork = JournalUnder files s
+SolveEnds files s before after (statuses.BadJournal number) = JournalUnder files s
+SolveEnds files s before after (statuses.UnknownVersion version) = JournalUnder files s
+SolveEnds files s before after statuses.NotAJournal = JournalUnder files s
+SolveEnds files s before after statuses.OutOfMemory = Unit {0}
+SolveEnds files s before after status = ⊥
+
+-- a certificate was printed
+abbrev pub IsEnded : Status → Type 0
+IsEnded statuses.Closed = Unit {0}
+IsEnded statuses.Stopped = Unit {0}
+IsEnded statuses.Stuck = Unit {0}
+IsEnded statuses.Infeasible = Unit {0}
+IsEnded statuses.Undecided = Unit {0}
+IsEnded status = ⊥
+
+-- a certificate was printed, or the sink failed
+abbrev pub IsPrinted : Status → Type 0
+IsPrinted statuses.Closed = Unit {0}
+IsPrinted statuses.Stopped = Unit {0}
+IsPrinted statuses.Stuck = Unit {0}
+IsPrinted statuses.Infeasible = Unit {0}
+IsPrinted statuses.Undecided = Unit {0}
+IsPrinted statuses.WriteFault = Unit {0}
+IsPrinted status = ⊥
+
+-- a certificate with a plan was printed, or the sink failed
+abbrev pub IsPlanned : Status → Type 0
+IsPlanned statuses.Closed = Unit {0}
+IsPlanned statuses.Stopped = Unit {0}
+IsPlanned statuses.Stuck = Unit {0}
+IsPlanned statuses.WriteFault = Unit {0}
+IsPlanned status = ⊥
+
+-- the disk failed, or the journal is refused
+abbrev pub IsJournalEnd : Status → Type 0
+IsJournalEnd statuses.DiskFault = Unit {0}
+IsJournalEnd statuses.OtherNetwork = Unit {0}
+IsJournalEnd (statuses.BadJournal number) = Unit {0}
+IsJournalEnd (statuses.UnknownVersion version) = Unit {0}
+IsJournalEnd statuses.NotAJournal = Unit {0}
+IsJournalEnd status = ⊥
+
+-- the shelf failed, or memory ran out; or it ended at the journal that is named
+abbrev pub IsHeldUp : Option (List ℕ) → Status → Type 0
+IsHeldUp journal status = IsCutShort status ⊎ (IsJournalEnd status × ((file : List ℕ) × (journal ≡ Some file)))
+
+-- this status, or the sink failed
+abbrev pub EndsWith : Status → Status → Type 0
+EndsWith end status = (status ≡ end) ⊎ (status ≡ statuses.WriteFault)
+
+-- which status comes, by what the told files say, where the run isn't cut short
+pub record SolveDecided (told : Files) (s : Solving) (status : Status) : Type 0 where
+  pub no_network : ReadsNone told s.net → IsNetworkRefused status ⊎ IsCutShort status
+  pub over_budget : OverUnder (Some told) s → (status ≡ statuses.BudgetTooLarge) ⊎ IsCutShort status
+  pub within_budget : WithinUnder (Some told) s → IsPrinted status ⊎ IsHeldUp s.journal status
+  pub some_start : StartUnder (Some told) s → IsPlanned status ⊎ IsHeldUp s.journal status
