@@ -14,23 +14,23 @@ use Rattle.cert_stream.specs.Items.{Field}
 use Rattle.cert_stream.specs.Streams.{Reader, Ran, Finished, FailsLater, IsTextOf, IsMore, TookMore, fresh}
 use Rattle.cert_stream.proofs.Calls.{ran-then}
 use Rattle.cert_stream.proofs.Runs.{run-ends}
-use Rattle.cert_checker.specs.declared.refusal.Refusal.{Refusal}
-use Rattle.cert_checker.specs.declared.refusal.Refusal.TheVariants.{Text, WrongKind, WrongCost, WrongBound, WrongGap, Memory as NoMemory}
-use Rattle.cert_checker.specs.declared.stream.StreamRefusal.{StreamRefusal}
-use Rattle.cert_checker.specs.declared.stream.StreamRefusal.TheVariants.{Read, TooLong, Refused, Memory}
+use Rattle.proof_lines.specs.declared.refusal.Refusal.{Refusal}
+use Rattle.proof_lines.specs.declared.refusal.Refusal.TheVariants.{Text, WrongKind, WrongCost, WrongBound, WrongGap, Memory as NoMemory}
+use Rattle.proof_lines.specs.declared.stream_refusal.StreamRefusal.{StreamRefusal}
+use Rattle.proof_lines.specs.declared.stream_refusal.StreamRefusal.TheVariants.{Read, TooLong, Refused, Memory}
 use Rattle.cert_checker.specs.declared.verdict.Verdict.{Verdict}
 use Rattle.cert_checker.specs.declared.walk.Walked.{Walked}
 use Rattle.cert_checker.specs.Answers.{verdict_of}
 use Rattle.cert_checker.specs.Claims.{AreClaimed, IsClaimRefusal, HasRoom}
 use Rattle.cert_checker.specs.Parts.{IsRefusedFront, IsWalked}
-use Rattle.cert_checker.specs.Refusals.{IsFirstRefusal}
-use Rattle.cert_checker.specs.Runs.{Moment, Kept, IsWhy, Found, IsCause, Halts, of_fault, of_refusal}
+use Rattle.proof_lines.specs.Refusals.{IsFirstRefusal}
+use Rattle.proof_lines.specs.Runs.{Moment, Kept, IsWhy, Found, IsCause, Halts, of_fault, of_refusal}
 use Rattle.cert_checker.specs.Streams.{IsAnswered}
-use Rattle.cert_checker.specs.Trees.{tree_with}
+use Rattle.proof_lines.specs.Trees.{tree_with}
 use Rattle.cert_checker.proofs.Openings.{items-same}
 use Rattle.cert_checker.proofs.Order.{claim-refused, valid-is}
 use Rattle.cert_checker.proofs.Room.{has-room}
-use Rattle.cert_checker.proofs.Running.{kept-then, failed-then, failed-halts}
+use Rattle.proof_lines.proofs.Running.{kept-then, failed-then, failed-halts}
 use Rattle.cert_checker.proofs.Streaming.{answer-valid, answer-refused, answer-faulty, answer-read, answer-memory, answer-long}
 
 -- ---- what is answered at once

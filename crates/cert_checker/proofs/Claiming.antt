@@ -1,5 +1,5 @@
 -- What is claimed before its numbers.
-use Rattle.std.proofs.Common.{◌≡◌, ◌≢◌, ℕ, Bool, true, false, cond, ℤ, List, [], ◌∷◌, refl, sym, ap, subst}
+use Rattle.std.proofs.Common.{◌≡◌, ◌≢◌, ℕ, ℤ, [], ◌∷◌, refl, sym, ap, subst}
 use Rattle.std.proofs.lemmas.Bool.{ne_eqb}
 use Rattle.pool_model.specs.Network.{Net, counts_of}
 use Rattle.pool_model.specs.Claim.{with_gap}
@@ -9,15 +9,15 @@ use Rattle.plan_core.specs.declared.plan.Cost.{Cost}
 use Rattle.plan_core.specs.declared.plan.WrittenPlan.{WrittenPlan}
 use Rattle.cert_format.specs.declared.reading.Kind.{Kind}
 use Rattle.cert_format.specs.declared.reading.Kind.TheVariants as kinds
-use Rattle.cert_stream.specs.declared.items.State.{State}
 use Rattle.cert_stream.specs.declared.items.State.TheVariants as states
 use Rattle.cert_stream.specs.Items.{cost_is, bound_is, gap_is, shaped_state}
 use Rattle.cert_checker.specs.declared.opening.Opening.{Opening}
 use Rattle.cert_checker.specs.declared.opening.Opening.TheVariants as openings
-use Rattle.cert_checker.specs.Grammar.{kind_of}
-use Rattle.cert_checker.specs.Parts.{IsTaken, IsOpening, IsClaimRead, IsClaimOf}
-use Rattle.cert_checker.specs.Runs.{Moment, Run, IsReady}
-use Rattle.cert_checker.proofs.Running.{run-none}
+use Rattle.proof_lines.specs.Grammar.{kind_of}
+use Rattle.proof_lines.specs.Parts.{IsTaken}
+use Rattle.cert_checker.specs.Parts.{IsOpening, IsClaimRead, IsClaimOf}
+use Rattle.proof_lines.specs.Runs.{Moment, Run, IsReady}
+use Rattle.proof_lines.proofs.Running.{run-none}
 
 -- ---- kinds
 
@@ -26,17 +26,6 @@ kind-bound k e = ap kind_of e
 
 pub kind-none : (k : ℕ) → k ≢ 0 → k ≢ 1 → kind_of k ≡ kinds.NoPlan
 kind-none k h g = rw (ne_eqb k 0 h, ne_eqb k 1 g) refl
-
--- ---- states that go on
-
-pub left-going : (b : Bool) (x y : State) → x ≢ states.Ended → y ≢ states.Ended → cond b x y ≢ states.Ended
-left-going true x y h k = h
-left-going false x y h k = k
-
-pub shaped-going : (k : Kind) (s : List ℕ) → shaped_state k s ≢ states.Ended
-shaped-going kinds.Gap s = λ e. cc
-shaped-going kinds.Bound s = λ e. cc
-shaped-going kinds.NoPlan s = λ e. cc
 
 -- ---- what is opened
 

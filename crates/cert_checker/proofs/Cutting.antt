@@ -11,13 +11,13 @@ use Rattle.split_tree.specs.declared.fault.SplitFault.{SplitFault}
 use Rattle.cert_format.specs.declared.reading.Kind.{Kind}
 use Rattle.cert_stream.specs.declared.items.State.TheVariants as states
 use Rattle.cert_stream.specs.Items.{Field, splits, cut, cuts_left}
-use Rattle.cert_checker.specs.declared.refusal.Refusal.TheVariants.{Split as SplitAt}
-use Rattle.cert_checker.specs.declared.stream.StreamRefusal.TheVariants.{Refused}
-use Rattle.cert_checker.specs.Parts.{IsTaken, IsSplitList, IsWrongSplitList}
-use Rattle.cert_checker.specs.Runs.{Moment, Run, Halts, IsReady}
-use Rattle.cert_checker.proofs.Claiming.{left-going}
-use Rattle.cert_checker.proofs.Listing.{cut-left}
-use Rattle.cert_checker.proofs.Running.{run-then}
+use Rattle.proof_lines.specs.declared.refusal.Refusal.TheVariants.{Split as SplitAt}
+use Rattle.proof_lines.specs.declared.stream_refusal.StreamRefusal.TheVariants.{Refused}
+use Rattle.proof_lines.specs.Parts.{IsTaken}
+use Rattle.cert_checker.specs.Parts.{IsSplitList, IsWrongSplitList}
+use Rattle.proof_lines.specs.Runs.{Moment, Run, Halts, IsReady}
+use Rattle.proof_lines.proofs.States.{left-going, cut-left}
+use Rattle.proof_lines.proofs.Running.{run-then}
 use Rattle.cert_checker.proofs.Taking.{AreTaken, wrong-next}
 
 -- so many of a count of splits are read, and taken into a tree

@@ -14,17 +14,18 @@ use Rattle.cert_format.specs.Cert.{Cert, NodeProof, FitsShape, IsCert}
 use Rattle.cert_format.specs.declared.reading.Kind.{Kind}
 use Rattle.cert_format.specs.Valid.{no_proof}
 use Rattle.cert_stream.specs.Items.{Field, kind, shape, splits, cut, proofs, head, kind_number, claimed_kind, proof_items, items_of}
-use Rattle.cert_checker.specs.declared.refusal.Refusal.{Refusal}
-use Rattle.cert_checker.specs.declared.refusal.Refusal.TheVariants.{Shape, Split as SplitAt, ProofPlace, Proof as ProofOf, Memory}
+use Rattle.proof_lines.specs.declared.refusal.Refusal.{Refusal}
+use Rattle.proof_lines.specs.declared.refusal.Refusal.TheVariants.{Shape, Split as SplitAt, ProofPlace, Proof as ProofOf, Memory}
 use Rattle.cert_checker.specs.declared.opening.Opening.{Opening}
 use Rattle.cert_checker.specs.declared.opening.Opening.TheVariants as openings
-use Rattle.cert_checker.specs.Refusals.{node_at, IsPlaced, HasPlanFault, IsFirstRefusal}
-use Rattle.cert_checker.specs.Trees.{AreSplits, IsFirstSplit, IsFirstPlace, IsTreeRefusal}
+use Rattle.proof_lines.specs.Refusals.{node_at, IsPlaced, HasPlanFault, IsFirstRefusal}
+use Rattle.proof_lines.specs.Trees.{AreSplits, IsFirstSplit, IsFirstPlace, IsTreeRefusal}
 use Rattle.cert_checker.specs.Claims.{IsClaimCost}
-use Rattle.cert_checker.specs.Parts.{opening_kind, opening_items, opening_cost, IsPlanned, IsClaimOf, IsWrongPlan, IsWrongSplitList, IsWrongLine, IsUnproved, IsWrongLineList, IsRefusedFront}
+use Rattle.proof_lines.specs.Parts.{IsWrongLine, IsUnproved, IsWrongLineList}
+use Rattle.cert_checker.specs.Parts.{opening_kind, opening_items, opening_cost, IsPlanned, IsClaimOf, IsWrongPlan, IsWrongSplitList, IsRefusedFront}
 use Rattle.cert_checker.proofs.Order.{shape-refused, plan-refused, tree-refused}
 use Rattle.cert_checker.proofs.Within.{order-within}
-use Rattle.cert_checker.proofs.Outcomes.{splits-of, proof-tree}
+use Rattle.proof_lines.proofs.Outcomes.{splits-of, proof-tree}
 use Rattle.cert_checker.proofs.Fields.{lines-front, lines-same, line-head}
 use Rattle.cert_checker.proofs.Openings.{behind_plan, behind_lines, kind-same, begins-kind, begins-plan, begins-opening, begins-splits, all-splits, begins-lines}
 

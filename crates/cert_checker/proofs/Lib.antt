@@ -1,26 +1,17 @@
 -- Lemmas behind the checker.
-pub mod Lines
 pub mod Lowest
 pub mod Within
 pub mod Taking
 pub mod Order
-pub mod Raising
-pub mod Outcomes
 pub mod Room
 pub mod Followed
-pub mod Running
-pub mod Coming
 pub mod Fields
 pub mod Openings
 pub mod Fronts
 pub mod Listing
 pub mod Claiming
 pub mod Cutting
-pub mod Going
 pub mod Streaming
-pub mod Parting
-pub mod Placing
-pub mod Judged
 pub mod Walking
 pub mod Answering
 pub mod Texts

@@ -15,13 +15,13 @@ use Rattle.plan_core.specs.declared.fault.PlanFault.{PlanFault}
 use Rattle.plan_core.specs.declared.fault.PlanFault.TheVariants as faults
 use Rattle.cert_format.specs.Cert.{Cert, NodeProof}
 use Rattle.cert_format.specs.Valid.{tree_of, IsShown, IsValid}
-use Rattle.cert_checker.specs.declared.refusal.Refusal.{Refusal}
-use Rattle.cert_checker.specs.declared.refusal.Refusal.TheVariants.{Text, Shape, Plan, Split as SplitAt, ProofPlace, Proof as ProofOf, WrongKind, WrongCost, WrongBound, WrongGap, Memory}
-use Rattle.cert_checker.specs.Refusals.{HasPlanFault, IsWrongKind, IsWrongCost, IsWrongBound, IsWrongGap, Refuses, number, about, IsFirstRefusal}
-use Rattle.cert_checker.specs.Trees.{AreSplits, ArePlaced, AreProved, IsFirstSplit, IsFirstPlace, IsBoundOf, IsTreeRefusal}
+use Rattle.proof_lines.specs.declared.refusal.Refusal.{Refusal}
+use Rattle.proof_lines.specs.declared.refusal.Refusal.TheVariants.{Text, Shape, Plan, Split as SplitAt, ProofPlace, Proof as ProofOf, WrongKind, WrongCost, WrongBound, WrongGap, Memory}
+use Rattle.proof_lines.specs.Refusals.{HasPlanFault, IsWrongKind, IsWrongCost, IsWrongBound, IsWrongGap, Refuses, number, about, IsFirstRefusal}
+use Rattle.proof_lines.specs.Trees.{AreSplits, ArePlaced, AreProved, IsFirstSplit, IsFirstPlace, IsBoundOf, IsTreeRefusal}
 use Rattle.cert_checker.specs.Claims.{IsClaimCost, IsPlanRefusal, IsOtherCost, AreClaimed, IsClaimRefusal}
 use Rattle.row_book.proofs.AgreedFaults.{no-fault}
-use Rattle.cert_checker.proofs.Lines.{all-placed}
+use Rattle.proof_lines.proofs.Lines.{all-placed}
 
 -- a certificate gives no cause of this number
 abbrev Clears : Net → Cert → ℕ → Type 0

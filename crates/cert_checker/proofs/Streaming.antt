@@ -15,12 +15,12 @@ use Rattle.cert_stream.specs.Items.{Field}
 use Rattle.cert_stream.specs.Streams.{Reader, fresh, IsRest, IsTextOf, IsMore, FailsLater}
 use Rattle.cert_stream.proofs.Runs.{run-fails}
 use Rattle.cert_checker.specs.Answers.{Spells, GivesFirst, IsRefused, verdict_of}
-use Rattle.cert_checker.specs.declared.refusal.Refusal.{Refusal}
-use Rattle.cert_checker.specs.declared.refusal.Refusal.TheVariants.{Text, Memory as NoMemory}
-use Rattle.cert_checker.specs.declared.stream.StreamRefusal.{StreamRefusal}
-use Rattle.cert_checker.specs.declared.stream.StreamRefusal.TheVariants.{Read, TooLong, Refused, Memory}
+use Rattle.proof_lines.specs.declared.refusal.Refusal.{Refusal}
+use Rattle.proof_lines.specs.declared.refusal.Refusal.TheVariants.{Text, Memory as NoMemory}
+use Rattle.proof_lines.specs.declared.stream_refusal.StreamRefusal.{StreamRefusal}
+use Rattle.proof_lines.specs.declared.stream_refusal.StreamRefusal.TheVariants.{Read, TooLong, Refused, Memory}
 use Rattle.cert_checker.specs.declared.verdict.Verdict.{Verdict}
-use Rattle.cert_checker.specs.Refusals.{IsFirstRefusal}
+use Rattle.proof_lines.specs.Refusals.{IsFirstRefusal}
 use Rattle.cert_checker.specs.Streams.{IsAnswer, IsStreamAnswer, IsStreamedAs}
 use Rattle.cert_checker.proofs.Followed.{valid-follows}
 use Rattle.cert_checker.proofs.Order.{valid-clear}

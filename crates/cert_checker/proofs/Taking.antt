@@ -8,7 +8,7 @@ use Rattle.split_tree.specs.Faults.{Holds}
 use Rattle.split_tree.specs.declared.fault.SplitFault.{SplitFault}
 use Rattle.split_tree.specs.declared.fault.SplitFault.TheVariants.{NotALeaf, BadCoord, CutOutside, TooManySplits}
 use Rattle.split_tree.specs.Splits.{Splits, IsOf, MayCome}
-use Rattle.cert_checker.specs.Trees.{IsFirstSplit}
+use Rattle.proof_lines.specs.Trees.{IsFirstSplit}
 use Rattle.cert_checker.proofs.Within.{box_within, order-within}
 
 -- the first so many splits are taken

@@ -3,9 +3,9 @@ use Rattle.std.proofs.Common.{◌≡◌, ℕ, inl, inr, List, Option, Some, Resu
 use Rattle.pool_model.specs.Network.{Net}
 use Rattle.pool_model.specs.Claim.{Claimed}
 use Rattle.cert_checker.specs.Streams.{IsAnswer, IsStreamAnswer, IsStreamedAs}
-use Rattle.cert_checker.specs.declared.refusal.Refusal.{Refusal}
-use Rattle.cert_checker.specs.declared.stream.StreamRefusal.{StreamRefusal}
-use Rattle.cert_checker.specs.declared.stream.StreamRefusal.TheVariants.{Refused}
+use Rattle.proof_lines.specs.declared.refusal.Refusal.{Refusal}
+use Rattle.proof_lines.specs.declared.stream_refusal.StreamRefusal.{StreamRefusal}
+use Rattle.proof_lines.specs.declared.stream_refusal.StreamRefusal.TheVariants.{Refused}
 use Rattle.cert_checker.specs.declared.verdict.Verdict.{Verdict}
 
 -- the bytes that are told are those that were answered on

@@ -1,5 +1,5 @@
 -- The parts of a certificate, put together as they are read.
-use Rattle.std.proofs.Common.{◌≡◌, ◌≢◌, ℕ, ◌<◌, ℤ, ◌^◌, Vec, Global, List, [], ◌∷◌, ◌++◌, length, get_or, Option, None, if◌then◌else◌, refl, sym, ap, subst, ◌∙◌, append_assoc, arith}
+use Rattle.std.proofs.Common.{◌≡◌, ◌≢◌, ℕ, ℤ, List, [], ◌∷◌, ◌++◌, length, Option, refl, sym, ap, subst, ◌∙◌, append_assoc}
 use Rattle.std.specs.Prelude.{map}
 use Rattle.std.specs.List.{flat_map}
 use Rattle.std.proofs.lemmas.List.{append-nil}
@@ -9,8 +9,6 @@ use Rattle.cert_format.specs.Cert.{NodeProof, FitsShape, ClaimFits}
 use Rattle.cert_format.specs.Views.{shown_claim}
 use Rattle.cert_format.specs.declared.certificate.Claim.{Claim}
 use Rattle.cert_format.specs.declared.reading.Kind.{Kind}
-use Rattle.pool_model.specs.Starting.{least_below}
-use Rattle.row_model.specs.Trees.{Split, is_cut}
 use Rattle.split_tree.specs.Splits.{Splits, IsOf}
 use Rattle.cert_stream.specs.declared.fault.ItemFault.{ItemFault}
 use Rattle.cert_stream.specs.declared.items.State.TheVariants as states
@@ -19,19 +17,18 @@ use Rattle.cert_stream.specs.Items.{claim_items, items_of, claim_state, shaped_s
 use Rattle.cert_stream.specs.Streams.{IsAtEnd}
 use Rattle.cert_checker.specs.declared.opening.Opening.{Opening}
 use Rattle.cert_checker.specs.declared.opening.Opening.TheVariants as openings
-use Rattle.cert_checker.specs.declared.refusal.Refusal.TheVariants.{Shape}
-use Rattle.cert_checker.specs.declared.stream.StreamRefusal.{StreamRefusal}
-use Rattle.cert_checker.specs.declared.stream.StreamRefusal.TheVariants.{Refused}
-use Rattle.cert_checker.specs.Grammar.{kind_of}
-use Rattle.cert_checker.specs.Parts.{IsTaken, IsBegun, IsOpening, IsPlanned, IsWrongPlan, IsSplitList, IsWrongSplitList, IsLineList, IsWrongLineList, AreProofs}
-use Rattle.cert_checker.specs.Parts.{AreWrongProofs, IsClaimOf, IsClaimRead, IsRefusedFront, IsWalked, opening_kind, opening_items, opening_cost}
-use Rattle.cert_checker.specs.Runs.{Moment, Run, Failed, Halts, IsReady, of_fault}
-use Rattle.cert_checker.specs.Trees.{IsBoundOf, tree_with}
-use Rattle.cert_checker.proofs.Claiming.{shaped-going}
+use Rattle.proof_lines.specs.declared.refusal.Refusal.TheVariants.{Shape}
+use Rattle.proof_lines.specs.declared.stream_refusal.StreamRefusal.{StreamRefusal}
+use Rattle.proof_lines.specs.declared.stream_refusal.StreamRefusal.TheVariants.{Refused}
+use Rattle.proof_lines.specs.Grammar.{kind_of}
+use Rattle.proof_lines.specs.Parts.{IsTaken, AreProofs, AreWrongProofs}
+use Rattle.cert_checker.specs.Parts.{IsBegun, IsOpening, IsPlanned, IsWrongPlan, IsSplitList, IsWrongSplitList}
+use Rattle.cert_checker.specs.Parts.{IsClaimOf, IsClaimRead, IsRefusedFront, IsWalked, opening_kind, opening_items, opening_cost}
+use Rattle.proof_lines.specs.Runs.{Moment, Run, Failed, Halts, IsReady, of_fault}
+use Rattle.proof_lines.specs.Trees.{IsBoundOf}
+use Rattle.proof_lines.proofs.States.{shaped-going}
 use Rattle.cert_checker.proofs.Fronts.{shape-front, plan-front, split-refused, line-refused, claim-cost}
-use Rattle.cert_checker.proofs.Outcomes.{splits-of, bound-is}
-use Rattle.cert_checker.proofs.Raising.{least-tree}
-use Rattle.cert_checker.proofs.Running.{run-then, halts-then, failed-then, failed-halts}
+use Rattle.proof_lines.proofs.Running.{run-then, halts-then, failed-then, failed-halts}
 
 -- ---- the kind and the shape
 
@@ -131,33 +128,6 @@ module _ (n : Net) (m q : Moment) (o : Opening) (tree : Splits) (done : IsCutTo 
       (λ items c w cert more is e. line-refused n o done.planned tree done.is w.count w.behind more c cert w.wrong is
       (e ∙ ap (λ (x : List Field). kind (kind_number (opening_kind o)) ∷ shape (counts_of n) ∷ x)
       (regroup items more ∙ ap (λ (x : List Field). opening_items o ++ (split_items tree ++ (x ++ more))) w.items_are))) done.run b
-
--- the bounds of the nodes are fewer than 32 bits can number
-pub few-bounds : (n : Net) (tree : Splits) (claimed : Kind) (h q : Moment) (count : ℕ) (bounds : Vec (Option ℤ) Global) → IsOf n tree
-    → IsTaken (λ (v : Vec (Option ℤ) Global). IsLineList n tree.list claimed count v.items) h q bounds → length bounds.items < 2 ^ 32
-few-bounds n tree claimed h q count bounds is taken = let long = taken.is.bounds_are.long in let few = is.few in omega (arith, long, few)
-
--- the bound of the tree, from those of its nodes
-pub proofs-of : (n : Net) (tree : Splits) (claimed : Kind) (m h q : Moment) (count : ℕ) (bounds : Vec (Option ℤ) Global) (bound : Option ℤ) → IsOf n tree
-    → Run m h (proofs count ∷ []) → IsTaken (λ (v : Vec (Option ℤ) Global). IsLineList n tree.list claimed count v.items) h q bounds
-    → bound ≡ least_below (λ node. if is_cut tree.list node then None else get_or bounds.items node None) (length bounds.items) → IsTaken (AreProofs n tree.list claimed) m q bound
-proofs-of n tree claimed m h q count bounds bound is run taken least = record {
-  items = proofs count ∷ taken.items;
-  state = taken.state;
-  run = run-then m h q (proofs count ∷ []) taken.items run taken.run;
-  ready = taken.ready;
-  is = record {
-    lines = taken.is.lines;
-    items_are = ap (λ (x : List Field). proofs count ∷ x) taken.is.items_are ∙ ap (λ (i : ℕ). proofs i ∷ flat_map proof_items taken.is.lines) (sym taken.is.long);
-    tree = bound-is n tree.list taken.is.lines bound (splits-of n tree is) taken.is.placed taken.is.proved (least ∙ least-tree n (tree_with tree.list taken.is.lines) bounds.items taken.is.bounds_are);
-    next_is = taken.is.next_is;
-  };
-}
-
-pub lines-halt : (n : Net) (list : List Split) (m h q : Moment) (count : ℕ) (r : StreamRefusal) → Run m h (proofs count ∷ []) → Halts (IsWrongLineList n list count) h q r
-    → Halts (AreWrongProofs n list) m q r
-lines-halt n list m h q count r run b =
-    halts-then (IsWrongLineList n list count) (AreWrongProofs n list) m h q (proofs count ∷ []) r (λ items c w. record { count = count; behind = items; items_are = refl; wrong = w }) run b
 
 -- all up to the proofs was read
 pub record IsProvedTo (n : Net) (m h : Moment) (o : Opening) (tree : Splits) (bound : Option ℤ) : Type 0 where

@@ -6,11 +6,11 @@ use Rattle.cert_text.specs.Lines.{IsFaultyLine}
 use Rattle.cert_format.specs.Cert.{Cert, IsCert}
 use Rattle.cert_format.specs.Text.{text_of}
 use Rattle.cert_format.specs.Valid.{IsValid}
-use Rattle.cert_checker.specs.declared.refusal.Refusal.{Refusal}
-use Rattle.cert_checker.specs.declared.refusal.Refusal.TheVariants.{Text, Memory}
+use Rattle.proof_lines.specs.declared.refusal.Refusal.{Refusal}
+use Rattle.proof_lines.specs.declared.refusal.Refusal.TheVariants.{Text, Memory}
 use Rattle.cert_checker.specs.declared.verdict.Verdict.{Verdict}
 use Rattle.cert_checker.specs.declared.verdict.Verdict.TheVariants as verdicts
-use Rattle.cert_checker.specs.Refusals.{IsFirstRefusal}
+use Rattle.proof_lines.specs.Refusals.{IsFirstRefusal}
 
 -- the numbers of a claim
 abbrev pub verdict_of : Claimed → Verdict

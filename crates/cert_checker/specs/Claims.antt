@@ -6,9 +6,9 @@ use Rattle.pool_model.specs.Claim.{Claimed, with_gap, with_bound, no_plan}
 use Rattle.plan_core.specs.Faults.{IsCostOf}
 use Rattle.plan_core.specs.declared.plan.Cost.{Cost}
 use Rattle.plan_core.specs.declared.fault.PlanFault.{PlanFault}
-use Rattle.cert_checker.specs.declared.refusal.Refusal.{Refusal}
-use Rattle.cert_checker.specs.declared.refusal.Refusal.TheVariants.{Plan, WrongKind, WrongCost, WrongBound, WrongGap}
-use Rattle.cert_checker.specs.Refusals.{HasPlanFault, IsWrongKind, IsWrongBound, IsWrongGap}
+use Rattle.proof_lines.specs.declared.refusal.Refusal.{Refusal}
+use Rattle.proof_lines.specs.declared.refusal.Refusal.TheVariants.{Plan, WrongKind, WrongCost, WrongBound, WrongGap}
+use Rattle.proof_lines.specs.Refusals.{HasPlanFault, IsWrongKind, IsWrongBound, IsWrongGap}
 
 -- what the plan that is claimed costs, where there is one
 abbrev pub IsClaimCost : Net → Claimed → Option Cost → Type 0

@@ -1,10 +1,4 @@
-pub mod Refusals
 pub mod Answers
 pub mod Claims
-pub mod Trees
-pub mod Judging
-pub mod Runs
-pub mod Grammar
 pub mod Parts
-pub mod Lines
 pub mod Streams

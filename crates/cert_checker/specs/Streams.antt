@@ -5,12 +5,12 @@ use Rattle.pool_model.specs.Claim.{Claimed, Follows}
 use Rattle.cert_format.specs.Cert.{Cert}
 use Rattle.edge_io.specs.Counts.{Rose}
 use Rattle.cert_stream.specs.Streams.{IsRest, TookMore}
-use Rattle.cert_checker.specs.declared.refusal.Refusal.TheVariants.{Memory as NoMemory}
-use Rattle.cert_checker.specs.declared.stream.StreamRefusal.{StreamRefusal}
-use Rattle.cert_checker.specs.declared.stream.StreamRefusal.TheVariants.{Read, TooLong, Refused, Memory}
+use Rattle.proof_lines.specs.declared.refusal.Refusal.TheVariants.{Memory as NoMemory}
+use Rattle.proof_lines.specs.declared.stream_refusal.StreamRefusal.{StreamRefusal}
+use Rattle.proof_lines.specs.declared.stream_refusal.StreamRefusal.TheVariants.{Read, TooLong, Refused, Memory}
 use Rattle.cert_checker.specs.declared.verdict.Verdict.{Verdict}
 use Rattle.cert_checker.specs.Answers.{Spells, IsAccepted, IsRefused, verdict_of}
-use Rattle.cert_checker.specs.Runs.{Moment, Kept}
+use Rattle.proof_lines.specs.Runs.{Moment, Kept}
 
 -- What was answered on the bytes of a file: they are accepted, and what their certificate claims follows, or they are refused as a
 -- text is, and are at most so many; or they are more. Of a failed read and of want of memory nothing is said here.

@@ -7,11 +7,11 @@ ghost use Rattle.cert_format.specs.Cert.{Cert};
 ghost use Rattle.cert_format.specs.Valid.{IsValid};
 ghost use Rattle.cert_checker.specs.Answers.{Spells, IsAccepted, IsRefused, IsTakenAs};
 
-use crate::refusal::Refusal;
-use crate::stream::{StreamRefusal, check_stream};
+use crate::stream::check_stream;
 use crate::verdict::Verdict;
 use blend_network::Network;
 use edge_io::SliceShelf;
+use proof_lines::{Refusal, StreamRefusal};
 use std::alloc::Global;
 
 /// What the certificate of this text says of the network, or the first cause to refuse it.

@@ -6,10 +6,10 @@ ghost use Rattle.cert_format.specs.Views.{shown_claim};
 ghost use Rattle.cert_checker.specs.Answers.{verdict_of};
 ghost use Rattle.cert_checker.specs.Claims.{IsClaimRefusal, IsBoundRefusal, AreClaimed, HasRoom};
 
-use crate::refusal::Refusal;
 use crate::verdict::Verdict;
 use cert_format::Claim;
 use plan_core::Cost;
+use proof_lines::Refusal;
 
 /// The numbers of the claim, or the first of them that is not what the plan costs and the tree shows.
 pub(crate) fn check_claim(

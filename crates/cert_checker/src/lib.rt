@@ -8,8 +8,8 @@
 //! the end of the file. What a valid certificate claims follows for every plan of the network.
 //!
 //! It rests on the text, on the rules of plans and on the rows of the relaxations, and on nothing of the search that made
-//! the certificate. `specs/Refusals.antt` says when each refusal comes, `specs/Answers.antt` what an answer says of a text, and
-//! `specs/Streams.antt` what one says of a file.
+//! the certificate. The proofs on the tree are judged by `proof_lines` below it; `specs/Refusals.antt` there says when each refusal
+//! comes. Here `specs/Answers.antt` says what an answer says of a text, and `specs/Streams.antt` what one says of a file.
 //!
 //! Proofs above may cite, of `proofs/`: `Followed` (what a valid certificate claims follows), `Order` (the first cause to refuse a
 //! certificate, and that a valid one has none), `Streaming` (the answer of a stream, from what was walked) and `Lowest` (a tree's
@@ -18,19 +18,14 @@
 
 mod checking;
 mod claim;
-mod judge;
 mod laws;
-mod line_judge;
-mod nodes;
 mod opening;
-mod refusal;
-mod steps;
 mod stream;
 mod verdict;
 mod walk;
 
 pub use checking::check;
 pub use laws::valid_law;
-pub use refusal::Refusal;
-pub use stream::{StreamRefusal, check_stream};
+pub use proof_lines::{Refusal, StreamRefusal};
+pub use stream::check_stream;
 pub use verdict::Verdict;

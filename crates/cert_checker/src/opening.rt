@@ -6,17 +6,17 @@ ghost use Rattle.cert_format.specs.declared.reading.Kind.TheVariants as kinds;
 ghost use Rattle.plan_core.specs.Views.{shown_plan};
 ghost use Rattle.cert_stream.specs.declared.items.State.TheVariants as states;
 ghost use Rattle.cert_stream.specs.Items.{weight as weight_item, outflow as outflow_item, direct as direct_item, directs_left, shaped_state};
-ghost use Rattle.cert_checker.specs.Grammar.{kind_of, weights_left, outflows_left};
-ghost use Rattle.cert_checker.specs.Parts.{Takes, Never, IsList, IsPlan, IsOpening, IsWrongPlan, opening_cost};
-ghost use Rattle.cert_checker.specs.Runs.{moment, IsReady};
+ghost use Rattle.proof_lines.specs.Grammar.{kind_of, weights_left, outflows_left};
+ghost use Rattle.proof_lines.specs.Parts.{Takes};
+ghost use Rattle.cert_checker.specs.Parts.{Never, IsList, IsPlan, IsOpening, IsWrongPlan, opening_cost};
+ghost use Rattle.proof_lines.specs.Runs.{moment, IsReady};
 
-use crate::refusal::Refusal;
-use crate::steps::{base_pair, direct, outflow, weight};
-use crate::stream::StreamRefusal;
 use blend_network::Network;
 use cert_stream::CertReader;
 use edge_io::Shelf;
 use plan_core::{Cost, WrittenPlan, check_plan};
+use proof_lines::steps::{base_pair, direct, outflow, weight};
+use proof_lines::{Refusal, StreamRefusal};
 use std::alloc::Global;
 
 /// What is claimed, before its numbers are read: the plan and what it costs, where a gap is claimed.

@@ -9,79 +9,19 @@ ghost use Rattle.cert_format.specs.Valid.{IsValid};
 ghost use Rattle.cert_stream.specs.Streams.{TookMore, fresh};
 ghost use Rattle.cert_checker.specs.Answers.{Spells};
 ghost use Rattle.cert_checker.specs.Parts.{IsRefusedFront};
-ghost use Rattle.cert_checker.specs.Runs.{Moment, moment, Halts, of_fault, of_refusal};
+ghost use Rattle.proof_lines.specs.Runs.{Moment, moment, Halts};
 ghost use Rattle.cert_checker.specs.Streams.{IsAnswered, IsStreamAnswer, IsStreamedAs};
-ghost use Rattle.cert_checker.specs.declared.refusal.Refusal.TheVariants as refusals;
-ghost use Rattle.cert_checker.specs.declared.stream.StreamRefusal.TheVariants as streams;
+ghost use Rattle.proof_lines.specs.declared.refusal.Refusal.TheVariants as refusals;
+ghost use Rattle.proof_lines.specs.declared.stream_refusal.StreamRefusal.TheVariants as streams;
 
 use crate::claim::check_claim;
-use crate::refusal::Refusal;
 use crate::verdict::Verdict;
 use crate::walk::walk;
 use blend_network::Network;
-use cert_stream::{CertReader, ItemFault};
-use edge_io::{Memory, Shelf};
-use std::alloc::{AllocError, AllocFailed, Global};
-
-/// Why no certificate was accepted.
-#[derive(Clone, Copy, Debug, PartialEq, Eq)]
-pub enum StreamRefusal {
-    /// The shelf failed: its count of faults rose.
-    Read,
-    /// The file has more bytes than it may have.
-    TooLong,
-    /// The certificate is refused. Want of memory is not told by this.
-    Refused(Refusal),
-    /// There was no memory.
-    Memory,
-}
-
-impl From<ItemFault> for StreamRefusal {
-    ghost from_gives = { λ e r. r ≡ of_fault e };
-
-    fn from(fault: ItemFault) -> StreamRefusal {
-        match fault {
-            ItemFault::Read => StreamRefusal::Read,
-            ItemFault::TooLong => StreamRefusal::TooLong,
-            ItemFault::Text(fault) => StreamRefusal::Refused(Refusal::Text(fault)),
-        }
-    }
-}
-
-impl From<Refusal> for StreamRefusal {
-    ghost from_gives = { λ e r. r ≡ of_refusal e };
-
-    fn from(refusal: Refusal) -> StreamRefusal {
-        match refusal {
-            Refusal::Memory => StreamRefusal::Memory,
-            refusal => StreamRefusal::Refused(refusal),
-        }
-    }
-}
-
-impl From<Memory> for StreamRefusal {
-    ghost from_gives = { λ _ r. r ≡ streams.Memory };
-
-    fn from(_e: Memory) -> StreamRefusal {
-        StreamRefusal::Memory
-    }
-}
-
-impl From<AllocError> for StreamRefusal {
-    ghost from_gives = { λ _ r. r ≡ streams.Memory };
-
-    fn from(_e: AllocError) -> StreamRefusal {
-        StreamRefusal::Memory
-    }
-}
-
-impl<T: Drop> From<AllocFailed<T>> for StreamRefusal {
-    ghost from_gives = { λ _ r. r ≡ streams.Memory };
-
-    fn from(_e: AllocFailed<T>) -> StreamRefusal {
-        StreamRefusal::Memory
-    }
-}
+use cert_stream::CertReader;
+use edge_io::Shelf;
+use proof_lines::{Refusal, StreamRefusal};
+use std::alloc::Global;
 
 /// What the certificate in the opened file says of the network, or the first cause to refuse it.
 ///

@@ -5,22 +5,19 @@ ghost use Rattle.pool_model.specs.Network.{net_of, IsLimited};
 ghost use Rattle.pool_model.specs.Starting.{reach_bound};
 ghost use Rattle.cert_format.specs.declared.reading.Kind.{Kind as AKind};
 ghost use Rattle.cert_stream.specs.declared.items.State.TheVariants as states;
-ghost use Rattle.split_tree.specs.Splits.{IsOf};
 ghost use Rattle.cert_stream.specs.Items.{claim_state};
-ghost use Rattle.cert_checker.specs.Parts.{Takes, Walks, ReadsClaim, IsBegun, IsRefusedFront, IsSplitList, IsWrongSplitList, AreProofs, AreWrongProofs, opening_kind};
-ghost use Rattle.cert_checker.specs.Runs.{moment, IsReady};
+ghost use Rattle.proof_lines.specs.Parts.{Takes};
+ghost use Rattle.cert_checker.specs.Parts.{Walks, ReadsClaim, IsBegun, IsRefusedFront, IsSplitList, IsWrongSplitList, opening_kind};
+ghost use Rattle.proof_lines.specs.Runs.{moment, IsReady};
 
-use crate::line_judge::node_bounds;
-use crate::nodes::least_bound;
 use crate::opening::{Opening, read_opening};
-use crate::refusal::Refusal;
-use crate::steps::{bound_number, cost_pair, cut, end, gap_number, kind, proofs, shape, splits};
-use crate::stream::StreamRefusal;
 use blend_network::Network;
 use cert_format::Claim;
 use cert_stream::{CertReader, ItemFault};
 use edge_io::Shelf;
 use plan_core::Cost;
+use proof_lines::steps::{bound_number, cost_pair, cut, end, gap_number, kind, shape, splits};
+use proof_lines::{Refusal, StreamRefusal, tree_bound};
 use split_tree::SplitTree;
 use std::alloc::Global;
 
@@ -95,26 +92,6 @@ fn tree<S: Shelf>(
         }
     }
     Ok(tree)
-}
-
-/// The bound of a tree with the proofs that come, None where no leaf may hold a plan; or the first cause to refuse them.
-fn tree_bound<S: Shelf>(
-    alloc: Global,
-    net: &Network,
-    tree: &SplitTree,
-    reader: &mut CertReader,
-    shelf: &mut S,
-) -> Result<Option<i128>, StreamRefusal>
-    requires tree { IsOf (net_of net.now) tree.now }
-    requires asks { (k : AKind) × IsReady (moment S.files S.admits S.rest S.taken S.faults reader.old shelf.old) (states.Proofs k) }
-    ensures reach { unsigned_abs (reach_bound (net_of net.now)) ≤ 128 * 10 ^ 24 }
-    ensures bound { (k : AKind) → reader.old.state ≡ states.Proofs k → Takes (AreProofs (net_of net.now) tree.now.list k) (AreWrongProofs (net_of net.now) tree.now.list)
-        (moment S.files S.admits S.rest S.taken S.faults reader.old shelf.old) (moment S.files S.admits S.rest S.taken S.faults reader.new shelf.new) result }
-{
-    let reach = net.reach_bound();
-    let count = proofs(reader, shelf)?;
-    let bounds = node_bounds(alloc, net, tree, reach, count, reader, shelf)?;
-    Ok(least_bound(tree, bounds.as_slice()))
 }
 
 /// The numbers of the claim, with the plan where there is one.

@@ -7,10 +7,10 @@ use Rattle.pool_model.specs.Network.{Net, Network, net_of}
 use Rattle.cert_format.specs.Cert.{Cert}
 use Rattle.cert_format.specs.Valid.{IsValid}
 use Rattle.cert_checker.specs.Answers.{GivesFirst, IsRefused, Spells}
-use Rattle.cert_checker.specs.declared.refusal.Refusal.{Refusal}
-use Rattle.cert_checker.specs.declared.refusal.Refusal.TheVariants.{Text, Memory}
-use Rattle.cert_checker.specs.declared.stream.StreamRefusal.{StreamRefusal}
-use Rattle.cert_checker.specs.declared.stream.StreamRefusal.TheVariants as streams
+use Rattle.proof_lines.specs.declared.refusal.Refusal.{Refusal}
+use Rattle.proof_lines.specs.declared.refusal.Refusal.TheVariants.{Text, Memory}
+use Rattle.proof_lines.specs.declared.stream_refusal.StreamRefusal.{StreamRefusal}
+use Rattle.proof_lines.specs.declared.stream_refusal.StreamRefusal.TheVariants as streams
 use Rattle.cert_checker.specs.declared.verdict.Verdict.{Verdict}
 use Rattle.cert_checker.specs.Streams.{IsStreamAnswer}
 use Rattle.cert_checker.proofs.Order.{valid-clear}

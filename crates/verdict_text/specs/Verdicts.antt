@@ -3,8 +3,8 @@ use Rattle.std.specs.Prelude.{ℕ, List, [], ◌++◌, ℤ, pos, codes}
 use Rattle.std.specs.Fmt.{signed_decimal}
 use Rattle.plan_core.specs.Faults as plans
 use Rattle.row_book.specs.Faults as proofs
-use Rattle.cert_checker.specs.declared.refusal.Refusal.{Refusal}
-use Rattle.cert_checker.specs.declared.refusal.Refusal.TheVariants as refusals
+use Rattle.proof_lines.specs.declared.refusal.Refusal.{Refusal}
+use Rattle.proof_lines.specs.declared.refusal.Refusal.TheVariants as refusals
 use Rattle.cert_checker.specs.declared.verdict.Verdict.{Verdict}
 use Rattle.cert_checker.specs.declared.verdict.Verdict.TheVariants as verdicts
 

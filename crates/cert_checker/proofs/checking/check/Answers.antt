@@ -1,7 +1,7 @@
 -- The check of a text is that of a file that holds it.
 use Rattle.std.proofs.Common.{◌≡◌, List, ℕ, Some, Ok, Err, length, ap, subst, arith}
 use Rattle.pool_model.specs.Network.{net_of}
-use Rattle.cert_checker.specs.declared.stream.StreamRefusal.{StreamRefusal}
+use Rattle.proof_lines.specs.declared.stream_refusal.StreamRefusal.{StreamRefusal}
 use Rattle.cert_checker.specs.Streams.{IsAnswer, IsStreamedAs}
 use Rattle.cert_checker.proofs.Texts.{text-answer, never-refused}
 use Rattle.cert_checker.proofs.checking.check.Goals as goal

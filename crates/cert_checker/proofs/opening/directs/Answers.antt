@@ -6,11 +6,12 @@ use Rattle.cert_format.specs.declared.reading.Kind.TheVariants as kinds
 use Rattle.cert_stream.specs.declared.items.State.{State}
 use Rattle.cert_stream.specs.declared.items.State.TheVariants as states
 use Rattle.cert_stream.specs.Items.{direct, directs_left}
-use Rattle.cert_checker.specs.Grammar.{behind_item}
+use Rattle.proof_lines.specs.Grammar.{behind_item}
 use Rattle.cert_checker.specs.Parts.{Never, IsListed}
-use Rattle.cert_checker.specs.Runs.{Moment, moment, IsReady}
-use Rattle.cert_checker.proofs.Listing.{listed-none, listed-more, direct-left}
-use Rattle.cert_checker.proofs.Running.{failed-then, failed-halts, memory-halts, run-then}
+use Rattle.proof_lines.specs.Runs.{Moment, moment, IsReady}
+use Rattle.proof_lines.proofs.States.{direct-left}
+use Rattle.cert_checker.proofs.Listing.{listed-none, listed-more}
+use Rattle.proof_lines.proofs.Running.{failed-then, failed-halts, memory-halts, run-then}
 use Rattle.cert_checker.proofs.opening.directs.Goals as goal
 
 pub loop-init : goal.loop-init

@@ -2,7 +2,7 @@ use Rattle.std.proofs.Common.{◌≡◌, ◌-◌, ◌≤◌}
 use Rattle.pool_model.specs.Network.{net_of}
 use Rattle.cert_stream.specs.Items.{direct, directs_left}
 use Rattle.cert_checker.specs.Parts.{IsListed}
-use Rattle.cert_checker.specs.Runs.{moment}
+use Rattle.proof_lines.specs.Runs.{moment}
 use Rattle.cert_checker.proofs.opening.directs.Given as goal
 
 -- so many are read

@@ -4,8 +4,8 @@ use Rattle.std.specs.Prelude.{map}
 use Rattle.std.proofs.lemmas.Result.{err_from_is_err_and}
 use Rattle.cert_stream.specs.Items.{Field, bases, weight, outflow, direct}
 use Rattle.cert_checker.specs.Parts.{Never}
-use Rattle.cert_checker.specs.Runs.{Moment, moment, Run}
-use Rattle.cert_checker.proofs.Running.{halts-then, run-then}
+use Rattle.proof_lines.specs.Runs.{Moment, moment, Run}
+use Rattle.proof_lines.proofs.Running.{halts-then, run-then}
 use Rattle.cert_checker.proofs.opening.plan.Goals as goal
 
 pub returns-in_err-weights : goal.returns-in_err-weights

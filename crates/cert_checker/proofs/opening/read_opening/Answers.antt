@@ -1,8 +1,8 @@
 -- What is claimed, by its kind.
 use Rattle.std.proofs.Common.{◌≢◌, rules}
 use Rattle.pool_model.specs.Network.{net_of}
-use Rattle.cert_checker.specs.Grammar.{kind_of}
-use Rattle.cert_checker.specs.Runs.{Moment, moment}
+use Rattle.proof_lines.specs.Grammar.{kind_of}
+use Rattle.proof_lines.specs.Runs.{Moment, moment}
 use Rattle.cert_checker.proofs.Claiming.{kind-bound, kind-none, opens-bound, opens-none}
 use Rattle.cert_checker.proofs.opening.read_opening.Goals as goal
 

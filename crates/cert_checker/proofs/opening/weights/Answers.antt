@@ -4,11 +4,12 @@ use Rattle.std.proofs.lemmas.Result.{err_from_is_err_and}
 use Rattle.pool_model.specs.Network.{Net, net_of}
 use Rattle.cert_stream.specs.declared.items.State.{State}
 use Rattle.cert_stream.specs.Items.{weight}
-use Rattle.cert_checker.specs.Grammar.{weights_left, outflows_left, behind_item}
+use Rattle.proof_lines.specs.Grammar.{weights_left, outflows_left, behind_item}
 use Rattle.cert_checker.specs.Parts.{Never, IsListed}
-use Rattle.cert_checker.specs.Runs.{Moment, moment, IsReady}
-use Rattle.cert_checker.proofs.Listing.{listed-none, listed-more, weight-left}
-use Rattle.cert_checker.proofs.Running.{failed-then, failed-halts, memory-halts, run-then}
+use Rattle.proof_lines.specs.Runs.{Moment, moment, IsReady}
+use Rattle.proof_lines.proofs.States.{weight-left}
+use Rattle.cert_checker.proofs.Listing.{listed-none, listed-more}
+use Rattle.proof_lines.proofs.Running.{failed-then, failed-halts, memory-halts, run-then}
 use Rattle.cert_checker.proofs.opening.weights.Goals as goal
 
 pub loop-init : goal.loop-init

@@ -1,9 +1,9 @@
 use Rattle.std.proofs.Common.{◌≡◌, ◌-◌, ◌≤◌}
 use Rattle.pool_model.specs.Network.{net_of}
 use Rattle.cert_stream.specs.Items.{weight}
-use Rattle.cert_checker.specs.Grammar.{weights_left}
+use Rattle.proof_lines.specs.Grammar.{weights_left}
 use Rattle.cert_checker.specs.Parts.{IsListed}
-use Rattle.cert_checker.specs.Runs.{moment}
+use Rattle.proof_lines.specs.Runs.{moment}
 use Rattle.cert_checker.proofs.opening.weights.Given as goal
 
 -- so many are read

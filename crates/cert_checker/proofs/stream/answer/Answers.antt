@@ -1,7 +1,7 @@
 -- The answer, from what was walked.
 use Rattle.std.proofs.lemmas.Result.{err_from_is_err_and}
 use Rattle.pool_model.specs.Network.{Net, net_of}
-use Rattle.cert_checker.specs.Runs.{Moment, moment}
+use Rattle.proof_lines.specs.Runs.{Moment, moment}
 use Rattle.cert_checker.proofs.Answering.{walked-room, valid-answered, claim-answered}
 use Rattle.cert_checker.proofs.stream.answer.Goals as goal
 

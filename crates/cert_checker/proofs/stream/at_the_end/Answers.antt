@@ -1,7 +1,7 @@
 -- A refusal that waits for the end, where it is a cause.
 use Rattle.std.proofs.Common.{subst}
 use Rattle.cert_checker.specs.Parts.{IsRefusedFront}
-use Rattle.cert_checker.specs.Runs.{Moment, moment, Halts}
+use Rattle.proof_lines.specs.Runs.{Moment, moment, Halts}
 use Rattle.cert_checker.proofs.Answering.{halts-answered, other-at-once}
 use Rattle.cert_checker.proofs.stream.at_the_end.Goals as goal
 

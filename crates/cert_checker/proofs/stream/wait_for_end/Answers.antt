@@ -1,9 +1,9 @@
 -- A cause that waits for the end.
 use Rattle.std.proofs.Common.{Ok, Err, sym, subst}
-use Rattle.cert_checker.specs.declared.refusal.Refusal.{Refusal}
-use Rattle.cert_checker.specs.declared.stream.StreamRefusal.TheVariants.{Refused}
+use Rattle.proof_lines.specs.declared.refusal.Refusal.{Refusal}
+use Rattle.proof_lines.specs.declared.stream_refusal.StreamRefusal.TheVariants.{Refused}
 use Rattle.cert_checker.specs.Parts.{IsRefusedFront}
-use Rattle.cert_checker.specs.Runs.{Moment, Kept, moment}
+use Rattle.proof_lines.specs.Runs.{Moment, Kept, moment}
 use Rattle.cert_checker.proofs.Answering.{halts-answered, IsAtOnce, cause-found, finish-answered}
 use Rattle.cert_checker.proofs.stream.wait_for_end.Goals as goal
 

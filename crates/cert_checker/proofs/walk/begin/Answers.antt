@@ -5,11 +5,11 @@ use Rattle.pool_model.specs.Network.{Net, net_of}
 use Rattle.cert_stream.specs.declared.items.State.{State}
 use Rattle.cert_stream.specs.declared.items.State.TheVariants as states
 use Rattle.cert_stream.specs.Items.{kind, shape, shaped_state}
-use Rattle.cert_checker.specs.Grammar.{kind_of, behind_item}
+use Rattle.proof_lines.specs.Grammar.{kind_of, behind_item}
 use Rattle.cert_checker.specs.Parts.{IsRefusedFront}
-use Rattle.cert_checker.specs.Runs.{Moment, moment, IsReady}
-use Rattle.cert_checker.proofs.Coming.{kind-known}
-use Rattle.cert_checker.proofs.Running.{failed-halts, failed-then, run-then}
+use Rattle.proof_lines.specs.Runs.{Moment, moment, IsReady}
+use Rattle.proof_lines.proofs.Coming.{kind-known}
+use Rattle.proof_lines.proofs.Running.{failed-halts, failed-then, run-then}
 use Rattle.cert_checker.proofs.Walking.{shape-halts, begun}
 use Rattle.cert_checker.proofs.walk.begin.Goals as goal
 

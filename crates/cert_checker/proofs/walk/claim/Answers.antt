@@ -7,11 +7,11 @@ use Rattle.cert_stream.specs.declared.items.State.{State}
 use Rattle.cert_stream.specs.declared.items.State.TheVariants as states
 use Rattle.cert_stream.specs.Items.{cost_is, bound_is, gap_is, claim_state}
 use Rattle.cert_checker.specs.declared.opening.Opening.{Opening}
-use Rattle.cert_checker.specs.Grammar.{behind_item, gap_item}
+use Rattle.proof_lines.specs.Grammar.{behind_item, gap_item}
 use Rattle.cert_checker.specs.Parts.{IsClaimOf, opening_kind}
-use Rattle.cert_checker.specs.Runs.{Moment, moment, Run, IsReady}
+use Rattle.proof_lines.specs.Runs.{Moment, moment, Run, IsReady}
 use Rattle.cert_checker.proofs.Claiming.{claims-gap}
-use Rattle.cert_checker.proofs.Running.{failed-then, run-then, run-none}
+use Rattle.proof_lines.proofs.Running.{failed-then, run-then, run-none}
 use Rattle.cert_checker.proofs.walk.claim.Goals as goal
 
 pub returns-in_err-bound-in-Gap : goal.returns-in_err-bound-in-Gap

@@ -7,11 +7,11 @@ use Rattle.split_tree.specs.Splits.{Splits}
 use Rattle.cert_format.specs.declared.reading.Kind.{Kind}
 use Rattle.cert_stream.specs.declared.items.State.{State}
 use Rattle.cert_stream.specs.Items.{cut, cuts_left}
-use Rattle.cert_checker.specs.Grammar.{behind_item}
+use Rattle.proof_lines.specs.Grammar.{behind_item}
 use Rattle.cert_checker.specs.Parts.{IsWrongSplitList}
-use Rattle.cert_checker.specs.Runs.{Moment, moment, IsReady}
+use Rattle.proof_lines.specs.Runs.{Moment, moment, IsReady}
 use Rattle.cert_checker.proofs.Cutting.{cut-asks, cut-more, cut-wrong, cut-all}
-use Rattle.cert_checker.proofs.Running.{failed-halts, failed-then, memory-halts, run-then}
+use Rattle.proof_lines.proofs.Running.{failed-halts, failed-then, memory-halts, run-then}
 use Rattle.cert_checker.proofs.walk.tree.Goals as goal
 
 pub cut-requires-clause-asks : goal.cut-requires-clause-asks

@@ -4,7 +4,7 @@ use Rattle.std.proofs.lemmas.Result.{err_from_is_err_and}
 use Rattle.pool_model.specs.Network.{Net, net_of}
 use Rattle.plan_core.specs.declared.plan.Cost.{Cost}
 use Rattle.cert_checker.specs.Parts.{IsWalked, opening_kind}
-use Rattle.cert_checker.specs.Runs.{Moment, moment, IsReady}
+use Rattle.proof_lines.specs.Runs.{Moment, moment, IsReady}
 use Rattle.cert_checker.proofs.Walking.{open-to, plan-refused-front, split-halts, cut-to, proof-halts, proved-to, claim-halts, end-halts, walked}
 use Rattle.cert_checker.proofs.walk.walk.Goals as goal
 
