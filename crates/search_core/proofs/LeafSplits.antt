@@ -15,12 +15,12 @@ use Rattle.box_space.specs.declared.coordinates.Split.{Split}
 use Rattle.branching.specs.Rows.{View, row_at, no_row}
 use Rattle.branching.specs.Rules.{IsPick}
 use Rattle.search_core.specs.declared.options.Options.{Options}
-use Rattle.search_core.specs.declared.halving.Halving.{Halving}
+use Rattle.leaf_cuts.specs.declared.halving.Halving.{Halving}
 use Rattle.search_core.specs.declared.next.Next.{Next}
 use Rattle.search_core.specs.declared.next.Next.TheVariants.{Stopped, Stuck, Undecided}
-use Rattle.search_core.specs.Views.{IsRowOf, IsViewOf}
-use Rattle.search_core.specs.Given.{IsGiven}
-use Rattle.search_core.specs.Halvings.{middle_at, IsHalvingOf}
+use Rattle.leaf_cuts.specs.Views.{IsRowOf, IsViewOf}
+use Rattle.leaf_cuts.specs.Given.{IsGiven}
+use Rattle.leaf_cuts.specs.Halvings.{middle_at, IsHalvingOf}
 use Rattle.search_core.specs.Cases.{HasPlan, IsSpent, IsStuck, IsCuttable}
 use Rattle.search_core.specs.Next.{GoesOn, IsHalving, IsLeastSplit, IsNext}
 use Rattle.search_core.proofs.Opening.{open-cuttable}

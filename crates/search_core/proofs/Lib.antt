@@ -1,12 +1,8 @@
-pub mod RootEnds
 pub mod Starting
 pub mod Nearness
-pub mod Giving
-pub mod FormCoords
 pub mod Opening
 pub mod Ordering
 pub mod Rooted
 pub mod LeafSplits
-pub mod HalfProofs
 pub mod RootCut
 pub mod Repaired

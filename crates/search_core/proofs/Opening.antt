@@ -7,9 +7,9 @@ use Rattle.row_model.specs.Trees.{Tree, box_of, IsLeastLeaf}
 use Rattle.row_model.specs.Entries.{Searched}
 use Rattle.box_space.specs.declared.coordinates.Form.{Form}
 use Rattle.branching.specs.Rows.{View, row_at, no_row, IsOpenAt, HasOpen}
-use Rattle.search_core.specs.Views.{IsRowOf, IsViewOf}
+use Rattle.leaf_cuts.specs.Views.{IsRowOf, IsViewOf}
 use Rattle.search_core.specs.Cases.{IsCuttable, IsStuck}
-use Rattle.search_core.proofs.FormCoords.{coord-of, row-of}
+use Rattle.leaf_cuts.proofs.FormCoords.{coord-of, row-of}
 
 ends-of : (n : Net) (form : Form) (b : Box) (node : ℕ) (v : View) (i : ℕ) → IsViewOf n form b node v → i < length v.rows → IsRowOf n b (row_at v.rows i)
 ends-of n form b node v i seen h = All-get_or (IsRowOf n b) v.rows i no_row h seen.rows.ends

@@ -6,17 +6,12 @@ use Rattle.row_model.specs.Boxes.{root}
 use Rattle.row_model.specs.Multipliers.{bound}
 use Rattle.row_model.specs.Trees.{node_bound}
 use Rattle.row_model.specs.Entries.{Searched}
-use Rattle.box_space.specs.Views.{shown_proof, AreRoot, AreEnds, AreEndsOf}
-use Rattle.box_space.specs.declared.boxes.BoxEnds.{BoxEnds}
+use Rattle.box_space.specs.Views.{shown_proof}
 use Rattle.box_space.specs.declared.coordinates.Form.{Form}
 use Rattle.box_space.specs.declared.multipliers.Proof as held
 use Rattle.edge_io.specs.declared.Memory.{Memory}
-use Rattle.search_core.specs.Given.{IsGiven}
+use Rattle.leaf_cuts.specs.Given.{IsGiven}
 use Rattle.search_core.specs.Cases.{IsRootOpen, IsRootProof, HasNoRootProof}
-
--- the ends of the root box are those of the root
-pub root-ends : (n : Net) (e : BoxEnds) → AreRoot n e → AreEnds n e → AreEndsOf n (root n) e
-root-ends n e is proper = record { proper = proper; agree = record { low = is.low; high = is.high } }
 
 some-same : {X : Type 0} (a b : X) → Some a ≡ Some b → a ≡ b
 some-same a b e = cc

@@ -14,7 +14,7 @@ use Rattle.plan_repair.specs.Repairs.{IsAccepted, IsGain, IsNoDearer}
 use Rattle.box_space.specs.Forms.{cuts}
 use Rattle.box_space.specs.declared.coordinates.Form.{Form}
 use Rattle.search_core.specs.declared.options.Options.{Options}
-use Rattle.search_core.specs.Given.{IsGiven}
+use Rattle.leaf_cuts.specs.Given.{IsGiven}
 
 -- ---- plans
 

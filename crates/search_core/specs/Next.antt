@@ -17,9 +17,9 @@ use Rattle.branching.specs.Rules.{IsPick}
 use Rattle.search_core.specs.declared.options.Options.{Options}
 use Rattle.search_core.specs.declared.next.Next.{Next}
 use Rattle.search_core.specs.declared.next.Next.TheVariants.{Do, Closed, Stopped, Stuck, Infeasible, Undecided}
-use Rattle.search_core.specs.Views.{IsViewOf}
-use Rattle.search_core.specs.Given.{IsGiven}
-use Rattle.search_core.specs.Halvings.{middle_at}
+use Rattle.leaf_cuts.specs.Views.{IsViewOf}
+use Rattle.leaf_cuts.specs.Given.{IsGiven}
+use Rattle.leaf_cuts.specs.Halvings.{middle_at}
 use Rattle.search_core.specs.Cases.{IsBetterStart, HasNoBetterStart, HasPlan, IsClosed, IsRootProof, HasNoRootProof, IsRepair, HasNoRepair, IsSpent, IsCuttable, IsStuck}
 
 -- there is no better starting plan, a leaf may hold a plan, and the gap is not closed

@@ -9,12 +9,12 @@ ghost use Rattle.plan_core.specs.Views.{shown_plan};
 ghost use Rattle.search_core.specs.Searches.{searched, IsSearchOf};
 ghost use Rattle.search_core.specs.Cases.{IsBetterStart, HasNoBetterStart, IsClosed, IsRootOpen, IsRootProof, HasNoRootProof, IsSpent};
 
-use crate::bench::Bench;
 use crate::search::Search;
 use blend_network::Network;
-use box_space::{Proof, root_box};
+use box_space::Proof;
 use edge_io::Memory;
 use exact_num::compare_ratio;
+use leaf_cuts::root_proof;
 use plan_core::{Cost, WrittenPlan, compare_cost};
 use std::alloc::{AllocError, Global};
 use std::cmp::Ordering;
@@ -62,10 +62,7 @@ impl Search {
         let Some(bound) = self.tree.node_bound(0) else {
             return Ok(None);
         };
-        let ends = root_box(alloc, net)?;
-        let mut bench = Bench::new(alloc, net, self.options.form, &ends)?;
-        let advice = bench.advise(alloc, self.options.pivots)?;
-        bench.round(net, &ends, &advice, bound)
+        root_proof(alloc, net, self.options.form, self.options.pivots, bound)
     }
 
     /// Whether the root has no proof, and no split cuts it: the first split would.

@@ -16,38 +16,20 @@
 //! 7. the least leaf can't be cut: stuck, or undecided where there is no plan;
 //! 8. a split of the least leaf where the cut rule says, with the proofs of both halves.
 //!
-//! `specs/Next.antt` has these cases, `specs/Cases.antt` what each of them asks, `specs/Given.antt` what a proof is, and
-//! `specs/Views.antt` what the cut rule sees.
+//! `specs/Next.antt` has these cases, and `specs/Cases.antt` what each of them asks.
 //!
-//! What makes a search quick is promised by no clause, since no answer rests on it:
+//! Trees and their entries are those of `box_tree`, cut rules those of `branching`. What a proof is that rounding gives, and how a leaf
+//! is solved, seen by the rule and cut, is left to `leaf_cuts`.
 //!
-//! - A program starts where the one above it ended. The least leaf's starts from the proof of the nearest node that has one, and
-//!   those of its halves from the leaf's basis. The first ten are solved from nothing, since other vertices give other plans.
-//! - The rows of the view say how much a cut of each coordinate may gain: by how much the products of the coordinate are violated,
-//!   what they are worth, how wide it still is, and what earlier cuts of it gained.
-//! - Where [`Options::looks`] is above 0, both halves of so many of the best coordinates are solved, and the one that gains the most
-//!   gets the greatest number.
-//!
-//! Trees and their entries are those of `box_tree`, programs and proofs those of `dual_rounding`, cut rules those of `branching`.
-//!
-//! Proofs above may cite, of `proofs/`: `FormCoords` (the rows of a view, one coordinate of the form after another) and `Starting`
-//! (whether the cheapest starting plan is better than what a tree has).
+//! Proofs above may cite, of `proofs/`: `Starting` (whether the cheapest starting plan is better than what a tree has).
 #![tactic(auto)]
 
-mod bench;
 mod cases;
-mod gains;
-mod halving;
-mod leaf;
-mod looking;
 mod next;
 mod options;
 mod repairing;
-mod score;
 mod search;
 mod splitting;
-mod square_root;
-mod violation;
 
 pub use next::Next;
 pub use options::Options;

@@ -5,20 +5,19 @@ ghost use Rattle.pool_model.specs.Network.{net_of};
 ghost use Rattle.row_model.specs.Trees.{tree_bound};
 ghost use Rattle.row_model.specs.Entries.{IsEntryInOrder};
 ghost use Rattle.box_tree.specs.Views.{shown_entry};
+ghost use Rattle.leaf_cuts.specs.Benches.{IsBench};
+ghost use Rattle.leaf_cuts.specs.Leaves.{IsSolvedLeaf};
 ghost use Rattle.search_core.specs.Searches.{searched, IsSearchOf};
 ghost use Rattle.search_core.specs.Cases.{HasPlan};
 ghost use Rattle.search_core.specs.Next.{IsRooted, IsNext, IsDo};
-ghost use Rattle.search_core.specs.Benches.{IsBench};
-ghost use Rattle.search_core.specs.Leaves.{IsSolvedLeaf};
 
-use crate::bench::Bench;
 use crate::cases::copy;
-use crate::leaf::Leaf;
 use crate::search::Search;
 use blend_network::Network;
 use box_tree::Entry;
 use branching::CutRule;
 use edge_io::Memory;
+use leaf_cuts::{Bench, Leaf, solve_leaf};
 use std::alloc::Global;
 
 /// What a search does next, or how it ended.
@@ -81,8 +80,25 @@ impl Search {
         if self.repaired && self.is_spent() {
             return Ok(self.stopped());
         }
-        let (leaf, mut bench) = self.solve_leaf(alloc, net, bound)?;
+        let (leaf, mut bench) = self.solved_leaf(alloc, net, bound)?;
         self.next_at(alloc, net, rule, &leaf, &mut bench)
+    }
+
+    /// The least leaf, solved, with the bench on which its program stands.
+    fn solved_leaf(
+        &self,
+        alloc: Global,
+        net: &Network,
+        bound: i128,
+    ) -> Result<(Leaf, Bench), Memory>
+        requires search { IsSearchOf (net_of net.now) self.now }
+        requires bound { tree_bound (net_of net.now) (searched self.now).tree ≡ Some bound }
+        ensures leaf { IfOk result (λ l. IsSolvedLeaf (net_of net.now) (searched self.now) l.0) }
+        ensures bench { IfOk result (λ l. IsBench (net_of net.now) l.1) }
+        ensures form { IfOk result (λ l. l.1.form ≡ self.now.options.form) }
+    {
+        let options = self.options;
+        solve_leaf(alloc, net, &self.tree, options.form, options.pivots, bound)
     }
 
     /// What comes next at the least leaf, whose program stands on the bench: a repaired plan, or a split.

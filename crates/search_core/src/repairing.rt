@@ -3,14 +3,14 @@
 ghost use Rattle.std.specs.Prelude.{◌≡◌, false, IfOk, IfSome, IfNone};
 ghost use Rattle.pool_model.specs.Network.{net_of};
 ghost use Rattle.plan_core.specs.Views.{shown_plan};
+ghost use Rattle.leaf_cuts.specs.Leaves.{IsSolvedLeaf};
 ghost use Rattle.search_core.specs.Searches.{searched, IsSearchOf};
 ghost use Rattle.search_core.specs.Cases.{IsRepair, HasNoRepair};
-ghost use Rattle.search_core.specs.Leaves.{IsSolvedLeaf};
 
-use crate::leaf::Leaf;
 use crate::search::Search;
 use blend_network::Network;
 use edge_io::Memory;
+use leaf_cuts::Leaf;
 use plan_core::WrittenPlan;
 use plan_repair::repair;
 use std::alloc::Global;

@@ -4,21 +4,19 @@ ghost use Rattle.std.specs.Prelude.{◌≡◌, ◌<◌, ◌⊎◌, None, IfOk, l
 ghost use Rattle.pool_model.specs.Network.{net_of};
 ghost use Rattle.row_model.specs.Entries.{IsEntryInOrder};
 ghost use Rattle.box_tree.specs.Views.{shown_entry};
-ghost use Rattle.search_core.specs.Benches.{IsBench};
+ghost use Rattle.leaf_cuts.specs.Benches.{IsBench};
+ghost use Rattle.leaf_cuts.specs.Leaves.{IsSolvedLeaf};
 ghost use Rattle.search_core.specs.Searches.{searched, IsSearchOf};
 ghost use Rattle.search_core.specs.Cases.{HasPlan};
-ghost use Rattle.search_core.specs.Leaves.{IsSolvedLeaf};
 ghost use Rattle.search_core.specs.Next.{GoesOn, IsNext, IsDo};
 
-use crate::bench::Bench;
-use crate::halving::Halving;
-use crate::leaf::{Leaf, leaf_view};
 use crate::next::Next;
 use crate::search::Search;
 use blend_network::Network;
 use box_tree::Entry;
 use branching::CutRule;
 use edge_io::Memory;
+use leaf_cuts::{Bench, Halving, Leaf};
 use std::alloc::Global;
 
 impl Search {
@@ -41,17 +39,13 @@ impl Search {
             (⟦<branching::RuleClosure as Fn(&branching::LeafView) -> usize>⟧.post rule.now.closure)) }
         ensures in_order { IfOk result (IsDo (λ entry. IsEntryInOrder (net_of net.now) (searched self.now) (shown_entry entry))) }
     {
-        let looked = self.look(alloc, net, leaf, bench)?;
-        let form = self.options.form;
-        let misses = looked.misses.as_slice();
-        let view = leaf_view(alloc, net, form, leaf.node, &leaf.ends, misses)?;
-        if !view.has_open() {
+        let looked = bench.look(alloc, net, &self.tree, leaf, self.options.looks)?;
+        if !looked.view.has_open() {
             return Ok(self.stuck());
         }
-        let split = rule.pick(&view);
-        let pivots = self.options.pivots;
+        let split = rule.pick(&looked.view);
         let halvings = looked.halvings;
-        let halving = bench.proved_at(alloc, net, leaf, halvings, split.coord, pivots)?;
+        let halving = bench.proved_at(alloc, net, leaf, halvings, split.coord)?;
         let Halving { left, right, .. } = halving;
         Ok(Next::Do(Entry::SplitOf(split, left, right)))
     }

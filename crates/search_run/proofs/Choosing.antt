@@ -54,9 +54,9 @@ use Rattle.branching.specs.declared.view.CoordRow.{CoordRow}
 use Rattle.dual_rounding.proofs.FormRows.{passes_more, fails_more, All-numbers}
 use Rattle.branching.specs.declared.name.RuleName.{RuleName}
 use Rattle.branching.specs.declared.name.RuleName.TheVariants.{First, Widest, Violated, Fewest}
-use Rattle.search_core.specs.Views.{form_coords, IsRowOf, AreRowsOf, IsViewOf}
+use Rattle.leaf_cuts.specs.Views.{form_coords, IsRowOf, AreRowsOf, IsViewOf}
 use Rattle.search_core.specs.Cases.{IsCuttable}
-use Rattle.search_core.proofs.FormCoords.{cuts_at, row-of}
+use Rattle.leaf_cuts.proofs.FormCoords.{cuts_at, row-of}
 use Rattle.search_run.specs.Orders.{IsPickedBy, picked}
 use Rattle.search_run.specs.Steps.{width, IsNarrowerAt, IsWidest, IsFewest, IsChosen}
 

@@ -20,7 +20,7 @@ use Rattle.branching.specs.Rules.{IsPick}
 use Rattle.branching.specs.declared.name.RuleName.{RuleName}
 use Rattle.dual_rounding.specs.Price.{IsPriced}
 use Rattle.dual_rounding.proofs.Priced.{priced-raised}
-use Rattle.search_core.specs.Given.{IsGiven}
+use Rattle.leaf_cuts.specs.Given.{IsGiven}
 use Rattle.search_core.specs.Next.{IsEntry, IsLeastSplit, IsNext}
 use Rattle.search_core.specs.declared.next.Next.{Next}
 use Rattle.search_core.specs.declared.next.Next.TheVariants as next

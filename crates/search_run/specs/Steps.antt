@@ -13,7 +13,7 @@ use Rattle.branching.specs.declared.name.RuleName.TheVariants.{First, Widest, Vi
 use Rattle.dual_rounding.specs.Price.{IsPriced}
 use Rattle.dual_rounding.specs.Programs.{has_row}
 use Rattle.search_core.specs.Cases.{IsBetterStart, IsCuttable, IsRepair, IsRootProof}
-use Rattle.search_core.specs.Halvings.{middle_at}
+use Rattle.leaf_cuts.specs.Halvings.{middle_at}
 use Rattle.search_core.specs.Next.{IsApart, IsRooted}
 use Rattle.search_run.specs.Orders.{options_of}
 use Rattle.search_run.specs.declared.orders.Orders.{Orders}

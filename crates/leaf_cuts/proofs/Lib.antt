@@ -1,0 +1,5 @@
+pub mod RootEnds
+pub mod Giving
+pub mod FormCoords
+pub mod Middles
+pub mod HalfProofs

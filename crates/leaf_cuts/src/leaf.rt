@@ -1,0 +1,94 @@
+//! The least leaf, solved: where its program starts.
+
+ghost use Rattle.std.specs.Prelude.{◌≡◌, Some, IfOk, vec_len};
+ghost use Rattle.pool_model.specs.Network.{net_of};
+ghost use Rattle.row_model.specs.Trees.{tree_bound};
+ghost use Rattle.box_tree.specs.Kept.{searched_of, IsOf};
+ghost use Rattle.leaf_cuts.specs.Benches.{IsBench};
+ghost use Rattle.leaf_cuts.specs.Leaves.{IsSolvedLeaf};
+
+use crate::bench::Bench;
+use blend_network::Network;
+use box_space::{BoxEnds, Form, Proof};
+use box_tree::Tree;
+use edge_io::Memory;
+use lp_simplex::{Advice, start_of_proof};
+use std::alloc::Global;
+
+/// How many splits there have to be before a leaf's program starts from a proof. Those before start from nothing: they end at other
+/// points of the same cost, and other plans come of these.
+const COLD_SPLITS: usize = 10;
+
+/// The least leaf, with advice on its program.
+#[derive(Drop)]
+pub struct Leaf {
+    pub node: u32,
+    /// In picos.
+    pub bound: i128,
+    pub ends: BoxEnds,
+    pub advice: Advice,
+}
+
+/// The least leaf of a tree, solved, with the bench on which its program of the form stands.
+pub fn solve_leaf(
+    alloc: Global,
+    net: &Network,
+    tree: &Tree,
+    form: Form,
+    pivots: u32,
+    bound: i128,
+) -> Result<(Leaf, Bench), Memory>
+    requires tree { IsOf (net_of net.now) tree.now }
+    requires bound { tree_bound (net_of net.now) (searched_of tree.now.kept).tree ≡ Some bound }
+    ensures leaf { IfOk result (λ l. IsSolvedLeaf (net_of net.now) (searched_of tree.now.kept) l.0) }
+    ensures bench { IfOk result (λ l. IsBench (net_of net.now) l.1) }
+    ensures form { IfOk result (λ l. l.1.form ≡ form) }
+{
+    let Some(node) = tree.least_leaf() else {
+        unreachable!()
+    };
+    let ends = tree.box_of(net, node)?;
+    let bench = Bench::new(alloc, net, form, pivots, &ends)?;
+    let advice = advice_at(alloc, tree, node, &bench)?;
+    let leaf = Leaf {
+        node,
+        bound,
+        ends,
+        advice,
+    };
+    Ok((leaf, bench))
+}
+
+/// Advice on the program of a node, which stands on the bench: from the proof of the nearest node that has one, among the node
+/// and those above it.
+fn advice_at(alloc: Global, tree: &Tree, node: u32, bench: &Bench) -> Result<Advice, Memory>
+    ensures { IfOk result (λ a. vec_len a.point ≡ vec_len bench.now.relaxation.low) }
+{
+    if tree.splits().len() < COLD_SPLITS {
+        return bench.advise(alloc);
+    }
+    match nearest_proof(tree, node) {
+        None => bench.advise(alloc),
+        Some(proof) => {
+            let start = start_of_proof(alloc, bench.program(), proof)?;
+            bench.advise_from(alloc, start.as_slice())
+        }
+    }
+}
+
+/// The proof of the nearest node that has one, among the node and those above it.
+fn nearest_proof(tree: &Tree, node: u32) -> Option<&Proof> {
+    let splits = tree.splits();
+    let mut node = node;
+    // each step leads to a node of a lower number
+    for _ in 0..=splits.len() {
+        if let Some(proof) = tree.proof_of(node) {
+            return Some(proof);
+        }
+        if node == 0 {
+            return None;
+        }
+        node = splits.get((node as usize - 1) / 2)?.leaf;
+    }
+    None
+}

@@ -1,0 +1,38 @@
+//! What is proved of leaves: the proof of the root, and the least leaf of a tree with its cuts and the proofs of both halves.
+//!
+//! [`root_proof`] gives what rounding gives for the root. [`solve_leaf`] gives the least [`Leaf`] of a tree with advice on its program,
+//! and a [`Bench`], which holds that program and the memory of rounding, and on which one box after another is proved.
+//! [`Bench::look`] shows the leaf to a cut rule: its [`Looked`] has the view of the leaf, a row for each coordinate of the form, and the
+//! cuts whose halves are proved already. [`Bench::proved_at`] gives the [`Halving`] of the leaf in the middle of a coordinate: what
+//! rounding gives for both halves, above the leaf's bound.
+//!
+//! `specs/Given.antt` says what a proof is that rounding gives, `specs/Halvings.antt` where a box is cut and what both halves get,
+//! `specs/Leaves.antt` what a solved leaf is, `specs/Views.antt` what the cut rule sees, and `specs/Benches.antt` when a bench is one of
+//! a network.
+//!
+//! What makes it quick is promised by no clause, since no answer rests on it:
+//!
+//! - A program starts where the one above it ended. The least leaf's starts from the proof of the nearest node that has one, and
+//!   those of its halves from the leaf's basis. The first ten are solved from nothing, since other vertices give other plans.
+//! - Where a look is asked for, both halves of so many coordinates are solved, those that are missed the most by what `cut_scores` says,
+//!   and the one that gains the most gets the greatest number. The rows of the view have these numbers, and else none.
+//!
+//! When a leaf is looked at or cut, and what else a search does, is left to the crates above.
+//!
+//! Proofs above may cite, of `proofs/`: `FormCoords` (the rows of a view, one coordinate of the form after another) and `Middles` (the
+//! middle of ends that are at least 2 apart lies strictly inside).
+#![tactic(auto)]
+
+mod bench;
+mod ends;
+mod halving;
+mod leaf;
+mod looking;
+mod root;
+mod view;
+
+pub use bench::Bench;
+pub use halving::Halving;
+pub use leaf::{Leaf, solve_leaf};
+pub use looking::Looked;
+pub use root::root_proof;
