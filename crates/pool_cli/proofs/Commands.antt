@@ -11,7 +11,7 @@ use Rattle.certificate_commands.specs.CheckEnds.{CheckEnds}
 use Rattle.certificate_commands.specs.ReportEnds.{ReportEnds}
 use Rattle.solve_command.specs.Gaps.{IsGapAsked}
 use Rattle.solve_command.specs.SolveEnds.{SolveEnds}
-use Rattle.pool_cli.specs.Ends.{AnswersAs, EndsAs, IsAdmitted, IsUnanswered}
+use Rattle.pool_cli.specs.Ends.{AnswersAs, EndsAs, IsAdmitted, IsUnanswered, JournalsAs}
 use Rattle.pool_cli.specs.FormulateEnds.{FormulateEnds}
 use Rattle.pool_cli.specs.MakeEnds.{MakeEnds}
 use Rattle.pool_cli.specs.TrialEnds.{TrialEnds}
@@ -24,6 +24,9 @@ module _ (asked other : Asked) (status end : Status) (same : asked ≡ other) (i
 
   pub ends_as : (files : Option Files) (before after : ℕ) → EndsAs files before after other end → EndsAs files before after asked status
   ends_as files before after h = subst (λ (x : Asked). EndsAs files before after x status) (sym same) (subst (λ (x : Status). EndsAs files before after other x) (sym is) h)
+
+  pub journals_as : (Holds : Status → Solving → Type 0) → JournalsAs (Holds end) other → JournalsAs (Holds status) asked
+  journals_as Holds h = subst (λ (x : Asked). JournalsAs (Holds status) x) (sym same) (subst (λ (x : Status). JournalsAs (Holds x) other) (sym is) h)
 
 -- ---- what a run may be asked
 

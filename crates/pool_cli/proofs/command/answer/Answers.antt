@@ -1,15 +1,19 @@
-use Rattle.std.proofs.Common.{ℕ, List, ap, ap₂, sym, subst, ◌∙◌}
+use Rattle.std.proofs.Common.{◌≡◌, ℕ, List, ap, ap₂, sym, subst, ◌∙◌}
 use Rattle.std.specs.Prelude.{IsTrue}
+use Rattle.edge_io.specs.Writing.{behind}
+use Rattle.disk_model.specs.Disks.{LeavesOnly}
+use Rattle.cert_format.specs.Text.{text_of}
 use Rattle.cli_words.specs.Requests.{solve, check, report, formulate, make, trial}
 use Rattle.cli_words.specs.Views.{shown_request, shown_solving}
 use Rattle.run_status.specs.Reads.{ReadsUnder}
+use Rattle.solve_command.specs.Journaled.{Journaled}
 use Rattle.solve_command.specs.SolveEnds.{solve_status}
 use Rattle.certificate_commands.specs.CheckEnds.{check_status}
 use Rattle.certificate_commands.specs.ReportEnds.{report_status}
 use Rattle.pool_cli.specs.FormulateEnds.{formulate_status}
 use Rattle.pool_cli.specs.MakeEnds.{make_status}
 use Rattle.pool_cli.specs.TrialEnds.{trial_status}
-use Rattle.pool_cli.proofs.Commands.{ends_as, took_as}
+use Rattle.pool_cli.proofs.Commands.{ends_as, journals_as, took_as}
 use Rattle.pool_cli.proofs.command.answer.Goals as goal
 
 -- ---- what the commands may ask for
@@ -48,6 +52,17 @@ returns-in-Solve-clause-ends g c =
     ends_as (shown_request c.args.request) (solve (shown_solving c.in-Solve.words)) c.from.result (solve_status c.solve.result)
     (ap shown_request c.in-Solve.is) c.from.ensures
     (g.S.Shelf.files c.args.shelf.now) (g.S.Shelf.taken c.args.shelf.now) (g.S.Shelf.taken c.solve.new.shelf) c.solve.ensures.ends
+
+pub returns-in-Solve-clause-journal : goal.returns-in-Solve-clause-journal
+returns-in-Solve-clause-journal g c = λ tells.
+    let old = c.args.disk.now in
+    let new = c.solve.new.disk in
+    journals_as (shown_request c.args.request) (solve (shown_solving c.in-Solve.words)) c.from.result (solve_status c.solve.result)
+    (ap shown_request c.in-Solve.is) c.from.ensures
+    (λ status s. Journaled (g.S.Shelf.files c.args.shelf.now) s
+    (LeavesOnly g.D.Disk.moment g.D.Disk.left_since old new) (g.D.Disk.may_leave old) (g.D.Disk.reads new) (g.D.Disk.may_leave new)
+    status (λ k. g.K.Sink.taken c.solve.new.out ≡ behind (g.K.Sink.taken c.args.out.now) (text_of k)))
+    (λ file named. c.solve.ensures.journal file named tells)
 
 -- ---- check
 
