@@ -1,6 +1,6 @@
 -- A call of a disk in memory, from its count to its failure.
-use Rattle.std.proofs.Common.{◌≡◌, ℕ, List, length, sym, subst}
-use Rattle.disk_model.specs.Disks.{Torn, Follows, Among, Elapses}
+use Rattle.std.proofs.Common.{◌≡◌, ℕ, List, sym, subst}
+use Rattle.disk_model.specs.Disks.{Follows, Among, Elapses}
 use Rattle.disk_model.specs.MemDisks.{moment_of, ImageOf, SinceOf}
 use Rattle.disk_model.specs.declared.mem_disk.MemDisk.{MemDisk}
 
@@ -11,12 +11,9 @@ call-crash step begun old gone new before behind h =
     subst (λ (d : MemDisk). Follows step (ImageOf old) (SinceOf d (moment_of old))) (sym behind)
     (subst (λ (d : MemDisk). Follows step (ImageOf d) (SinceOf gone (moment_of d))) before h)
 
--- the same for a write, of which the step keeps the bytes
-pub call-torn : (at : ℕ) (kept bytes : List ℕ) (begun old gone new : MemDisk) → kept ≡ bytes → begun ≡ old → new ≡ gone
-    → Follows (Torn at (length kept)) (ImageOf begun) (SinceOf gone (moment_of begun)) → Follows (Torn at (length bytes)) (ImageOf old) (SinceOf new (moment_of old))
-call-torn at kept bytes begun old gone new is before behind h =
-    subst (λ (w : List ℕ). Follows (Torn at (length w)) (ImageOf old) (SinceOf new (moment_of old))) is
-    (call-crash (Torn at (length kept)) begun old gone new before behind h)
+-- the same where no image is new
+pub call-among : (old gone new : MemDisk) → new ≡ gone → Among (ImageOf old) (SinceOf gone (moment_of old)) → Among (ImageOf old) (SinceOf new (moment_of old))
+call-among old gone new behind h = subst (λ (d : MemDisk). Among (ImageOf old) (SinceOf d (moment_of old))) (sym behind) h
 
 pub call-time : (begun old gone new : MemDisk) → begun ≡ old → new ≡ gone → Elapses (moment_of begun) (moment_of gone) (SinceOf begun) (SinceOf gone)
     → Elapses (moment_of old) (moment_of new) (SinceOf old) (SinceOf new)

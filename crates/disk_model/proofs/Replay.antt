@@ -1,7 +1,7 @@
 -- The steps of a file in memory, gone again.
 use Rattle.std.proofs.Common.{◌≡◌, ℕ, ◌+◌, ◌<◌, List, [], ◌∷◌, ◌++◌, length, take, get_or, refl, sym, ◌∙◌, ap, subst, arith, length-take, get_or-take}
 use Rattle.std.proofs.lemmas.List.{take_more}
-use Rattle.disk_model.specs.Steps.{after_step, file_after, Lands, Leaves, MayLeave, synced_step, synced_after, Replayed}
+use Rattle.disk_model.specs.Steps.{after_step, file_after, Lands, Leaves, MayLeave, synced_step, synced_after, Replayed, GoesOn}
 use Rattle.disk_model.specs.Images.{file_after-push, image-push}
 use Rattle.disk_model.specs.declared.step.Step.{Step}
 use Rattle.disk_model.specs.declared.step.Step.TheVariants.{Write, Cut, Sync}
@@ -22,20 +22,10 @@ more-of steps xs n k s same lt is =
     take_more steps k s within ∙ ap (λ (x : Step). take k steps ++ x ∷ []) (ap (λ (l : List Step). get_or l k s) (sym same) ∙ sym (get_or-take n xs k s small) ∙ sym is)
 
 -- the step is a sync
-pub replayed-sync : (start : List ℕ) (steps : List Step) (choice k : ℕ) (s : Step) (file image next landed : List ℕ)
-    → take (k + 1) steps ≡ take k steps ++ s ∷ [] → s ≡ Sync → Replayed start steps choice k file image → next ≡ file → landed ≡ file → Replayed start steps choice (k + 1) next landed
-replayed-sync start steps choice k s file image next landed more is r same put = record {
-  file_is = same ∙ r.file_is ∙ sym (ap (λ (w : List Step). file_after w start) e ∙ file_after-push ss Sync start);
-  leaves = subst (λ (w : List Step). MayLeave start w landed) (sym e) (image-push ss Sync start (λ i. i ≡ start) landed (put ∙ r.file_is));
-  synced = λ none. put ∙ r.file_is ∙ sym (ap (λ (w : List Step). synced_after w start start) e ∙ synced_after-push ss Sync start start);
-  written = λ one. put ∙ sym same;
-}
-  where
-    ss : List Step
-    ss = take k steps
-
-    e : take (k + 1) steps ≡ ss ++ Sync ∷ []
-    e = more ∙ ap (λ (x : Step). ss ++ x ∷ []) is
+pub goes-sync : (choice : ℕ) (s : Step) (file image next landed : List ℕ) → s ≡ Sync → next ≡ file → landed ≡ file → GoesOn s choice file image next landed
+goes-sync choice s file image next landed is same put =
+    subst (λ (w : Step). GoesOn w choice file image next landed) (sym is)
+    (record { file_is = same; leaves = put; synced = λ none. put; written = λ one at. put ∙ sym same })
 
 not-synced : (s : Step) (file synced : List ℕ) → ¬ (s ≡ Sync) → synced_step s file synced ≡ synced
 not-synced (Write at bytes) file synced other = refl
@@ -48,17 +38,34 @@ leaves-other (Cut to) file images i c other here lands = (i, here, lands)
 leaves-other Sync file images i c other here lands = absurd (other refl)
 
 -- the step is a write or a cut, and the image lands in this way
-pub replayed-other : (start : List ℕ) (steps : List Step) (choice k way : ℕ) (s : Step) (file image next landed : List ℕ)
-    → take (k + 1) steps ≡ take k steps ++ s ∷ [] → ¬ (s ≡ Sync) → Replayed start steps choice k file image
-    → (choice ≡ 0 → way ≡ 0) → (choice ≡ 1 → way ≡ 1) → Lands s image landed → (way ≡ 0 → landed ≡ image) → (way ≡ 1 → landed ≡ after_step s image)
-    → next ≡ after_step s file → Replayed start steps choice (k + 1) next landed
-replayed-other start steps choice k way s file image next landed more other r none one lands not_at_all wholly goes = record {
-  file_is = goes ∙ ap (after_step s) r.file_is ∙ sym (ap (λ (w : List Step). file_after w start) more ∙ file_after-push ss s start);
-  leaves = subst (λ (w : List Step). MayLeave start w landed) (sym more)
-      (image-push ss s start (λ i. i ≡ start) landed (leaves-other s (file_after ss start) (MayLeave start ss) image landed other r.leaves lands));
-  synced = λ z. not_at_all (none z) ∙ r.synced z
-      ∙ sym (ap (λ (w : List Step). synced_after w start start) more ∙ synced_after-push ss s start start ∙ not-synced s (file_after ss start) (synced_after ss start start) other);
-  written = λ z. wholly (one z) ∙ ap (after_step s) (r.written z) ∙ sym goes;
+pub goes-other : (choice way : ℕ) (s : Step) (file image next landed : List ℕ) → ¬ (s ≡ Sync) → (choice ≡ 0 → way ≡ 0) → (choice ≡ 1 → way ≡ 1)
+    → Lands s image landed → (way ≡ 0 → landed ≡ image) → (way ≡ 1 → landed ≡ after_step s image) → next ≡ after_step s file → GoesOn s choice file image next landed
+goes-other choice way s file image next landed other none one lands not_at_all wholly goes = record {
+  file_is = goes;
+  leaves = leaves-other s file (λ i. i ≡ image) image landed other refl lands;
+  synced = λ z. not_at_all (none z) ∙ sym (not-synced s file image other);
+  written = λ z same. wholly (one z) ∙ ap (after_step s) same ∙ sym goes;
+}
+
+leaves-weaker : (s : Step) (file : List ℕ) (P Q : List ℕ → Type 0) (c : List ℕ) → ((i : List ℕ) → P i → Q i) → Leaves s file P c → Leaves s file Q c
+leaves-weaker (Write at bytes) file P Q c weaker left = (left.0, weaker left.0 left.1, left.2)
+leaves-weaker (Cut to) file P Q c weaker left = (left.0, weaker left.0 left.1, left.2)
+leaves-weaker Sync file P Q c weaker left = left
+
+-- after one step more
+pub replayed-more : (start : List ℕ) (steps : List Step) (choice k : ℕ) (s : Step) (file image next landed : List ℕ)
+    → take (k + 1) steps ≡ take k steps ++ s ∷ [] → Replayed start steps choice k file image → GoesOn s choice file image next landed → Replayed start steps choice (k + 1) next landed
+replayed-more start steps choice k s file image next landed more r goes = record {
+  file_is = goes.file_is ∙ ap (after_step s) r.file_is ∙ sym (ap (λ (w : List Step). file_after w start) more ∙ file_after-push ss s start);
+  leaves = subst (λ (w : List Step). MayLeave start w landed) (sym more) (image-push ss s start (λ i. i ≡ start) landed (
+      leaves-weaker s (file_after ss start) (λ i. i ≡ image) (MayLeave start ss) landed (λ i is. subst (MayLeave start ss) (sym is) r.leaves)
+      (subst (λ (f : List ℕ). Leaves s f (λ i. i ≡ image) landed) r.file_is goes.leaves)
+      ));
+  synced = λ z. goes.synced z
+      ∙ ap (λ (f : List ℕ). synced_step s f image) r.file_is
+      ∙ ap (synced_step s (file_after ss start)) (r.synced z)
+      ∙ sym (ap (λ (w : List Step). synced_after w start start) more ∙ synced_after-push ss s start start);
+  written = λ z. goes.written z (r.written z);
 }
   where
     ss : List Step

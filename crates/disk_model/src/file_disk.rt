@@ -36,11 +36,23 @@ impl<R: Files> FileDisk<R> {
 
     /// Opens a file, makes it where there is none, and puts its name on the disk.
     fn open(&self, name: &str) -> io::Result<R::File> {
-        let file = OpenOptions::new()
+        let file = self.find(name)?;
+        self.sync_folder(name)?;
+        length_of(&file)?;
+        Ok(file)
+    }
+
+    /// Opens a file, and makes it where there is none.
+    fn find(&self, name: &str) -> io::Result<R::File> {
+        OpenOptions::new()
             .read(true)
             .write(true)
             .create(true)
-            .open(&self.files, name)?;
+            .open(&self.files, name)
+    }
+
+    /// Puts the folder of a file on the disk.
+    fn sync_folder(&self, name: &str) -> io::Result<()> {
         let folder = match Path::new(name).parent() {
             Some(parent) if !parent.as_str().is_empty() => parent.as_str(),
             _ => ".",
@@ -48,9 +60,7 @@ impl<R: Files> FileDisk<R> {
         OpenOptions::new()
             .read(true)
             .open(&self.files, folder)?
-            .sync_all()?;
-        length_of(&file)?;
-        Ok(file)
+            .sync_all()
     }
 
     /// Hands an outcome on. A failure is counted, and the file is let go.

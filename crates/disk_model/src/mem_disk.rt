@@ -1,9 +1,9 @@
 //! A disk in memory.
 
-ghost use Rattle.std.specs.Prelude.{◌≡◌, ◌+◌, ◌-◌, ◌^◌, ◌<◌, ◌≤◌, ◌⊎◌, [], ◌∷◌, ◌++◌, None, true, false, min, length, take, drop, Contains, IfOk, IfSome, OnOk, OnErr, IsErr, option_map, Some};
+ghost use Rattle.std.specs.Prelude.{◌≡◌, ◌+◌, ◌-◌, ◌^◌, ◌<◌, ◌≤◌, ◌⊎◌, [], ◌∷◌, ◌++◌, None, true, false, min, length, take, drop, Contains, IsTrue, IfOk, IfSome, OnOk, OnErr, IsErr, option_map, Some};
 ghost use Rattle.edge_io.specs.Counts.{Grows, Rose};
 ghost use Rattle.disk_model.specs.Disks.{written, Torn, Shortened, Follows, Among, Only, Reaches, IsOneOf, Elapses};
-ghost use Rattle.disk_model.specs.Steps.{held, file_after, after_step, Lands};
+ghost use Rattle.disk_model.specs.Steps.{held, file_after, after_step, Lands, Replayed, GoesOn};
 ghost use Rattle.disk_model.specs.Images.{reads-held, counts-now, only-now};
 
 use crate::disk::{Disk, DiskFailed, MAX_LENGTH};
@@ -85,21 +85,28 @@ impl MemDisk {
         let now = (moment as usize).min(self.steps.len());
         let mut file = Vec::from_slice(self.alloc, &self.start)?;
         let mut image = Vec::from_slice(self.alloc, &self.start)?;
+        self.replay(now, choice, &mut file, &mut image)?;
+        Ok(image)
+    }
+
+    /// Takes a file and an image of it, both as they were at the start, over the first steps.
+    fn replay(
+        &self,
+        now: usize,
+        choice: u64,
+        file: &mut Vec<u8>,
+        image: &mut Vec<u8>,
+    ) -> Result<(), AllocError>
+        requires gone { now ≤ length self.now.steps.items }
+        requires file { file.old.items ≡ self.now.start.items }
+        requires image { image.old.items ≡ self.now.start.items }
+        ensures { OnOk result (Replayed self.now.start.items self.now.steps.items choice now file.new.items image.new.items) }
+    {
         let mut rest = choice;
         for step in &self.steps[..now] {
-            match step {
-                Step::Sync => {
-                    image = Vec::from_slice(self.alloc, &file)?;
-                    rest = choice;
-                }
-                _ => {
-                    let way = choose(choice, &mut rest, step.ways(file.len()));
-                    image = step.land(self.alloc, &image, way)?;
-                    file = step.land(self.alloc, &file, WHOLLY)?;
-                }
-            }
+            go_on(self.alloc, step, choice, &mut rest, file, image)?;
         }
-        Ok(image)
+        Ok(())
     }
 
     /// The moment now.
@@ -109,15 +116,18 @@ impl MemDisk {
         self.steps.len() as u64
     }
 
-    /// Counts a call, which fails where it was told to.
-    fn begin(&mut self) -> Result<(), DiskFailed>
-        ensures told { Contains self.old.failing.items self.old.calls → IsErr result }
-        ensures only { OnErr result (Contains self.old.failing.items self.old.calls) }
-        ensures counted { OnErr result (Rose self.old.faults self.new.faults) }
-        ensures grows { Grows self.old.faults self.new.faults }
-        ensures unknown { OnErr result (self.new.attached ≡ false) }
+    /// Counts a call, which fails where it did not work or was told to fail: then what reads give is not known from now on.
+    fn count(&mut self, worked: bool) -> Result<(), DiskFailed>
+        ensures worked { OnOk result (IsTrue worked) }
         ensures same { OnOk result (self.new.attached ≡ self.old.attached) }
-        ensures next { self.new.calls ≡ min (self.old.calls + 1) (2 ^ 64 - 1) }
+        ensures crash { Among (ImageOf self.old) (SinceOf self.new (moment_of self.old)) }
+        ensures time { Elapses (moment_of self.old) (moment_of self.new) (SinceOf self.old) (SinceOf self.new) }
+        ensures failed { OnErr result (Rose (faults_of self.old) (faults_of self.new)) }
+        ensures unknown { OnErr result (self.new.attached ≡ false) }
+        ensures faults_grow { Grows (faults_of self.old) (faults_of self.new) }
+        ensures told { Contains (failing_of self.old) (calls_of self.old) → IsErr result }
+        ensures only { OnErr result (Contains (failing_of self.old) (calls_of self.old) ⊎ (worked ≡ false)) }
+        ensures next { calls_of self.new ≡ min (calls_of self.old + 1) (2 ^ 64 - 1) }
         ensures rest { self.new ≡ record self.old {
           calls = self.new.calls;
           faults = self.new.faults;
@@ -126,6 +136,9 @@ impl MemDisk {
     {
         let call = self.calls;
         self.calls = call.saturating_add(1);
+        if !worked {
+            return Err(self.fail());
+        }
         if self.failing.contains(&call) {
             return Err(self.fail());
         }
@@ -160,6 +173,45 @@ impl MemDisk {
         self.steps.push(step)?;
         self.changed = Some(next);
         Ok(())
+    }
+
+    /// Goes a write, where the file stays within the longest and memory lasts: whether it did.
+    fn put(&mut self, at: u64, bytes: &[u8]) -> bool
+        ensures bytes { IsTrue result → bytes_of self.new ≡ written (bytes_of self.old) at bytes.now }
+        ensures short { IsTrue result → at + length bytes.now ≤ 2 ^ 62 }
+        ensures crash { Follows (Torn at (length bytes.now)) (ImageOf self.old) (SinceOf self.new (moment_of self.old)) }
+        ensures time { Elapses (moment_of self.old) (moment_of self.new) (SinceOf self.old) (SinceOf self.new) }
+        ensures next_moment { IsTrue result → moment_of self.new ≡ moment_of self.old + 1 }
+        ensures same_attached { self.new.attached ≡ self.old.attached }
+        ensures same_failing { self.new.failing ≡ self.old.failing }
+        ensures same_calls { self.new.calls ≡ self.old.calls }
+        ensures same_faults { self.new.faults ≡ self.old.faults }
+    {
+        if at.saturating_add(bytes.len() as u64) > MAX_LENGTH {
+            return false;
+        }
+        match Vec::from_slice(self.alloc, bytes) {
+            Ok(kept) => self.go(Step::Write(at as usize, kept)).is_ok(),
+            Err(_) => false,
+        }
+    }
+
+    /// Goes a sync, where the call is not told to fail and memory lasts: whether it did.
+    fn settle(&mut self) -> bool
+        ensures bytes { bytes_of self.new ≡ bytes_of self.old }
+        ensures durable { IsTrue result → Only (bytes_of self.old) (ImageOf self.new) }
+        ensures crash { Among (ImageOf self.old) (SinceOf self.new (moment_of self.old)) }
+        ensures time { Elapses (moment_of self.old) (moment_of self.new) (SinceOf self.old) (SinceOf self.new) }
+        ensures next_moment { IsTrue result → moment_of self.new ≡ moment_of self.old + 1 }
+        ensures same_attached { self.new.attached ≡ self.old.attached }
+        ensures same_failing { self.new.failing ≡ self.old.failing }
+        ensures same_calls { self.new.calls ≡ self.old.calls }
+        ensures same_faults { self.new.faults ≡ self.old.faults }
+    {
+        if self.failing.contains(&self.calls) {
+            return false;
+        }
+        self.go(Step::Sync).is_ok()
     }
 }
 
@@ -204,10 +256,8 @@ impl Disk for MemDisk {
         ensures next { calls_of self.new ≡ min (calls_of self.old + 1) (2 ^ 64 - 1) }
         ensures same_failing { failing_of self.new ≡ failing_of self.old }
     {
-        self.begin()?;
-        if self.bytes().len() as u64 > MAX_LENGTH {
-            return Err(self.fail());
-        }
+        let short = self.bytes().len() as u64 <= MAX_LENGTH;
+        self.count(short)?;
         self.attached = true;
         Ok(())
     }
@@ -231,11 +281,8 @@ impl Disk for MemDisk {
         ensures next { calls_of self.new ≡ min (calls_of self.old + 1) (2 ^ 64 - 1) }
         ensures same_failing { failing_of self.new ≡ failing_of self.old }
     {
-        self.begin()?;
         let length = self.bytes().len() as u64;
-        if length > MAX_LENGTH {
-            return Err(self.fail());
-        }
+        self.count(length <= MAX_LENGTH)?;
         Ok(length)
     }
 
@@ -258,7 +305,7 @@ impl Disk for MemDisk {
         ensures next { calls_of self.new ≡ min (calls_of self.old + 1) (2 ^ 64 - 1) }
         ensures same_failing { failing_of self.new ≡ failing_of self.old }
     {
-        self.begin()?;
+        self.count(true)?;
         let start = at as usize;
         into.copy_from_slice(&self.bytes()[start..start + into.len()]);
         Ok(())
@@ -281,17 +328,8 @@ impl Disk for MemDisk {
         ensures next { calls_of self.new ≡ min (calls_of self.old + 1) (2 ^ 64 - 1) }
         ensures same_failing { failing_of self.new ≡ failing_of self.old }
     {
-        let begun = self.begin();
-        if at.saturating_add(bytes.len() as u64) > MAX_LENGTH {
-            return Err(self.fail());
-        }
-        let Ok(kept) = Vec::from_slice(self.alloc, bytes) else {
-            return Err(self.fail());
-        };
-        if self.go(Step::Write(at as usize, kept)).is_err() {
-            return Err(self.fail());
-        }
-        begun
+        let gone = self.put(at, bytes);
+        self.count(gone)
     }
 
     fn cut(&mut self, to: u64) -> Result<(), DiskFailed>
@@ -310,11 +348,8 @@ impl Disk for MemDisk {
         ensures next { calls_of self.new ≡ min (calls_of self.old + 1) (2 ^ 64 - 1) }
         ensures same_failing { failing_of self.new ≡ failing_of self.old }
     {
-        let begun = self.begin();
-        if self.go(Step::Cut(to as usize)).is_err() {
-            return Err(self.fail());
-        }
-        begun
+        let gone = self.go(Step::Cut(to as usize)).is_ok();
+        self.count(gone)
     }
 
     fn sync(&mut self) -> Result<(), DiskFailed>
@@ -334,11 +369,34 @@ impl Disk for MemDisk {
         ensures next { calls_of self.new ≡ min (calls_of self.old + 1) (2 ^ 64 - 1) }
         ensures same_failing { failing_of self.new ≡ failing_of self.old }
     {
-        self.begin()?;
-        if self.go(Step::Sync).is_err() {
-            return Err(self.fail());
+        let gone = self.settle();
+        self.count(gone)
+    }
+}
+
+/// Takes the file over a step, and the image as the choice says.
+fn go_on(
+    alloc: Global,
+    step: &Step,
+    choice: u64,
+    rest: &mut u64,
+    file: &mut Vec<u8>,
+    image: &mut Vec<u8>,
+) -> Result<(), AllocError>
+    ensures { OnOk result (GoesOn step.now choice file.old.items image.old.items file.new.items image.new.items) }
+{
+    match step {
+        Step::Sync => {
+            *rest = choice;
+            *image = Vec::from_slice(alloc, file)?;
+            Ok(())
         }
-        Ok(())
+        _ => {
+            let way = choose(choice, rest, step.ways(file.len()));
+            *image = step.land(alloc, image, way)?;
+            *file = step.land(alloc, file, WHOLLY)?;
+            Ok(())
+        }
     }
 }
 

@@ -1,7 +1,7 @@
 //! The steps that a file in memory goes, and how a crash cuts them short.
 
-ghost use Rattle.std.specs.Prelude.{◌≡◌, ◌<◌, ◌≤◌, IfOk, length};
-ghost use Rattle.disk_model.specs.Disks.{written};
+ghost use Rattle.std.specs.Prelude.{◌≡◌, ◌<◌, ◌≤◌, ◌++◌, IfOk, OnOk, length, take};
+ghost use Rattle.disk_model.specs.Disks.{written, Torn, Shortened};
 
 use std::alloc::{AllocError, Global};
 
@@ -31,9 +31,16 @@ pub(crate) fn overlay(
     let front = at.min(file.len());
     let behind = at.saturating_add(bytes.len()).min(file.len());
     let mut next = Vec::from_slice(alloc, &file[..front])?;
-    next.extend_from_slice(bytes)?;
-    next.extend_from_slice(&file[behind..])?;
+    extend_by(&mut next, bytes, &file[behind..])?;
     Ok(next)
+}
+
+/// Puts the bytes of both behind those that are there.
+fn extend_by(next: &mut Vec<u8>, bytes: &[u8], behind: &[u8]) -> Result<(), AllocError>
+    ensures { OnOk result (next.new.items ≡ next.old.items ++ bytes.now ++ behind.now) }
+{
+    next.extend_from_slice(bytes)?;
+    next.extend_from_slice(behind)
 }
 
 impl Step {
@@ -59,24 +66,46 @@ impl Step {
         ensures wholly { way ≡ 1 → IfOk result (λ v. v.items ≡ after_step self.now file.now) }
     {
         match self {
-            Step::Write(at, bytes) => match way {
-                0 => Vec::from_slice(alloc, file),
-                1 => overlay(alloc, file, *at, bytes),
-                _ => {
-                    let piece = tear(alloc, bytes, (way - 2) / 2, way % 2 == 1)?;
-                    overlay(alloc, file, *at, &piece)
-                }
-            },
-            Step::Cut(to) => {
-                let length = match way {
-                    0 => file.len(),
-                    _ => to.saturating_add((way - 1) as usize).min(file.len()),
-                };
-                Vec::from_slice(alloc, &file[..length])
-            }
+            Step::Write(at, bytes) => land_write(alloc, file, *at, bytes, way),
+            Step::Cut(to) => land_cut(alloc, file, *to, way),
             Step::Sync => Vec::from_slice(alloc, file),
         }
     }
+}
+
+/// The file after a write of these bytes that lands in one of its ways.
+fn land_write(
+    alloc: Global,
+    file: &[u8],
+    at: usize,
+    bytes: &[u8],
+    way: u64,
+) -> Result<Vec<u8>, AllocError>
+    ensures torn { IfOk result (λ v. Torn at (length bytes.now) file.now v.items) }
+    ensures not_at_all { way ≡ 0 → IfOk result (λ v. v.items ≡ file.now) }
+    ensures wholly { way ≡ 1 → IfOk result (λ v. v.items ≡ written file.now at bytes.now) }
+{
+    match way {
+        0 => Vec::from_slice(alloc, file),
+        1 => overlay(alloc, file, at, bytes),
+        _ => {
+            let piece = tear(alloc, bytes, (way - 2) / 2, way % 2 == 1)?;
+            overlay(alloc, file, at, &piece)
+        }
+    }
+}
+
+/// The file after a cut to this length that lands in one of its ways.
+fn land_cut(alloc: Global, file: &[u8], to: usize, way: u64) -> Result<Vec<u8>, AllocError>
+    ensures shortened { IfOk result (λ v. Shortened to file.now v.items) }
+    ensures not_at_all { way ≡ 0 → IfOk result (λ v. v.items ≡ file.now) }
+    ensures wholly { way ≡ 1 → IfOk result (λ v. v.items ≡ take to file.now) }
+{
+    let length = match way {
+        0 => file.len(),
+        _ => to.saturating_add((way - 1) as usize).min(file.len()),
+    };
+    Vec::from_slice(alloc, &file[..length])
 }
 
 /// The first bytes of what is written, alone or with other bytes than the right ones behind them.
@@ -84,13 +113,12 @@ fn tear(alloc: Global, bytes: &[u8], came: u64, filled: bool) -> Result<Vec<u8>,
     ensures { IfOk result (λ v. length v.items ≤ length bytes.now) }
 {
     let came = (came as usize).min(bytes.len());
-    if filled {
-        bytes
-            .iter()
-            .enumerate()
-            .map(|(i, byte)| if i < came { *byte } else { !*byte })
-            .collect(alloc)
-    } else {
-        Vec::from_slice(alloc, &bytes[..came])
+    if !filled {
+        return Vec::from_slice(alloc, &bytes[..came]);
     }
+    let mut piece = Vec::from_slice(alloc, bytes)?;
+    for byte in piece[came..].iter_mut() {
+        *byte = !*byte;
+    }
+    Ok(piece)
 }

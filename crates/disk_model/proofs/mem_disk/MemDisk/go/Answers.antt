@@ -1,7 +1,7 @@
 use Rattle.std.proofs.Common.{List, length, [], ◌∷◌, ◌++◌, refl, sym, ◌∙◌, ap}
 use Rattle.std.proofs.lemmas.List.{length_push}
 use Rattle.disk_model.specs.Steps.{after_step, file_after}
-use Rattle.disk_model.specs.Images.{file_after-push, crash-to, time-to, synced-only}
+use Rattle.disk_model.specs.Images.{file_after-push, crash-to, crash-same, time-to, time-same, synced-only}
 use Rattle.disk_model.specs.MemDisks.{bytes_of}
 use Rattle.disk_model.specs.declared.step.Step.{Step}
 use Rattle.disk_model.proofs.mem_disk.MemDisk.go.Goals as goal
@@ -28,3 +28,9 @@ returns-clause-durable c = λ is.
 
 pub returns-clause-next_moment : goal.returns-clause-next_moment
 returns-clause-next_moment c = ap length c.in_ok-push.ensures.items ∙ length_push c.args.self.now.steps.items c.args.step
+
+pub returns-in_err-next-clause-crash : goal.returns-in_err-next-clause-crash
+returns-in_err-next-clause-crash c = crash-same c.args.self.now.start.items c.args.self.now.steps.items c.args.self.now.steps.items c.args.step refl
+
+pub returns-in_err-next-clause-time : goal.returns-in_err-next-clause-time
+returns-in_err-next-clause-time c = time-same c.args.self.now.start.items c.args.self.now.steps.items
