@@ -120,8 +120,6 @@ impl MemDisk {
     fn count(&mut self, worked: bool) -> Result<(), DiskFailed>
         ensures worked { OnOk result (IsTrue worked) }
         ensures same { OnOk result (self.new.attached ≡ self.old.attached) }
-        ensures crash { Among (ImageOf self.old) (SinceOf self.new (moment_of self.old)) }
-        ensures time { Elapses (moment_of self.old) (moment_of self.new) (SinceOf self.old) (SinceOf self.new) }
         ensures failed { OnErr result (Rose (faults_of self.old) (faults_of self.new)) }
         ensures unknown { OnErr result (self.new.attached ≡ false) }
         ensures faults_grow { Grows (faults_of self.old) (faults_of self.new) }

@@ -1,12 +1,13 @@
 use Rattle.std.proofs.Common.{ap}
+use Rattle.disk_model.proofs.Calls.{quiet-crash, quiet-time}
 use Rattle.disk_model.specs.MemDisks.{bytes_of, moment_of, failing_of}
 use Rattle.disk_model.proofs.mem_disk.MemDiskDisk.len.Goals as goal
 
 pub returns-in_err-count-clause-crash : goal.returns-in_err-count-clause-crash
-returns-in_err-count-clause-crash c = c.count.ensures.crash
+returns-in_err-count-clause-crash c = quiet-crash c.args.self.now c.count.new.self c.count.new.self.calls c.count.new.self.faults c.count.new.self.attached c.count.ensures.rest
 
 pub returns-in_err-count-clause-time : goal.returns-in_err-count-clause-time
-returns-in_err-count-clause-time c = c.count.ensures.time
+returns-in_err-count-clause-time c = quiet-time c.args.self.now c.count.new.self c.count.new.self.calls c.count.new.self.faults c.count.new.self.attached c.count.ensures.rest
 
 pub returns-in_err-count-clause-faults_grow : goal.returns-in_err-count-clause-faults_grow
 returns-in_err-count-clause-faults_grow c = c.count.ensures.faults_grow
@@ -24,10 +25,10 @@ pub returns-in_err-count-clause-same_failing : goal.returns-in_err-count-clause-
 returns-in_err-count-clause-same_failing c = ap failing_of c.count.ensures.rest
 
 pub returns-clause-crash : goal.returns-clause-crash
-returns-clause-crash c = c.count.ensures.crash
+returns-clause-crash c = quiet-crash c.args.self.now c.count.new.self c.count.new.self.calls c.count.new.self.faults c.count.new.self.attached c.count.ensures.rest
 
 pub returns-clause-time : goal.returns-clause-time
-returns-clause-time c = c.count.ensures.time
+returns-clause-time c = quiet-time c.args.self.now c.count.new.self c.count.new.self.calls c.count.new.self.faults c.count.new.self.attached c.count.ensures.rest
 
 pub returns-clause-faults_grow : goal.returns-clause-faults_grow
 returns-clause-faults_grow c = c.count.ensures.faults_grow
