@@ -30,21 +30,16 @@ fn write_field<K: Sink, N: Integer>(out: &mut K, n: N) -> Result<(), WriteFault>
     write_whole(out, buffer.format(n).as_bytes())
 }
 
-/// Numbers, with one space before each, handed on as one piece, or by halves where that is too long.
+/// Numbers, with one space before each, handed on as one piece, or one after another where that is too long.
 fn write_fields<K: Sink, N: Integer>(out: &mut K, numbers: &[N]) -> Result<(), WriteFault>
     ensures wrote { Wrote result (K.taken out.old) (flat_map field (map N.text numbers.now)) (K.taken out.new) }
     ensures failed { OnErr result (Rose (K.faults out.old) (K.faults out.new)) }
     ensures faults_grow { Grows (K.faults out.old) (K.faults out.new) }
 {
-    if let Some(written) = short_fields(out, numbers) {
-        return written;
+    match short_fields(out, numbers) {
+        Some(written) => written,
+        None => put_fields(out, numbers),
     }
-    if numbers.len() < 2 {
-        return put_fields(out, numbers);
-    }
-    let (first, second) = numbers.split_at(numbers.len() / 2);
-    write_fields(out, first)?;
-    write_fields(out, second)
 }
 
 /// Numbers, with one space before each, as one piece, or nothing where that is too long. No room is held but while it runs.
