@@ -13,7 +13,7 @@ use Rattle.network_parts.specs.declared.arcs.Ends.{Ends}
 use Rattle.network_parts.specs.declared.arcs.Arcs.{Arcs}
 use Rattle.network_parts.specs.declared.arcs.Arc as own
 use Rattle.network_parts.specs.Faults.{IsUnknownName, IsArcBackwards, IsPoolToPool, IsDuplicateArc, IsPoolWithoutInput, IsPoolWithoutOutput, ends_of, node_names}
-use Rattle.network_parts.specs.Nodes.{known, node_of, nodes_of, source_number, pool_number, product_number, is_backward, is_between_pools}
+use Rattle.network_parts.specs.Nodes.{known, both_ends, node_of, nodes_of, source_number, pool_number, product_number, is_backward, is_between_pools}
 use Rattle.network_parts.specs.Views.{shown_arc}
 use Rattle.network_parts.specs.Ready.{IsDistinct, AreEndsOf, IsMarked, IsRepeatedEnds, AreArcsOf, no_ends}
 use Rattle.network_parts.proofs.Lookups.{found_contains, has_number, number_of_some, source_number_is, pool_number_is, product_number_is}
@@ -55,11 +55,29 @@ absent_by f (Some i) s e = cc
 absent : (r : Rows) (name : List ℕ) → node_of r name ≡ None → ¬ Contains (node_names r) name
 absent r name none there = absent_by _ (number_of name (node_names r)) (has_number name (node_names r) there.0 there.1 there.2) none
 
-pub lost_from : (r : Rows) (n : ℕ) (name : List ℕ) → n < length r.arcs → (ends_of r n).0 ≡ name → node_of r name ≡ None → IsUnknownName r n
-lost_from r n name here e none = (here, inl (subst (λ x. ¬ Contains (node_names r) x) (sym e) (absent r name none)))
+-- the nodes of two ends that were found
+pub both_known : (a b : Option Node) (e : Ends) → both_ends a b ≡ Some e → known e ≡ (a, b)
+both_known (Some x) (Some y) e is =
+    let from : x ≡ e.from = cc (ap (option_map (λ (p : Ends). p.from)) is) in
+    let to : y ≡ e.to = cc (ap (option_map (λ (p : Ends). p.to)) is) in
+    λ i. (Some (sym from i), Some (sym to i))
+both_known None b e is = cc
+both_known (Some x) None e is = cc
 
-pub lost_to : (r : Rows) (n : ℕ) (name : List ℕ) → n < length r.arcs → (ends_of r n).1 ≡ name → node_of r name ≡ None → IsUnknownName r n
-lost_to r n name here e none = (here, inr (subst (λ x. ¬ Contains (node_names r) x) (sym e) (absent r name none)))
+both_lost : (a b : Option Node) → both_ends a b ≡ None → (a ≡ None) ⊎ (b ≡ None)
+both_lost None b is = inl refl
+both_lost (Some x) None is = inr refl
+both_lost (Some x) (Some y) is = cc
+
+-- an arc of which an end was not found
+pub lost_end : (r : Rows) (n : ℕ) (from to : List ℕ) → n < length r.arcs → ends_of r n ≡ (from, to) → both_ends (node_of r from) (node_of r to) ≡ None → IsUnknownName r n
+lost_end r n from to here at none = (
+  here,
+  elim (both_lost (node_of r from) (node_of r to) none) [
+    | inl e ↦ inl (subst (λ x. ¬ Contains (node_names r) x) (sym (ap (λ p. p.0) at)) (absent r from e))
+    | inr e ↦ inr (subst (λ x. ¬ Contains (node_names r) x) (sym (ap (λ p. p.1) at)) (absent r to e))
+  ],
+)
 
 -- ---- what a node says of its name
 

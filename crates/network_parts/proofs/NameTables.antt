@@ -61,5 +61,8 @@ added_more old now new names n name is h at e =
 pub fresh_more : (old now names : List (List ℕ)) (n : ℕ) (name : List ℕ) → now ≡ old ++ take n names → get_or names n [] ≡ name → ¬ Contains now name → ¬ IsRepeatAt old names n
 fresh_more old now names n name is at absent repeat = absent (rw (is, ← at) repeat.1)
 
+pub repeat_here : (old now names : List (List ℕ)) (n : ℕ) (name : List ℕ) → now ≡ old ++ take n names → n < length names → get_or names n [] ≡ name → Contains now name → IsRepeatAt old names n
+repeat_here old now names n name is h at there = (h, rw (← is, at) there)
+
 pub added_all : (old now names : List (List ℕ)) (n : ℕ) → now ≡ old ++ take n names → length names ≤ n → now ≡ old ++ names
 added_all old now names n is h = is ∙ ap (λ xs. old ++ xs) (take_all n names h)

@@ -42,6 +42,12 @@ nodes_of r ends = (node_of r ends.0, node_of r ends.1)
 abbrev pub known : Ends → Option Node × Option Node
 known e = (Some e.from, Some e.to)
 
+-- the ends of an arc, if both are there
+abbrev pub both_ends : Option Node → Option Node → Option Ends
+both_ends None to = None
+both_ends (Some x) None = None
+both_ends (Some x) (Some y) = Some (record { from = x; to = y })
+
 -- an arc by two numbers, if both are there
 abbrev pub join : Option ℕ → Option ℕ → Option Arc
 join from to = option_and_then (λ i. option_map (λ j. record { from = i; to = j }) to) from

@@ -9,7 +9,7 @@ ghost use Rattle.network_parts.specs.Names.{names_in};
 ghost use Rattle.network_parts.specs.Faults.{node_names, IsUnknownName};
 ghost use Rattle.network_parts.specs.Ready.{IsCounted, IsDistinct, AreEndsOf, IsMarked, IsRepeatedEnds, AreArcsOf};
 ghost use Rattle.faults.specs.First.{IsFirstOf};
-ghost use Rattle.network_parts.specs.Nodes.{node_of, known, node_by_place, feed_between, out_between, direct_between, is_backward, is_between_pools};
+ghost use Rattle.network_parts.specs.Nodes.{node_of, both_ends, known, node_by_place, feed_between, out_between, direct_between, is_backward, is_between_pools};
 
 use crate::fault::NetFault;
 use crate::names::find_name;
@@ -51,7 +51,7 @@ impl Arc {
 }
 
 /// A node, by its number in its kind.
-#[derive(Clone, Copy, Debug, PartialEq, Eq)]
+#[derive(Clone, Copy, PartialEq, Eq)]
 pub(crate) enum Node {
     Source(u32),
     Pool(u32),
@@ -59,7 +59,7 @@ pub(crate) enum Node {
 }
 
 /// The nodes at the two ends of an arc.
-#[derive(Clone, Copy, Debug, PartialEq, Eq)]
+#[derive(Clone, Copy, PartialEq, Eq)]
 pub(crate) struct Ends {
     from: Node,
     to: Node,
@@ -92,15 +92,23 @@ pub(crate) fn ends_of(
 {
     let mut ends = Vec::new(alloc);
     for (n, arc) in parts.arcs.iter().enumerate() {
-        let (Some(from), Some(to)) = (
-            find_node(parts, names, arc.0.as_str()),
-            find_node(parts, names, arc.1.as_str()),
-        ) else {
+        let Some(pair) = find_ends(parts, names, arc.0.as_str(), arc.1.as_str()) else {
             return Err(NetFault::UnknownName(n as u32));
         };
-        ends.push(Ends { from, to })?;
+        ends.push(pair)?;
     }
     Ok(ends)
+}
+
+/// The nodes that have these names, if both have one.
+fn find_ends(parts: &Parts, names: &IndexSet<&str>, from: &str, to: &str) -> Option<Ends>
+    requires names { names_in names.now ≡ node_names (rows_of parts.now) }
+    requires count { length (node_names (rows_of parts.now)) ≤ 256 }
+    ensures { result ≡ both_ends (node_of (rows_of parts.now) from.now) (node_of (rows_of parts.now) to.now) }
+{
+    let from = find_node(parts, names, from)?;
+    let to = find_node(parts, names, to)?;
+    Some(Ends { from, to })
 }
 
 /// The node that has this name.
@@ -131,7 +139,7 @@ fn node_at(n: u32, sources: u32, pools: u32) -> Node
 }
 
 /// The arcs by kind, and the paths that they make.
-#[derive(Debug, Drop)]
+#[derive(Drop)]
 pub struct Arcs {
     pub feeds: Vec<Arc>,
     pub outs: Vec<Arc>,

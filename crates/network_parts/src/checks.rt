@@ -39,10 +39,7 @@ pub fn checked_arcs(alloc: Global, parts: &Parts) -> Result<Arcs, NetFault>
 {
     check_counts(parts)?;
     check_names(parts)?;
-    let names = node_table(alloc, parts)?;
-    check_qualities(alloc, parts)?;
-    let ends = known_ends(alloc, parts, &names)?;
-    let arcs = used_arcs(alloc, parts, &ends)?;
+    let arcs = named_arcs(alloc, parts)?;
     check_numbers(parts)?;
     Ok(arcs)
 }
@@ -127,6 +124,34 @@ fn check_qualities(alloc: Global, parts: &Parts) -> Result<(), NetFault>
     Ok(())
 }
 
+/// The arcs by kind, and the paths. Refuses the first name that stood before, then what the arcs are refused for.
+fn named_arcs(alloc: Global, parts: &Parts) -> Result<Arcs, NetFault>
+    requires counted { IsCounted (rows_of parts.now) }
+    requires clear { LacksEarlier (rows_of parts.now) (NetFault.DuplicateName Kind.Source 0) }
+    ensures found { IfOk result (AreArcsOf (rows_of parts.now)) }
+    ensures clear { OnOk result (LacksEarlier (rows_of parts.now) (NetFault.OutOfRange Kind.Source 0)) }
+    ensures fault { IfErr result (IsFirstFault (rows_of parts.now)) }
+{
+    let names = node_table(alloc, parts)?;
+    check_qualities(alloc, parts)?;
+    joined_arcs(alloc, parts, &names)
+}
+
+/// The arcs by kind, and the paths, by a table of the names of the nodes. Refuses the first arc that cannot be, then
+/// pools that lead nowhere, then too many paths.
+fn joined_arcs(alloc: Global, parts: &Parts, names: &IndexSet<&str>) -> Result<Arcs, NetFault>
+    requires counted { IsCounted (rows_of parts.now) }
+    requires names { names_in names.now ≡ node_names (rows_of parts.now) }
+    requires distinct { IsDistinct (rows_of parts.now) }
+    requires clear { LacksEarlier (rows_of parts.now) (NetFault.UnknownName 0) }
+    ensures found { IfOk result (AreArcsOf (rows_of parts.now)) }
+    ensures clear { OnOk result (LacksEarlier (rows_of parts.now) (NetFault.OutOfRange Kind.Source 0)) }
+    ensures fault { IfErr result (IsFirstFault (rows_of parts.now)) }
+{
+    let ends = known_ends(alloc, parts, names)?;
+    used_arcs(alloc, parts, &ends)
+}
+
 /// The ends of the arcs. Refuses the first end that names no node, then the first arc that goes the wrong way, from pool
 /// to pool, or where an earlier one goes.
 fn known_ends(alloc: Global, parts: &Parts, names: &IndexSet<&str>) -> Result<Vec<Ends>, NetFault>
@@ -157,10 +182,23 @@ fn used_arcs(alloc: Global, parts: &Parts, ends: &[Ends]) -> Result<Arcs, NetFau
     ensures fault { IfErr result (IsFirstFault (rows_of parts.now)) }
 {
     let arcs = arcs_from(alloc, parts, ends)?;
-    check_inputs(parts.pools.len() as u32, &arcs.feeds)?;
-    check_outputs(parts.pools.len() as u32, &arcs.outs)?;
-    check_paths(&arcs.paths)?;
+    check_arcs(parts, &arcs)?;
     Ok(arcs)
+}
+
+/// Refuses the first pool that lacks a feed, then the first that lacks an out, then too many paths.
+fn check_arcs(parts: &Parts, arcs: &Arcs) -> Result<(), NetFault>
+    requires counted { IsCounted (rows_of parts.now) }
+    requires found { AreArcsOf (rows_of parts.now) arcs.now }
+    requires clear { LacksEarlier (rows_of parts.now) (NetFault.PoolWithoutInput 0) }
+    ensures clear { OnOk result (LacksEarlier (rows_of parts.now) (NetFault.OutOfRange Kind.Source 0)) }
+    ensures fault { IfErr result (IsFirstFault (rows_of parts.now)) }
+{
+    let pools = parts.pools.len() as u32;
+    check_inputs(pools, &arcs.feeds)?;
+    check_outputs(pools, &arcs.outs)?;
+    check_paths(&arcs.paths)?;
+    Ok(())
 }
 
 /// Refuses the first row with a number outside its range, then the first product with limits that are not in order.

@@ -1,7 +1,7 @@
 //! What a network is built from: its rows, in file order.
 
 /// A source: what a unit costs, how much it can send, and its qualities, all in millionths.
-#[derive(Debug, Drop)]
+#[derive(Drop)]
 pub struct SourceRow {
     pub name: String,
     pub cost: i128,
@@ -10,14 +10,14 @@ pub struct SourceRow {
 }
 
 /// A pool, and how much can flow through it, in millionths.
-#[derive(Debug, Drop)]
+#[derive(Drop)]
 pub struct PoolRow {
     pub name: String,
     pub max: Option<i128>,
 }
 
 /// A product: what a unit brings, how much must and can flow into it, and the limits on each quality, all in millionths.
-#[derive(Debug, Drop)]
+#[derive(Drop)]
 pub struct ProductRow {
     pub name: String,
     pub price: i128,
@@ -28,7 +28,7 @@ pub struct ProductRow {
 }
 
 /// The rows of a network file. An arc is the names of its two ends.
-#[derive(Debug, Drop)]
+#[derive(Drop)]
 pub struct Parts {
     pub qualities: Vec<String>,
     pub sources: Vec<SourceRow>,

@@ -6,9 +6,8 @@ use Rattle.network_parts.specs.Faults.{IsUnknownName}
 use Rattle.network_parts.specs.declared.fault.NetFault.TheVariants.{UnknownName}
 use Rattle.network_parts.proofs.Mapped.{map_more, read-map}
 use Rattle.network_parts.proofs.Order.{told}
-use Rattle.network_parts.proofs.Conditions.{nodes_below, not_unknown, lost_from, lost_to}
+use Rattle.network_parts.proofs.Conditions.{nodes_below, not_unknown, both_known, lost_end}
 use Rattle.network_parts.proofs.arcs.ends_of.Goals as goal
-use Rattle.network_parts.proofs.arcs.ends_of.Goals.{in_default-via-in-Some+in_default, in_default-via-in_default}
 
 pub loop-n-preserved : goal.loop-n-preserved
 loop-n-preserved c =
@@ -17,7 +16,8 @@ loop-n-preserved c =
     let here : c.loop-n.n < length c.args.parts.now.arcs.items = omega (arith, c.loop-n-test.true, ap length c.deref-arc-items.ensures.value) in
     map_more known (nodes_of r) arc_ends c.args.parts.now.arcs.items c.loop-n.ends.items c.push.new.self.items c.loop-n.n c.arc-item.result
     _ c.loop-n.invariant here at c.in_ok-push.ensures.items
-    (λ i. ((c.in-Some-Some.ensures ∙ ap (node_of r) c.as_str.ensures.value) i, (c.in-Some-Some.ensures' ∙ ap (node_of r) c.as_str-in-loop-n.ensures.value) i))
+    (both_known _ _ _ (sym c.find_ends.ensures ∙ c.in-Some.is)
+    ∙ λ i. ((ap (node_of r) c.as_str.ensures.value) i, (ap (node_of r) c.as_str-in-loop-n.ensures.value) i))
 
 pub returns-in_default-clause-first : goal.returns-in_default-clause-first
 returns-in_default-clause-first c = λ _.
@@ -29,8 +29,5 @@ returns-in_default-clause-first c = λ _.
     let here : c.loop-n.n < length (map arc_ends c.args.parts.now.arcs.items) = omega (arith, c.loop-n-test.true, ap length c.deref-arc-items.ensures.value, long) in
     let ends = read-map arc_ends items n c.arc-item.result ([], []) here at in
     told UnknownName (IsUnknownName r) n
-    (elim c.in_default.branch [
-      | in_default-via-in-Some+in_default w ↦ lost_to r n _ here (ap (λ e. e.1) ends) (sym (ap (node_of r) c.as_str-in-loop-n.ensures.value) ∙ sym c.find_node-in-loop-n.ensures ∙ w.in_default.is-1)
-      | in_default-via-in_default w ↦ lost_from r n _ here (ap (λ e. e.0) ends) (sym (ap (node_of r) c.as_str.ensures.value) ∙ sym c.find_node.ensures ∙ w.in_default.is-0)
-    ])
+    (lost_end r n _ _ here (ends ∙ λ i. (sym c.as_str.ensures.value i, sym c.as_str-in-loop-n.ensures.value i)) (sym c.find_ends.ensures ∙ c.in_default.is))
     (λ m below. not_unknown r m _ (nodes_below r c.loop-n.ends.items n m c.loop-n.invariant below (omega (arith, here))))

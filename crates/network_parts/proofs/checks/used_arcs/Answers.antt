@@ -1,45 +1,7 @@
-use Rattle.std.proofs.Common.{◌≡◌, length, arith}
-use Rattle.std.proofs.lemmas.List.{length-map}
-use Rattle.network_parts.specs.Parts.{rows_of, pool_row}
+use Rattle.network_parts.specs.Parts.{rows_of}
 use Rattle.network_parts.proofs.Refusals.{handed}
-use Rattle.network_parts.proofs.ArcRefusals.{inputs_first, inputs_next, outputs_first, outputs_next, many_paths_first, few_paths_next}
 use Rattle.network_parts.proofs.checks.used_arcs.Goals as goal
 
-pub returns-in_err-check_inputs-clause-fault : goal.returns-in_err-check_inputs-clause-fault
-returns-in_err-check_inputs-clause-fault c =
-    let r = rows_of c.args.parts.now in
-    let arcs = c.in_ok-arcs.arcs in
-    let count : c.len.result ≡ length (rows_of c.args.parts.now).pools = omega (arith, c.len.ensures, length-map c.args.parts.now.pools.items pool_row) in
-    handed r c.from_residual-in_err-check_inputs.result c.in_err-check_inputs.field-0.0 c.from_residual-in_err-check_inputs.ensures.1
-    (inputs_first r arcs _ _ _ count c.deref.ensures.value c.in_ok-arcs.ensures c.requires.clear c.in_err-check_inputs.ensures.first)
-
-pub returns-in_err-check_outputs-clause-fault : goal.returns-in_err-check_outputs-clause-fault
-returns-in_err-check_outputs-clause-fault c =
-    let r = rows_of c.args.parts.now in
-    let arcs = c.in_ok-arcs.arcs in
-    let count : c.len.result ≡ length (rows_of c.args.parts.now).pools = omega (arith, c.len.ensures, length-map c.args.parts.now.pools.items pool_row) in
-    let count-2 : c.len-2.result ≡ length (rows_of c.args.parts.now).pools = omega (arith, c.len-2.ensures, length-map c.args.parts.now.pools.items pool_row) in
-    let one = inputs_next r arcs _ _ count c.deref.ensures.value c.in_ok-arcs.ensures c.requires.clear c.in_ok-check_inputs.ensures.none in
-    handed r c.from_residual-in_err-check_outputs.result c.in_err-check_outputs.field-0.0 c.from_residual-in_err-check_outputs.ensures.1
-    (outputs_first r arcs _ _ _ count-2 c.deref-2.ensures.value c.in_ok-arcs.ensures one c.in_err-check_outputs.ensures.first)
-
-pub returns-in_err-check_paths-clause-fault : goal.returns-in_err-check_paths-clause-fault
-returns-in_err-check_paths-clause-fault c =
-    let r = rows_of c.args.parts.now in
-    let arcs = c.in_ok-arcs.arcs in
-    let count : c.len.result ≡ length (rows_of c.args.parts.now).pools = omega (arith, c.len.ensures, length-map c.args.parts.now.pools.items pool_row) in
-    let count-2 : c.len-2.result ≡ length (rows_of c.args.parts.now).pools = omega (arith, c.len-2.ensures, length-map c.args.parts.now.pools.items pool_row) in
-    let one = inputs_next r arcs _ _ count c.deref.ensures.value c.in_ok-arcs.ensures c.requires.clear c.in_ok-check_inputs.ensures.none in
-    let two = outputs_next r arcs _ _ count-2 c.deref-2.ensures.value c.in_ok-arcs.ensures one c.in_ok-check_outputs.ensures.none in
-    handed r c.from_residual-in_err-check_paths.result c.in_err-check_paths.field-0.0 c.from_residual-in_err-check_paths.ensures.1
-    (many_paths_first r arcs _ _ c.deref-3.ensures.value c.in_ok-arcs.ensures two c.in_err-check_paths.ensures.many)
-
-pub returns-clause-clear : goal.returns-clause-clear
-returns-clause-clear c =
-    let r = rows_of c.args.parts.now in
-    let arcs = c.in_ok-arcs.arcs in
-    let count : c.len.result ≡ length (rows_of c.args.parts.now).pools = omega (arith, c.len.ensures, length-map c.args.parts.now.pools.items pool_row) in
-    let count-2 : c.len-2.result ≡ length (rows_of c.args.parts.now).pools = omega (arith, c.len-2.ensures, length-map c.args.parts.now.pools.items pool_row) in
-    let one = inputs_next r arcs _ _ count c.deref.ensures.value c.in_ok-arcs.ensures c.requires.clear c.in_ok-check_inputs.ensures.none in
-    let two = outputs_next r arcs _ _ count-2 c.deref-2.ensures.value c.in_ok-arcs.ensures one c.in_ok-check_outputs.ensures.none in
-    few_paths_next r arcs _ c.deref-3.ensures.value c.in_ok-arcs.ensures two c.in_ok-check_paths.ensures.few
+pub returns-in_err-check_arcs-clause-fault : goal.returns-in_err-check_arcs-clause-fault
+returns-in_err-check_arcs-clause-fault c =
+    handed (rows_of c.args.parts.now) c.from_residual-in_err-check_arcs.result c.in_err-check_arcs.field-0.0 c.from_residual-in_err-check_arcs.ensures.1 c.in_err-check_arcs.ensures.fault
