@@ -1,7 +1,7 @@
 //! How many there are of each kind in a network.
 
 /// How many nodes, qualities, arcs of each kind and paths a network has.
-#[derive(Clone, Copy, Debug, PartialEq, Eq)]
+#[derive(Clone, Copy)]
 pub struct Counts {
     pub sources: u32,
     pub pools: u32,

@@ -1,7 +1,7 @@
 //! The limits on the qualities of products.
 
 /// Which limits.
-#[derive(Clone, Copy, Debug)]
+#[derive(Clone, Copy)]
 pub enum LimitSide {
     /// The most that a product may have of a quality.
     Most,
@@ -10,7 +10,7 @@ pub enum LimitSide {
 }
 
 /// A limit that is set, with its product and its quality, in millionths.
-#[derive(Clone, Copy, Debug)]
+#[derive(Clone, Copy)]
 pub struct Limit {
     pub product: u32,
     pub quality: u32,

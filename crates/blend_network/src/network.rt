@@ -22,7 +22,7 @@ mod narrow;
 mod reach;
 
 /// A source, in millionths.
-#[derive(Debug, Drop)]
+#[derive(Drop)]
 struct Source {
     name: String,
     cost: i64,
@@ -31,14 +31,14 @@ struct Source {
 }
 
 /// A pool, in millionths.
-#[derive(Debug, Drop)]
+#[derive(Drop)]
 struct Pool {
     name: String,
     max: u64,
 }
 
 /// A product, in millionths.
-#[derive(Debug, Drop)]
+#[derive(Drop)]
 struct Product {
     name: String,
     price: i64,
@@ -51,7 +51,7 @@ struct Product {
 /// A pooling network. Sources, pools, products and qualities are numbered from 0 in file order. The arcs are kept by
 /// kind, each kind in file order: feeds go from a source to a pool, outs from a pool to a product, directs from a source
 /// to a product. Paths are a feed and an out of one pool. Money and flow are in millionths.
-#[derive(Debug, Drop)]
+#[derive(Drop)]
 pub struct Network {
     qualities: Vec<String>,
     sources: Vec<Source>,

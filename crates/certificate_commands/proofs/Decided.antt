@@ -5,7 +5,7 @@ use Rattle.pool_model.specs.Network.{Network, net_of}
 use Rattle.cert_format.specs.Cert.{Cert}
 use Rattle.cert_format.specs.Valid.{IsValid}
 use Rattle.cert_checker.specs.Answers.{Spells}
-use Rattle.network_json.specs.declared.fault.ReadNet.{ReadNet}
+use Rattle.json_walk.specs.declared.fault.ReadNet.{ReadNet}
 use Rattle.run_status.specs.Reads.{Files, IsRefusedAs, ReadsNone, ReadsUnder}
 use Rattle.certificate_commands.specs.CheckEnds.{AreRead, CheckDecided, CheckEnds, JudgedUnder, LongUnder}
 use Rattle.certificate_commands.specs.ReportEnds.{ReportDecided, ReportEnds, as_check}

@@ -1,5 +1,4 @@
-pub mod Lists
-pub mod Each
+pub mod Unlimited
 pub mod Bytes
 pub mod Widths
 pub mod Found

@@ -3,7 +3,7 @@ use Rattle.std.proofs.Common.{◌≡◌, ℕ, List, Result, Ok, sym, ap, ◌∙�
 use Rattle.pool_model.specs.Rows.{Rows}
 use Rattle.pool_model.specs.Network.{Network}
 use Rattle.pool_model.specs.Naming.{network_of}
-use Rattle.network_json.specs.declared.fault.ReadNet.{ReadNet}
+use Rattle.json_walk.specs.declared.fault.ReadNet.{ReadNet}
 use Rattle.network_json.specs.Reading.{ReadAs}
 
 abbrev rows_are : Rows → Result Rows ReadNet

@@ -5,11 +5,11 @@ use Rattle.std.specs.Str.{is_utf8}
 use Rattle.serde_json.specs.Data.{Data}
 use Rattle.serde_json.specs.Read.{read}
 use Rattle.pool_model.specs.Rows.{SourceRow, PoolRow, ProductRow, Rows}
-use Rattle.network_json.specs.declared.fault.Section.TheVariants.{Qualities, Sources, Pools, Products, Arcs}
-use Rattle.network_json.specs.declared.fault.Place.{Place}
-use Rattle.network_json.specs.declared.fault.ReadNet.{ReadNet}
-use Rattle.network_json.specs.declared.fault.ReadNet.TheVariants.{TooLong, NotJson, WrongKind}
-use Rattle.network_json.specs.Walk.{◌>>=◌, Walk, top, text, quantity, version, object, needs, ignored, allows, each, items, list}
+use Rattle.json_walk.specs.declared.fault.Section.TheVariants.{Qualities, Sources, Pools, Products, Arcs}
+use Rattle.json_walk.specs.declared.fault.Place.{Place}
+use Rattle.json_walk.specs.declared.fault.ReadNet.{ReadNet}
+use Rattle.json_walk.specs.declared.fault.ReadNet.TheVariants.{TooLong, NotJson, WrongKind}
+use Rattle.json_walk.specs.Walk.{◌>>=◌, Walk, top, text, quantity, version, object, needs, ignored, allows, each, items, list}
 
 -- one quantity for every name, and no other member
 unfoldable pub quality : List (List ℕ) → Place → Walk (List ℤ)

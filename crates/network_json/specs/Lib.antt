@@ -1,4 +1,2 @@
-pub mod Walk
 pub mod Format
 pub mod Reading
-pub mod NetCause

@@ -8,8 +8,8 @@ use Rattle.faults.specs.First.{IsFirst}
 use Rattle.network_parts.specs.FirstFault.{Holds, rank}
 use Rattle.network_parts.specs.declared.fault.NetFault.{NetFault}
 use Rattle.network_parts.specs.declared.fault.NetFault.TheVariants as net
-use Rattle.network_json.specs.declared.fault.ReadNet.{ReadNet}
-use Rattle.network_json.specs.declared.fault.ReadNet.TheVariants.{Net, Memory}
+use Rattle.json_walk.specs.declared.fault.ReadNet.{ReadNet}
+use Rattle.json_walk.specs.declared.fault.ReadNet.TheVariants.{Net, Memory}
 use Rattle.network_json.specs.Format.{rows_in}
 
 -- The bytes are a file of this network: what it says has no fault, and it is the network of its rows.

@@ -5,14 +5,14 @@ ghost use Rattle.std.specs.Option.{ok_or};
 ghost use Rattle.serde_json.specs.View.{view};
 ghost use Rattle.pool_model.specs.Rows.{IsRectangular};
 ghost use Rattle.network_parts.specs.Parts.{rows_of};
-ghost use Rattle.network_json.specs.Walk.{Gives};
+ghost use Rattle.json_walk.specs.Walk.{Gives};
 ghost use Rattle.network_json.specs.Reading.{ReadAs, IsRefusal};
 ghost use Rattle.network_json.specs.Format.{rows_in, value_of as spelled_value};
-ghost use Rattle.network_json.specs.declared.fault.ReadNet.TheVariants.{NotJson};
+ghost use Rattle.json_walk.specs.declared.fault.ReadNet.TheVariants.{NotJson};
 
-use crate::fault::ReadNet;
 use crate::tables::network;
 use blend_network::{Network, Parts};
+use json_walk::ReadNet;
 use serde_json::Value;
 use std::alloc::Global;
 

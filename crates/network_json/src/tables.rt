@@ -4,14 +4,16 @@ ghost use Rattle.std.specs.Prelude.{◌≡◌, map, string_bytes, codes, None, I
 ghost use Rattle.serde_json.specs.Find.{get};
 ghost use Rattle.serde_json.specs.View.{view};
 ghost use Rattle.network_parts.specs.Parts.{source_row, pool_row, product_row, arc_ends, rows_of};
-ghost use Rattle.network_json.specs.Walk.{Gives, each, rows, needs, allows, ignored, list, texts, text as text_at, quantity as quantity_at};
+ghost use Rattle.json_walk.specs.Walk.{top, Gives, each, rows, needs, allows, ignored, list, texts, text as text_at, quantity as quantity_at};
 ghost use Rattle.network_json.specs.Format.{quality as quality_at, limit as limit_at, limits as limits_at, no_limits, source as source_at, pool as pool_at};
 ghost use Rattle.network_json.specs.Format.{product as product_at, arc as arc_at, lists as lists_in, network as network_in};
-ghost use Rattle.network_json.specs.declared.fault.Section.TheVariants.{Qualities, Sources, Pools, Products, Arcs};
+ghost use Rattle.json_walk.specs.declared.fault.Section.TheVariants.{Qualities, Sources, Pools, Products, Arcs};
 
-use crate::fault::{Place, ReadNet, Section};
-use crate::walk::{items, needed, needed_quantity, needed_text, open, quantity, text, version};
 use blend_network::{Parts, PoolRow, ProductRow, SourceRow};
+use json_walk::{
+    Place, ReadNet, Section, items, needed, needed_quantity, needed_text, open, quantity, text,
+    version,
+};
 use serde_json::Value;
 use std::alloc::{AllocError, Global};
 
@@ -38,11 +40,10 @@ pub fn network(alloc: Global, value: &Value) -> Result<Parts, ReadNet>
 fn lists(alloc: Global, value: &Value, names: &[&str]) -> Result<Parts, ReadNet>
     ensures { Gives rows_of result (lists_in (texts names.now) (view value.now)) }
 {
-    let top = Place::top();
-    let sources = sources(alloc, items(needed(value, "sources", top)?, top)?, names)?;
+    let sources = sources(alloc, value, names)?;
     let pools = pools(alloc, value)?;
-    let products = products(alloc, items(needed(value, "products", top)?, top)?, names)?;
-    let arcs = arcs(alloc, items(needed(value, "arcs", top)?, top)?)?;
+    let products = products(alloc, value, names)?;
+    let arcs = arcs(alloc, value)?;
     let qualities = owned(alloc, names)?;
     Ok(Parts {
         qualities,
@@ -76,7 +77,7 @@ fn qualities<'v>(alloc: Global, value: &'v Value) -> Result<Vec<&'v str>, ReadNe
     }
 }
 
-#[tactic(auto, unfolding(crate::specs::Walk::rows))]
+#[tactic(auto, unfolding(json_walk::specs::Walk::rows))]
 fn names<'v>(alloc: Global, values: &'v [Value]) -> Result<Vec<&'v str>, ReadNet>
     ensures { Gives (λ v. texts v.items) result (rows Qualities text_at (map view values.now)) }
 {
@@ -98,8 +99,16 @@ fn owned(alloc: Global, names: &[&str]) -> Result<Vec<String>, AllocError>
     Ok(owned)
 }
 
-#[tactic(auto, unfolding(crate::specs::Walk::rows))]
-fn sources(alloc: Global, values: &[Value], names: &[&str]) -> Result<Vec<SourceRow>, ReadNet>
+/// The sources, which are needed.
+fn sources(alloc: Global, value: &Value, names: &[&str]) -> Result<Vec<SourceRow>, ReadNet>
+    ensures { Gives (λ v. map source_row v.items) result (needs top (codes "sources") (list Sources (source_at (texts names.now))) (view value.now)) }
+{
+    let top = Place::top();
+    source_rows(alloc, items(needed(value, "sources", top)?, top)?, names)
+}
+
+#[tactic(auto, unfolding(json_walk::specs::Walk::rows))]
+fn source_rows(alloc: Global, values: &[Value], names: &[&str]) -> Result<Vec<SourceRow>, ReadNet>
     ensures { Gives (λ v. map source_row v.items) result (rows Sources (source_at (texts names.now)) (map view values.now)) }
 {
     let mut sources = Vec::new(alloc);
@@ -115,7 +124,7 @@ fn source(alloc: Global, value: &Value, names: &[&str], at: Place) -> Result<Sou
     ensures { Gives source_row result (source_at (texts names.now) at (view value.now)) }
 {
     open(value, &["name", "cost", "quality"], &["max"], at)?;
-    let name = String::from_str(alloc, needed_text(value, "name", at)?)?;
+    let name = name(alloc, value, at)?;
     let cost = needed_quantity(value, "cost", at)?;
     let max = limit(value, "max", at)?;
     let quality = quality(alloc, needed(value, "quality", at)?, names, at)?;
@@ -125,6 +134,14 @@ fn source(alloc: Global, value: &Value, names: &[&str], at: Place) -> Result<Sou
         max,
         quality,
     })
+}
+
+/// The name of a row.
+fn name(alloc: Global, value: &Value, at: Place) -> Result<String, ReadNet>
+    ensures { Gives string_bytes result (needs at (codes "name") (text_at at) (view value.now)) }
+{
+    let name = needed_text(value, "name", at)?;
+    Ok(String::from_str(alloc, name)?)
 }
 
 /// One quantity for every name, and no other member.
@@ -158,7 +175,7 @@ fn pools(alloc: Global, value: &Value) -> Result<Vec<PoolRow>, ReadNet>
     }
 }
 
-#[tactic(auto, unfolding(crate::specs::Walk::rows))]
+#[tactic(auto, unfolding(json_walk::specs::Walk::rows))]
 fn pool_rows(alloc: Global, values: &[Value]) -> Result<Vec<PoolRow>, ReadNet>
     ensures { Gives (λ v. map pool_row v.items) result (rows Pools pool_at (map view values.now)) }
 {
@@ -175,13 +192,21 @@ fn pool(alloc: Global, value: &Value, at: Place) -> Result<PoolRow, ReadNet>
     ensures { Gives pool_row result (pool_at at (view value.now)) }
 {
     open(value, &["name"], &["max"], at)?;
-    let name = String::from_str(alloc, needed_text(value, "name", at)?)?;
+    let name = name(alloc, value, at)?;
     let max = limit(value, "max", at)?;
     Ok(PoolRow { name, max })
 }
 
-#[tactic(auto, unfolding(crate::specs::Walk::rows))]
-fn products(alloc: Global, values: &[Value], names: &[&str]) -> Result<Vec<ProductRow>, ReadNet>
+/// The products, which are needed.
+fn products(alloc: Global, value: &Value, names: &[&str]) -> Result<Vec<ProductRow>, ReadNet>
+    ensures { Gives (λ v. map product_row v.items) result (needs top (codes "products") (list Products (product_at (texts names.now))) (view value.now)) }
+{
+    let top = Place::top();
+    product_rows(alloc, items(needed(value, "products", top)?, top)?, names)
+}
+
+#[tactic(auto, unfolding(json_walk::specs::Walk::rows))]
+fn product_rows(alloc: Global, values: &[Value], names: &[&str]) -> Result<Vec<ProductRow>, ReadNet>
     ensures { Gives (λ v. map product_row v.items) result (rows Products (product_at (texts names.now)) (map view values.now)) }
 {
     let mut products = Vec::new(alloc);
@@ -202,7 +227,7 @@ fn product(alloc: Global, value: &Value, names: &[&str], at: Place) -> Result<Pr
         &["min", "least", "most"],
         at,
     )?;
-    let name = String::from_str(alloc, needed_text(value, "name", at)?)?;
+    let name = name(alloc, value, at)?;
     let price = needed_quantity(value, "price", at)?;
     let min = minimum(value, at)?;
     let max = needed_quantity(value, "max", at)?;
@@ -296,8 +321,16 @@ fn limit_of_each(
     Ok(row)
 }
 
-#[tactic(auto, unfolding(crate::specs::Walk::rows))]
-fn arcs(alloc: Global, values: &[Value]) -> Result<Vec<(String, String)>, ReadNet>
+/// The names of the arcs' ends. The arcs are needed.
+fn arcs(alloc: Global, value: &Value) -> Result<Vec<(String, String)>, ReadNet>
+    ensures { Gives (λ v. map arc_ends v.items) result (needs top (codes "arcs") (list Arcs arc_at) (view value.now)) }
+{
+    let top = Place::top();
+    arc_rows(alloc, items(needed(value, "arcs", top)?, top)?)
+}
+
+#[tactic(auto, unfolding(json_walk::specs::Walk::rows))]
+fn arc_rows(alloc: Global, values: &[Value]) -> Result<Vec<(String, String)>, ReadNet>
     ensures { Gives (λ v. map arc_ends v.items) result (rows Arcs arc_at (map view values.now)) }
 {
     let mut arcs = Vec::new(alloc);

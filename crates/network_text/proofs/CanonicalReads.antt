@@ -13,11 +13,11 @@ use Rattle.serde_json.specs.View.{items_of}
 use Rattle.serde_json.proofs.Views.{get_member-put, get_member-put_other}
 use Rattle.pool_model.specs.Network.{Source, Pool, Product, Network}
 use Rattle.blend_network.specs.Canonical.{canonical_source, canonical_pool, canonical_product, canonical_arcs, canonical_rows}
-use Rattle.network_json.specs.declared.fault.Place.{Place}
-use Rattle.network_json.specs.declared.fault.ReadNet.{ReadNet}
-use Rattle.network_json.specs.declared.fault.Section.{Section}
-use Rattle.network_json.specs.declared.fault.Section.TheVariants.{Qualities, Sources, Pools, Products, Arcs}
-use Rattle.network_json.specs.Walk.{◌>>=◌, Walk, text, quantity, object as object_at, names_in, is_among, present, needs, allows, if_there, each, list_of, items, rows, place, top, version}
+use Rattle.json_walk.specs.declared.fault.Place.{Place}
+use Rattle.json_walk.specs.declared.fault.ReadNet.{ReadNet}
+use Rattle.json_walk.specs.declared.fault.Section.{Section}
+use Rattle.json_walk.specs.declared.fault.Section.TheVariants.{Qualities, Sources, Pools, Products, Arcs}
+use Rattle.json_walk.specs.Walk.{◌>>=◌, Walk, text, quantity, object as object_at, names_in, is_among, present, needs, allows, if_there, each, list_of, items, rows, place, top, version}
 use Rattle.network_json.specs.Format.{quality, limit, limits, source, pool, product, arc, lists, network}
 use Rattle.network_text.specs.Canonical.{quantity_data, set_at, set_members, list_data, source_data, pool_data, product_data, arc_data, network_data}
 

@@ -7,8 +7,8 @@ use Rattle.serde_json.specs.Data.{number, string}
 use Rattle.serde_json.specs.Find.{of_integer, as_integer}
 use Rattle.pool_model.specs.Quantity.{signed, shortest}
 use Rattle.quantity.proofs.Spelled.{shortest_back, signed_back}
-use Rattle.network_json.specs.declared.fault.Place.{Place}
-use Rattle.network_json.specs.Walk.{quantity}
+use Rattle.json_walk.specs.declared.fault.Place.{Place}
+use Rattle.json_walk.specs.Walk.{quantity}
 use Rattle.network_text.specs.Canonical.{units_of}
 use Rattle.network_text.proofs.CanonicalReads.{IsRead}
 

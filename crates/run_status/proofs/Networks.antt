@@ -9,8 +9,8 @@ use Rattle.network_parts.specs.Faults.{IsFaultless}
 use Rattle.network_parts.specs.FirstFault.{Holds}
 use Rattle.network_parts.specs.declared.fault.NetFault.{NetFault}
 use Rattle.network_parts.specs.declared.fault.NetFault.TheVariants as faults
-use Rattle.network_json.specs.declared.fault.ReadNet.{ReadNet}
-use Rattle.network_json.specs.declared.fault.ReadNet.TheVariants as causes
+use Rattle.json_walk.specs.declared.fault.ReadNet.{ReadNet}
+use Rattle.json_walk.specs.declared.fault.ReadNet.TheVariants as causes
 use Rattle.network_json.specs.Reading.{IsRefusal}
 use Rattle.network_json.specs.Format.{rows_in}
 use Rattle.run_status.specs.Reads.{Files, IsOwnCause, IsRefusedAs, most_network, ReadsUnder, RefusesUnder}

@@ -2,9 +2,9 @@
 use Rattle.std.specs.Prelude.{ℕ, List, [], ◌++◌, codes, pos}
 use Rattle.std.specs.Fmt.{signed_decimal}
 use Rattle.network_parts.specs.FirstFault as faults
-use Rattle.network_json.specs.declared.fault.ReadNet.{ReadNet}
-use Rattle.network_json.specs.NetCause as causes
-use Rattle.network_json.specs.declared.fault.ReadNet.TheVariants.{Net}
+use Rattle.json_walk.specs.declared.fault.ReadNet.{ReadNet}
+use Rattle.json_walk.specs.NetCause as causes
+use Rattle.json_walk.specs.declared.fault.ReadNet.TheVariants.{Net}
 use Rattle.run_status.specs.declared.status.Status.{Status}
 use Rattle.run_status.specs.declared.status.Status.TheVariants as statuses
 

@@ -3,8 +3,8 @@ use Rattle.std.specs.Prelude.{◌≡◌, ◌≢◌, ℕ, List, Option, Some}
 use Rattle.edge_io.specs.Files.{file_of, HasFile, IsTooLong}
 use Rattle.pool_model.specs.Network.{Network}
 use Rattle.network_parts.specs.declared.fault.NetFault.TheVariants as faults
-use Rattle.network_json.specs.declared.fault.ReadNet.{ReadNet}
-use Rattle.network_json.specs.declared.fault.ReadNet.TheVariants as causes
+use Rattle.json_walk.specs.declared.fault.ReadNet.{ReadNet}
+use Rattle.json_walk.specs.declared.fault.ReadNet.TheVariants as causes
 use Rattle.network_json.specs.Reading.{IsRefusal, ReadAs}
 
 -- names with bytes

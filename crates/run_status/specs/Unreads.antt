@@ -1,8 +1,8 @@
 -- Why no network was read.
 use Rattle.std.specs.Prelude.{◌≡◌, ◌≢◌, ℕ, List, Option}
 use Rattle.edge_io.specs.Counts.{Rose}
-use Rattle.network_json.specs.declared.fault.ReadNet.{ReadNet}
-use Rattle.network_json.specs.declared.fault.ReadNet.TheVariants as causes
+use Rattle.json_walk.specs.declared.fault.ReadNet.{ReadNet}
+use Rattle.json_walk.specs.declared.fault.ReadNet.TheVariants as causes
 use Rattle.run_status.specs.Reads.{Files, IsOwnCause, IsRefusedAs}
 use Rattle.run_status.specs.declared.reading.Unread.{Unread}
 use Rattle.run_status.specs.declared.reading.Unread.TheVariants.{Refused, Failed, Memory}

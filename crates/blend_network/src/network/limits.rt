@@ -10,7 +10,7 @@ use crate::limits::{Limit, LimitSide};
 use std::alloc::{AllocError, Global};
 
 /// The limits that are set, by product and then by quality.
-#[derive(Debug, Drop)]
+#[derive(Drop)]
 pub(super) struct Limits {
     pub(super) most: Vec<Limit>,
     pub(super) least: Vec<Limit>,

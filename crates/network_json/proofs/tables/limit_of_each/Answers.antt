@@ -2,8 +2,8 @@ use Rattle.network_json.specs.Format.{limit}
 use Rattle.std.proofs.Common.{None, [], get_or, List, ℕ, Bor}
 use Rattle.std.proofs.lemmas.List.{get_or_default}
 use Rattle.serde_json.specs.View.{view}
-use Rattle.network_json.specs.Walk.{allows}
-use Rattle.network_json.proofs.Each.{value_step, value_stop}
+use Rattle.json_walk.specs.Walk.{allows}
+use Rattle.json_walk.proofs.Each.{value_step, value_stop}
 use Rattle.network_json.proofs.tables.limit_of_each.Goals as goal
 
 abbrev no_text : Bor (List ℕ)

@@ -1,7 +1,7 @@
 use Rattle.std.proofs.Common.{◌≡◌, take, Ok, None}
 use Rattle.network_json.specs.Format.{limit}
 use Rattle.serde_json.specs.View.{view}
-use Rattle.network_json.specs.Walk.{each, allows, texts}
+use Rattle.json_walk.specs.Walk.{each, allows, texts}
 use Rattle.network_json.proofs.tables.limit_of_each.Given as goal
 
 abbrev pub invariant-loop-name : goal.invariant-loop-name

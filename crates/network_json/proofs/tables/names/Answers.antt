@@ -1,7 +1,7 @@
 use Rattle.serde_json.specs.View.{view}
-use Rattle.network_json.specs.Walk.{text, place, rows}
-use Rattle.network_json.specs.declared.fault.Section.TheVariants.{Qualities}
-use Rattle.network_json.proofs.Each.{row_step, row_stop}
+use Rattle.json_walk.specs.Walk.{text, place, rows}
+use Rattle.json_walk.specs.declared.fault.Section.TheVariants.{Qualities}
+use Rattle.json_walk.proofs.Each.{row_step, row_stop}
 use Rattle.network_json.proofs.tables.names.Goals as goal
 
 pub returns-in_err-name : goal.returns-in_err-name

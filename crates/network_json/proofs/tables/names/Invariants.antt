@@ -1,7 +1,7 @@
 use Rattle.std.proofs.Common.{◌≡◌, map, take, Ok}
 use Rattle.serde_json.specs.View.{view}
-use Rattle.network_json.specs.Walk.{each, place, text, texts}
-use Rattle.network_json.specs.declared.fault.Section.TheVariants.{Qualities}
+use Rattle.json_walk.specs.Walk.{each, place, text, texts}
+use Rattle.json_walk.specs.declared.fault.Section.TheVariants.{Qualities}
 use Rattle.network_json.proofs.tables.names.Given as goal
 
 abbrev pub invariant-loop-i : goal.invariant-loop-i

@@ -1,5 +1,5 @@
 use Rattle.std.proofs.Common.{rules}
-use Rattle.network_json.specs.Walk.{object}
+use Rattle.json_walk.specs.Walk.{object}
 use Rattle.network_json.specs.Format.{network}
 use Rattle.network_json.proofs.tables.network.Goals as goal
 

@@ -1,5 +1,5 @@
 use Rattle.std.proofs.Common.{◌≡◌, map, take, string_bytes}
-use Rattle.network_json.specs.Walk.{texts}
+use Rattle.json_walk.specs.Walk.{texts}
 use Rattle.network_json.proofs.tables.owned.Given as goal
 
 abbrev pub invariant-loop-name : goal.invariant-loop-name

@@ -1,9 +1,9 @@
 use Rattle.serde_json.specs.View.{view}
 use Rattle.network_parts.specs.Parts.{pool_row}
-use Rattle.network_json.specs.Walk.{place, rows}
+use Rattle.json_walk.specs.Walk.{place, rows}
 use Rattle.network_json.specs.Format.{pool}
-use Rattle.network_json.specs.declared.fault.Section.TheVariants.{Pools}
-use Rattle.network_json.proofs.Each.{row_step, row_stop}
+use Rattle.json_walk.specs.declared.fault.Section.TheVariants.{Pools}
+use Rattle.json_walk.proofs.Each.{row_step, row_stop}
 use Rattle.network_json.proofs.tables.pool_rows.Goals as goal
 
 pub returns-in_err-row : goal.returns-in_err-row

@@ -1,9 +1,9 @@
 use Rattle.std.proofs.Common.{◌≡◌, map, take, Ok}
 use Rattle.serde_json.specs.View.{view}
 use Rattle.network_parts.specs.Parts.{pool_row}
-use Rattle.network_json.specs.Walk.{each, place}
+use Rattle.json_walk.specs.Walk.{each, place}
 use Rattle.network_json.specs.Format.{pool}
-use Rattle.network_json.specs.declared.fault.Section.TheVariants.{Pools}
+use Rattle.json_walk.specs.declared.fault.Section.TheVariants.{Pools}
 use Rattle.network_json.proofs.tables.pool_rows.Given as goal
 
 abbrev pub invariant-loop-i : goal.invariant-loop-i

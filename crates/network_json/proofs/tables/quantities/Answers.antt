@@ -3,8 +3,8 @@ use Rattle.std.proofs.lemmas.Int.{to_z-of_z}
 use Rattle.std.proofs.lemmas.List.{get_or_default}
 use Rattle.std.specs.Int.{w128}
 use Rattle.serde_json.specs.View.{view}
-use Rattle.network_json.specs.Walk.{needs, quantity}
-use Rattle.network_json.proofs.Each.{value_step, value_stop}
+use Rattle.json_walk.specs.Walk.{needs, quantity}
+use Rattle.json_walk.proofs.Each.{value_step, value_stop}
 use Rattle.network_json.proofs.tables.quantities.Goals as goal
 
 abbrev no_text : Bor (List ℕ)

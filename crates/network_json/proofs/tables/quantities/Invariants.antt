@@ -1,6 +1,6 @@
 use Rattle.std.proofs.Common.{◌≡◌, take, Ok}
 use Rattle.serde_json.specs.View.{view}
-use Rattle.network_json.specs.Walk.{each, needs, quantity, texts}
+use Rattle.json_walk.specs.Walk.{each, needs, quantity, texts}
 use Rattle.network_json.proofs.tables.quantities.Given as goal
 
 abbrev pub invariant-loop-name : goal.invariant-loop-name

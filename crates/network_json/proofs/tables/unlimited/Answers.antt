@@ -1,5 +1,5 @@
 use Rattle.std.proofs.Common.{add-one}
-use Rattle.network_json.proofs.Lists.{no_limits-more}
+use Rattle.network_json.proofs.Unlimited.{no_limits-more}
 use Rattle.network_json.proofs.tables.unlimited.Goals as goal
 
 pub loop-name-preserved : goal.loop-name-preserved

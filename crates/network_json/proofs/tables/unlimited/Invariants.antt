@@ -1,5 +1,5 @@
 use Rattle.std.proofs.Common.{◌≡◌, take}
-use Rattle.network_json.specs.Walk.{texts}
+use Rattle.json_walk.specs.Walk.{texts}
 use Rattle.network_json.specs.Format.{no_limits}
 use Rattle.network_json.proofs.tables.unlimited.Given as goal
 

@@ -1,6 +1,0 @@
-use Rattle.std.proofs.Common.{sym, ◌∙◌}
-use Rattle.network_json.proofs.Lists.{among_here}
-use Rattle.network_json.proofs.walk.is_one_of.Goals as goal
-
-pub returns-then-eq : goal.returns-then-eq
-returns-then-eq c = sym (among_here c.args.names.now c.loop-n.n-index _ c.args.name.now c.loop-n-test.true (sym c.eq.ensures ∙ c.if-eq.true))
