@@ -17,7 +17,7 @@ ghost use Rattle.box_tree.specs.Kept.{searched_of, IsOf};
 ghost use Rattle.split_tree.specs.Faults as splits;
 ghost use Rattle.split_tree.specs.Spans.{half_at, CutsBetween};
 ghost use Rattle.split_tree.specs.Splits.{IsOf as AreCut, MayCome, with_split};
-ghost use Rattle.box_tree.specs.Taken.{IsTaken, grown};
+ghost use Rattle.box_tree.specs.Taken.{IsTaken, counted, grown};
 
 use crate::entry::EntryFault;
 use crate::leaves::open_leaf;
@@ -143,13 +143,22 @@ impl Tree {
             right_leaf,
         )?;
         self.order.take_out(parent);
-        self.cuts[split.coord as usize] += 1;
+        count_cut(&mut self.cuts, split.coord);
         self.proofs.push_reserved(left.proof);
         self.proofs.push_reserved(right.proof);
         self.bounds.push_reserved(left.bound);
         self.bounds.push_reserved(right.bound);
         Ok(())
     }
+}
+
+/// Counts one split more on a coordinate.
+fn count_cut(cuts: &mut [u32], coord: u32)
+    requires there { coord < length cuts.old }
+    requires few { get_or cuts.old coord 0 < trees.most_splits }
+    ensures { cuts.new ≡ counted cuts.old coord }
+{
+    cuts[coord as usize] += 1;
 }
 
 /// Puts the halves of a leaf among the leaves, and its split behind the splits; or leaves both as they were where there is no memory.

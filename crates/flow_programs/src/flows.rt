@@ -51,16 +51,10 @@ pub fn flow_program(
     outline: &Outline,
     blend: &Blend,
 ) -> Result<SmallProgram, AllocError> {
-    let layout = Layout::new(outline);
     let mut program = SmallProgram::new(alloc);
     add_columns(&mut program, outline, blend)?;
     add_rows(alloc, &mut program, outline)?;
-    for out in 0..outline.arcs.outs.len() {
-        add_out_terms(&mut program, outline, blend, layout, out)?;
-    }
-    for direct in 0..outline.arcs.directs.len() {
-        add_direct_terms(&mut program, outline, layout, direct)?;
-    }
+    add_terms(&mut program, outline, blend)?;
     Ok(program)
 }
 
@@ -91,6 +85,23 @@ fn add_rows(
     program: &mut SmallProgram,
     outline: &Outline,
 ) -> Result<(), AllocError> {
+    add_maxima(alloc, program, outline)?;
+    for product in 0..outline.nodes.products.len() {
+        program.add_row(alloc, false, asked(outline, product).wrapping_neg())?;
+    }
+    for limit in 0..outline.limit_count() {
+        let _ = limit;
+        program.add_row(alloc, false, 0)?;
+    }
+    Ok(())
+}
+
+/// The rows of the maxima: of sources, pools and products.
+fn add_maxima(
+    alloc: Global,
+    program: &mut SmallProgram,
+    outline: &Outline,
+) -> Result<(), AllocError> {
     for source in outline.nodes.sources.iter() {
         program.add_row(alloc, false, source.max.wrapping_mul(GRAIN))?;
     }
@@ -100,12 +111,21 @@ fn add_rows(
     for product in outline.nodes.products.iter() {
         program.add_row(alloc, false, product.max)?;
     }
-    for product in 0..outline.nodes.products.len() {
-        program.add_row(alloc, false, asked(outline, product).wrapping_neg())?;
+    Ok(())
+}
+
+/// What each column has in the rows.
+fn add_terms(
+    program: &mut SmallProgram,
+    outline: &Outline,
+    blend: &Blend,
+) -> Result<(), AllocError> {
+    let layout = Layout::new(outline);
+    for out in 0..outline.arcs.outs.len() {
+        add_out_terms(program, outline, blend, layout, out)?;
     }
-    for limit in 0..outline.limit_count() {
-        let _ = limit;
-        program.add_row(alloc, false, 0)?;
+    for direct in 0..outline.arcs.directs.len() {
+        add_direct_terms(program, outline, layout, direct)?;
     }
     Ok(())
 }

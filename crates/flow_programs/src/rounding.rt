@@ -15,6 +15,21 @@ const ROUNDS: u32 = 3;
 /// The proportions nearest to these numbers, with what rounding leaves on the greatest number of each pool, or on its first
 /// feed where all are 0.
 pub fn rounded(alloc: Global, outline: &Outline, numbers: &[i128]) -> Result<Vec<u32>, AllocError> {
+    let mut parts = nearest_parts(alloc, outline, numbers)?;
+    add_rests(alloc, outline, numbers, &mut parts)?;
+    for round in 0..ROUNDS {
+        let _ = round;
+        keep_limits(outline, numbers, &mut parts);
+    }
+    short_parts(alloc, &parts)
+}
+
+/// For each number the nearest part of its pool's grain.
+fn nearest_parts(
+    alloc: Global,
+    outline: &Outline,
+    numbers: &[i128],
+) -> Result<Vec<i128>, AllocError> {
     let totals = outline.pool_sums(alloc, numbers)?;
     let mut parts = Vec::with_capacity(alloc, numbers.len())?;
     for (arc, number) in outline.arcs.feeds.iter().zip(numbers) {
@@ -22,16 +37,22 @@ pub fn rounded(alloc: Global, outline: &Outline, numbers: &[i128]) -> Result<Vec
         let whole = number.wrapping_mul(GRAIN).wrapping_add(total / 2);
         parts.push(whole.checked_div(total).unwrap_or(0))?;
     }
+    Ok(parts)
+}
+
+/// Adds what the parts leave of each pool's grain to those of its leader.
+fn add_rests(
+    alloc: Global,
+    outline: &Outline,
+    numbers: &[i128],
+    parts: &mut [i128],
+) -> Result<(), AllocError> {
     let leaders = leaders(alloc, outline, numbers)?;
-    let sums = outline.pool_sums(alloc, &parts)?;
+    let sums = outline.pool_sums(alloc, parts)?;
     for (leader, sum) in leaders.iter().zip(sums.iter()) {
-        add_at(&mut parts, *leader, GRAIN.wrapping_sub(*sum));
+        add_at(parts, *leader, GRAIN.wrapping_sub(*sum));
     }
-    for round in 0..ROUNDS {
-        let _ = round;
-        keep_limits(outline, numbers, &mut parts);
-    }
-    short_parts(alloc, &parts)
+    Ok(())
 }
 
 /// Moves parts where a limit that the numbers keep is broken.
