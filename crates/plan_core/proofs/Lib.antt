@@ -1,4 +1,3 @@
-pub mod Firsts
 pub mod Blends
 pub mod Tables
 pub mod Supply

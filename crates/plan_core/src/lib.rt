@@ -6,13 +6,14 @@
 //! are compared exactly, as whole numbers, with no tolerance. [`compare_cost`] orders costs over different bases.
 //!
 //! [`zero_plan`] and [`simple_plan`] are the starting plans, which no search needs to find; [`cheapest_start`] is the cheapest of
-//! those that obey, with its cost. They alone take memory.
+//! those that obey, with its cost. They alone take memory. What each [`Way`] carries alone, and which starting plan is the
+//! cheapest, is found in `start_ways`.
 //!
 //! Which plan to write is left to the crates above, and so is the text of a plan.
 //!
 //! Proofs above may cite, of `proofs/`: `Blends` (what flows in the plan that a written plan stands for and of what quality, and that
 //! the check by pool weights is its blending law), `Supply` (what all sources send out flows into all products, and how large a plan's
-//! numbers are), `Firsts` (the first feed of a pool) and `Tables` (sums by node, with one arc more).
+//! numbers are) and `Tables` (sums by node, with one arc more).
 #![tactic(auto)]
 
 mod cheapest;
@@ -29,5 +30,6 @@ pub use cheapest::{Start, cheapest_start};
 pub use check::check_plan;
 pub use cost::compare_cost;
 pub use fault::PlanFault;
-pub use plan::{Cost, Way, WrittenPlan};
-pub use starting::{direct_flow, path_flow, simple_plan, zero_plan};
+pub use plan::{Cost, WrittenPlan};
+pub use start_ways::{Way, direct_flow, path_flow};
+pub use starting::{simple_plan, zero_plan};

@@ -17,12 +17,3 @@ pub struct Cost {
     pub num: i128,
     pub base: u64,
 }
-
-/// A way from a source to a product.
-#[derive(Clone, Copy, Debug, PartialEq, Eq)]
-pub enum Way {
-    /// A path, by its number.
-    Through(u32),
-    /// A direct, by its number.
-    Direct(u32),
-}

@@ -1,6 +1,6 @@
 use Rattle.std.proofs.Common.{sym}
 use Rattle.pool_model.specs.Network.{net_of}
-use Rattle.plan_core.proofs.Firsts.{not_first}
+use Rattle.start_ways.proofs.Firsts.{not_first}
 use Rattle.plan_parts.proofs.feeds.is_first_feed.Goals as goal
 
 pub returns-then-other-pool : goal.returns-then-other-pool

@@ -1,8 +1,0 @@
-use Rattle.std.proofs.Common.{◌≡◌}
-use Rattle.pool_model.specs.Network.{net_of}
-use Rattle.integers.specs.Numbers.{tabulate}
-use Rattle.pool_model.specs.Starting.{first_weight}
-use Rattle.plan_core.proofs.starting.first_weights.Given as goal
-
-abbrev pub invariant-loop-feed : goal.invariant-loop-feed
-invariant-loop-feed l = l.weights.items ≡ tabulate (first_weight (net_of l.net)) l.feed

@@ -1,8 +1,0 @@
-use Rattle.std.proofs.Common.{◌≡◌}
-use Rattle.pool_model.specs.Network.{net_of}
-use Rattle.integers.specs.Numbers.{tabulate}
-use Rattle.plan_core.specs.Weights.{weight_on}
-use Rattle.plan_core.proofs.starting.weights_on.Given as goal
-
-abbrev pub invariant-loop-feed : goal.invariant-loop-feed
-invariant-loop-feed l = l.weights.items ≡ tabulate (weight_on (net_of l.net) l.on) l.feed
