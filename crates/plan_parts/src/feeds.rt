@@ -1,9 +1,8 @@
 //! The weights of feeds by their parts.
 
-ghost use Rattle.std.specs.Prelude.{◌≡◌, ℕ, ◌==◌, ◌<◌, ◌≤◌, ◌^◌, IfOk};
+ghost use Rattle.std.specs.Prelude.{◌<◌, ◌≤◌, IfOk};
 ghost use Rattle.pool_model.specs.Network.{IsLimited, net_of};
 ghost use Rattle.pool_model.specs.Plan.{Carries};
-ghost use Rattle.pool_model.specs.Starting.{feeds_before};
 ghost use Rattle.program_plans.specs.LeastBases.{AreWholeParts};
 ghost use Rattle.flow_checks.specs.Flows.{AreFlows, flows_plan};
 ghost use Rattle.plan_parts.specs.Parts.{AreParts, IsPart};
@@ -11,6 +10,7 @@ ghost use Rattle.plan_parts.specs.Parts.{AreParts, IsPart};
 use blend_network::{Key, Network};
 use edge_io::Memory;
 use flow_checks::{Flows, sum_at_node};
+use start_ways::is_first_feed;
 use std::alloc::Global;
 
 /// Each feed's weight, over a base that makes all parts whole.
@@ -49,19 +49,4 @@ fn part(net: &Network, flows: &Flows, base: u32, feed: u32) -> u32
         return base;
     }
     0
-}
-
-/// Whether no feed of the same pool stands before this one.
-fn is_first_feed(net: &Network, feed: u32) -> bool
-    requires { feed < (net_of net.now).feeds }
-    ensures { result ≡ (feeds_before (net_of net.now) feed == 0) }
-{
-    let (_, pool) = net.feed(feed);
-    for earlier in 0..feed {
-        let (_, other) = net.feed(earlier);
-        if other == pool {
-            return false;
-        }
-    }
-    true
 }

@@ -5,10 +5,9 @@
 //! [`start_way`] gives the way of a number. [`cheapest`] gives the [`Choice`] of the first number whose starting plan obeys and costs
 //! the least, by what each carries and by the products' minima, and takes no memory.
 //!
-//! The lists of a starting plan are [`first_weights`] or [`weights_on`], and [`no_flows`] or [`one_flow`]. They alone take memory. The
-//! plans themselves are made in the crate above.
-//!
-//! Proofs above may cite, of `proofs/`: `Firsts` (the first feed of a pool).
+//! The lists of a starting plan are [`first_weights`] or [`weights_on`], and [`no_flows`] or [`one_flow`]. They alone take memory.
+//! [`is_first_feed`] tells on which feed of a pool all weight stands that nothing else decides. The plans themselves are made in the
+//! crate above.
 #![tactic(auto)]
 
 mod choice;
@@ -19,5 +18,5 @@ mod way;
 
 pub use choice::{Choice, cheapest};
 pub use flow::{direct_flow, path_flow};
-pub use lists::{first_weights, no_flows, one_flow, weights_on};
+pub use lists::{first_weights, is_first_feed, no_flows, one_flow, weights_on};
 pub use way::{Way, start_way};

@@ -77,7 +77,7 @@ fn weight_of(net: &Network, feed: u32, on: u32, full: u32) -> u32
 }
 
 /// Whether no feed of the same pool stands before this one.
-fn is_first_feed(net: &Network, feed: u32) -> bool
+pub fn is_first_feed(net: &Network, feed: u32) -> bool
     requires { feed < (net_of net.now).feeds }
     ensures { result ≡ (feeds_before (net_of net.now) feed == 0) }
 {
