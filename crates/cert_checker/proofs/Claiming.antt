@@ -3,7 +3,7 @@ use Rattle.std.proofs.Common.{◌≡◌, ◌≢◌, ℕ, ℤ, [], ◌∷◌, ref
 use Rattle.std.proofs.lemmas.Bool.{ne_eqb}
 use Rattle.pool_model.specs.Network.{Net, counts_of}
 use Rattle.pool_model.specs.Claim.{with_gap}
-use Rattle.cert_format.specs.declared.certificate.Claim.TheVariants as claims
+use Rattle.cert_writing.specs.declared.certificate.Claim.TheVariants as claims
 use Rattle.plan_core.specs.Views.{shown_plan}
 use Rattle.plan_core.specs.declared.plan.Cost.{Cost}
 use Rattle.plan_core.specs.declared.plan.WrittenPlan.{WrittenPlan}

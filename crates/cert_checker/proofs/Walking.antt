@@ -7,7 +7,7 @@ use Rattle.pool_model.specs.Network.{Net, counts_of}
 use Rattle.pool_model.specs.Claim.{Claimed, with_gap, with_bound, no_plan}
 use Rattle.cert_format.specs.Cert.{NodeProof, FitsShape, ClaimFits}
 use Rattle.cert_format.specs.Views.{shown_claim}
-use Rattle.cert_format.specs.declared.certificate.Claim.{Claim}
+use Rattle.cert_writing.specs.declared.certificate.Claim.{Claim}
 use Rattle.cert_format.specs.declared.reading.Kind.{Kind}
 use Rattle.split_tree.specs.Splits.{Splits, IsOf}
 use Rattle.cert_stream.specs.declared.fault.ItemFault.{ItemFault}

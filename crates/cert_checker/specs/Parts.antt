@@ -22,7 +22,7 @@ use Rattle.proof_lines.specs.declared.refusal.Refusal.{Refusal}
 use Rattle.proof_lines.specs.declared.refusal.Refusal.TheVariants.{Plan, Split as SplitAt}
 use Rattle.proof_lines.specs.declared.stream_refusal.StreamRefusal.{StreamRefusal}
 use Rattle.cert_format.specs.Views.{shown_claim}
-use Rattle.cert_format.specs.declared.certificate.Claim.{Claim}
+use Rattle.cert_writing.specs.declared.certificate.Claim.{Claim}
 use Rattle.cert_checker.specs.declared.walk.Walked.{Walked}
 use Rattle.cert_checker.specs.declared.opening.Opening.{Opening}
 use Rattle.cert_checker.specs.declared.opening.Opening.TheVariants as openings
