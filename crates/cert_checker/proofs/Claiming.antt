@@ -9,7 +9,7 @@ use Rattle.plan_core.specs.declared.plan.Cost.{Cost}
 use Rattle.plan_core.specs.declared.plan.WrittenPlan.{WrittenPlan}
 use Rattle.cert_format.specs.declared.reading.Kind.{Kind}
 use Rattle.cert_format.specs.declared.reading.Kind.TheVariants as kinds
-use Rattle.cert_stream.specs.declared.items.State.TheVariants as states
+use Rattle.cert_items.specs.declared.items.State.TheVariants as states
 use Rattle.cert_stream.specs.Items.{cost_is, bound_is, gap_is, shaped_state}
 use Rattle.cert_checker.specs.declared.opening.Opening.{Opening}
 use Rattle.cert_checker.specs.declared.opening.Opening.TheVariants as openings

@@ -13,16 +13,16 @@ use Rattle.cert_text.specs.Reading.{At, ◌>>=◌, start, ended, first_byte, fir
 use Rattle.cert_text.proofs.Laws.{ok_is, bind_ok, bind_err, bind_assoc, whole_fault, done}
 use Rattle.cert_format.specs.declared.reading.Kind.{Kind}
 use Rattle.cert_format.specs.declared.reading.Kind.TheVariants as kinds
-use Rattle.cert_stream.specs.declared.items.State.{State}
-use Rattle.cert_stream.specs.declared.items.State.TheVariants as states
+use Rattle.cert_items.specs.declared.items.State.{State}
+use Rattle.cert_items.specs.declared.items.State.TheVariants as states
 use Rattle.cert_format.specs.Cert.{Cert, NodeProof, IsCert}
 use Rattle.cert_format.specs.Text.{text_of}
 use Rattle.cert_format.specs.Reading.{Opened, with_plan, bound_alone, none, kind_at, shape_at, list_word_at, weights_at, flows_at, plan_at, opened_at}
 use Rattle.cert_format.specs.Reading.{split_line_at, splits_at, part_at, proof_line_at, proofs_at, bound_at, gap_at, claim_at, cert_at}
-use Rattle.cert_stream.specs.Items.{Field, kind, shape, bases, weight, outflow, direct, splits, cut, proofs, head, one_part, cost_is, bound_is, gap_is, end_is}
-use Rattle.cert_stream.specs.Items.{kind_number, plan_items, proof_items, items_of, claim_state, cuts_left, proofs_left, parts_left, directs_left}
-use Rattle.cert_stream.specs.Items.{direct_words_at, outflow_words_at, weight_words_at, begin_at, shape_step_at, bases_step_at, weight_step_at, outflow_step_at}
-use Rattle.cert_stream.specs.Items.{direct_step_at, head_step_at, claim_step_at, next_at, Gave}
+use Rattle.cert_items.specs.Items.{Field, kind, shape, bases, weight, outflow, direct, splits, cut, proofs, head, one_part, cost_is, bound_is, gap_is, end_is}
+use Rattle.cert_items.specs.Items.{kind_number, plan_items, proof_items, items_of, claim_state, cuts_left, proofs_left, parts_left, directs_left}
+use Rattle.cert_items.specs.Items.{direct_words_at, outflow_words_at, weight_words_at, begin_at, shape_step_at, bases_step_at, weight_step_at, outflow_step_at}
+use Rattle.cert_items.specs.Items.{direct_step_at, head_step_at, claim_step_at, next_at, Gave}
 use Rattle.cert_format.proofs.CertLaws.{cert_reads}
 
 abbrev pub Read : Type 0

@@ -6,14 +6,14 @@ use Rattle.cert_text.specs.Reading.{At, ◌>>=◌, word_at, same_at, end_of, end
 use Rattle.cert_format.specs.declared.reading.Kind.{Kind}
 use Rattle.cert_format.specs.declared.reading.Kind.TheVariants as kinds
 use Rattle.cert_format.specs.Reading.{kind_at, shape_at, list_word_at, split_line_at, part_at, bound_at}
-use Rattle.cert_stream.specs.declared.items.Item as declared
-use Rattle.cert_stream.specs.declared.items.Item.TheVariants as items
-use Rattle.cert_stream.specs.declared.items.State.{State}
-use Rattle.cert_stream.specs.declared.items.State.TheVariants as states
-use Rattle.cert_stream.specs.Items.{Field, kind, shape, bases, weight, outflow, direct, splits, cut, proofs, head, one_part, cost_is, bound_is, gap_is, end_is}
-use Rattle.cert_stream.specs.Items.{claim_state, cuts_left, proofs_left, parts_left, directs_left, direct_words_at, outflow_words_at, weight_words_at}
-use Rattle.cert_stream.specs.Items.{shown_item, shaped_state, begin_at, shape_step_at, bases_step_at, weight_step_at, outflow_step_at, direct_step_at}
-use Rattle.cert_stream.specs.Items.{head_step_at, claim_step_at, next_at}
+use Rattle.cert_items.specs.declared.items.Item as declared
+use Rattle.cert_items.specs.declared.items.Item.TheVariants as items
+use Rattle.cert_items.specs.declared.items.State.{State}
+use Rattle.cert_items.specs.declared.items.State.TheVariants as states
+use Rattle.cert_items.specs.Items.{Field, kind, shape, bases, weight, outflow, direct, splits, cut, proofs, head, one_part, cost_is, bound_is, gap_is, end_is}
+use Rattle.cert_items.specs.Items.{claim_state, cuts_left, proofs_left, parts_left, directs_left, direct_words_at, outflow_words_at, weight_words_at}
+use Rattle.cert_items.specs.Items.{shown_item, shaped_state, begin_at, shape_step_at, bases_step_at, weight_step_at, outflow_step_at, direct_step_at}
+use Rattle.cert_items.specs.Items.{head_step_at, claim_step_at, next_at}
 
 -- this holds of what was read
 abbrev AllOk : {X : Type 0} → (X → Type 0) → Result (X × At) ℕ → Type 0

@@ -11,10 +11,10 @@ use Rattle.cert_text.specs.Reading.{At, ◌>>=◌, start, first_of, word_at, sam
 use Rattle.box_space.specs.Views.{shown_split, shown_part}
 use Rattle.cert_format.specs.declared.reading.Kind.{Kind}
 use Rattle.cert_format.specs.declared.reading.Kind.TheVariants as kinds
-use Rattle.cert_stream.specs.declared.items.Item as declared
-use Rattle.cert_stream.specs.declared.items.Item.TheVariants as items
-use Rattle.cert_stream.specs.declared.items.State.{State}
-use Rattle.cert_stream.specs.declared.items.State.TheVariants as states
+use Rattle.cert_items.specs.declared.items.Item as declared
+use Rattle.cert_items.specs.declared.items.Item.TheVariants as items
+use Rattle.cert_items.specs.declared.items.State.{State}
+use Rattle.cert_items.specs.declared.items.State.TheVariants as states
 use Rattle.cert_format.specs.Cert.{Cert, NodeProof, IsCert}
 use Rattle.cert_format.specs.Reading.{kind_at, shape_at, list_word_at, split_line_at, part_at, bound_at}
 use Rattle.cert_format.specs.Text.{text_of}

@@ -7,16 +7,16 @@ use Rattle.cert_text.proofs.WindowLaws.{window_reads}
 use Rattle.cert_text.proofs.PieceLaws.{one_line}
 use Rattle.cert_format.specs.declared.reading.Kind.{Kind}
 use Rattle.cert_format.specs.declared.reading.Kind.TheVariants as kinds
-use Rattle.cert_stream.specs.declared.items.State.{State}
-use Rattle.cert_stream.specs.declared.items.State.TheVariants as states
+use Rattle.cert_items.specs.declared.items.State.{State}
+use Rattle.cert_items.specs.declared.items.State.TheVariants as states
 use Rattle.cert_format.specs.Reading.{kind_spelling, kind_at, shape_at, list_word_at, split_line_at, part_at, bound_at}
-use Rattle.cert_stream.specs.Items.{kind, shape, bases, weight, outflow, direct, splits, cut, proofs, head, one_part, cost_is, bound_is, gap_is, end_is}
-use Rattle.cert_stream.specs.Items.{kind_number, cuts_left, proofs_left, parts_left, directs_left, direct_words_at, outflow_words_at, weight_words_at, begin_at}
-use Rattle.cert_stream.specs.Items.{shaped_state, shape_step_at, bases_step_at, weight_step_at, outflow_step_at, direct_step_at, head_step_at, claim_step_at}
-use Rattle.cert_stream.specs.Items.{next_at}
+use Rattle.cert_items.specs.Items.{kind, shape, bases, weight, outflow, direct, splits, cut, proofs, head, one_part, cost_is, bound_is, gap_is, end_is}
+use Rattle.cert_items.specs.Items.{kind_number, cuts_left, proofs_left, parts_left, directs_left, direct_words_at, outflow_words_at, weight_words_at, begin_at}
+use Rattle.cert_items.specs.Items.{shaped_state, shape_step_at, bases_step_at, weight_step_at, outflow_step_at, direct_step_at, head_step_at, claim_step_at}
+use Rattle.cert_items.specs.Items.{next_at}
 use Rattle.cert_format.proofs.LineLaws.{Any, kind_reads}
-use Rattle.cert_stream.proofs.Pieces.{Piece, any, piece_reads, piece_done, piece_more, piece_bind, word_piece, after_word_piece, with_piece, cond_piece}
-use Rattle.cert_stream.proofs.Pieces.{u32_piece, u64_piece, i64_piece, i128_piece, same_piece}
+use Rattle.cert_items.proofs.Pieces.{Piece, any, piece_reads, piece_done, piece_more, piece_bind, word_piece, after_word_piece, with_piece, cond_piece}
+use Rattle.cert_items.proofs.Pieces.{u32_piece, u64_piece, i64_piece, i128_piece, same_piece}
 
 kind_piece : Piece 0 11 kind_at
 kind_piece = piece_reads Kind Any (λ k. codes "kind " ++ kind_spelling k) kind_at kind_reads 0 11 (λ k h. omega arith)

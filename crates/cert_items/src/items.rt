@@ -2,9 +2,9 @@
 
 ghost use Rattle.std.specs.Prelude.{◌≡◌, codes};
 ghost use Rattle.cert_text.specs.Reading.{Gives};
-ghost use Rattle.cert_stream.specs.Items.{shown, kind_number, next_at, begin_at, shape_step_at, bases_step_at, weight_words_at, outflow_words_at};
-ghost use Rattle.cert_stream.specs.Items.{direct_words_at, weight_step_at, outflow_step_at, direct_step_at, claim_step_at, cuts_left, proofs_left, parts_left};
-ghost use Rattle.cert_stream.specs.Items.{claim_state, head_step_at};
+ghost use Rattle.cert_items.specs.Items.{shown, kind_number, next_at, begin_at, shape_step_at, bases_step_at, weight_words_at, outflow_words_at};
+ghost use Rattle.cert_items.specs.Items.{direct_words_at, weight_step_at, outflow_step_at, direct_step_at, claim_step_at, cuts_left, proofs_left, parts_left};
+ghost use Rattle.cert_items.specs.Items.{claim_state, head_step_at};
 
 use box_space::{Part, Split};
 use cert_format::reading::{Kind, bound, kind_line, list_word, part, shape, split_line};
@@ -288,7 +288,7 @@ fn head<S: Source>(src: &mut S, kind: Kind, behind: u32) -> Result<(Item, State)
 
 /// The next item of the plan, the splits and the proofs, or of the lines before and behind them.
 #[tactic(auto, unfolding(crate::specs::Items::next_at))]
-pub(crate) fn read_item<S: Source>(src: &mut S, state: State) -> Result<(Item, State), Stop>
+pub fn read_item<S: Source>(src: &mut S, state: State) -> Result<(Item, State), Stop>
     ensures { Gives shown result (S.at src.new) (S.broken src.new) (next_at state (S.at src.old)) }
 {
     match state {
