@@ -3,13 +3,13 @@ use Rattle.std.proofs.Common.{◌≡◌, ◌≢◌, ℕ, ℤ, [], ◌∷◌, ref
 use Rattle.std.proofs.lemmas.Bool.{ne_eqb}
 use Rattle.pool_model.specs.Network.{Net, counts_of}
 use Rattle.pool_model.specs.Claim.{with_gap}
-use Rattle.cert_format.specs.declared.certificate.Claim.TheVariants as claims
+use Rattle.cert_writing.specs.declared.certificate.Claim.TheVariants as claims
 use Rattle.plan_core.specs.Views.{shown_plan}
 use Rattle.plan_core.specs.declared.plan.Cost.{Cost}
 use Rattle.plan_core.specs.declared.plan.WrittenPlan.{WrittenPlan}
 use Rattle.cert_format.specs.declared.reading.Kind.{Kind}
 use Rattle.cert_format.specs.declared.reading.Kind.TheVariants as kinds
-use Rattle.cert_stream.specs.declared.items.State.TheVariants as states
+use Rattle.cert_items.specs.declared.items.State.TheVariants as states
 use Rattle.cert_stream.specs.Items.{cost_is, bound_is, gap_is, shaped_state}
 use Rattle.cert_checker.specs.declared.opening.Opening.{Opening}
 use Rattle.cert_checker.specs.declared.opening.Opening.TheVariants as openings

@@ -9,7 +9,7 @@ use Rattle.split_tree.specs.Faults.{Holds}
 use Rattle.split_tree.specs.Splits.{Splits, IsOf}
 use Rattle.split_tree.specs.declared.fault.SplitFault.{SplitFault}
 use Rattle.cert_format.specs.declared.reading.Kind.{Kind}
-use Rattle.cert_stream.specs.declared.items.State.TheVariants as states
+use Rattle.cert_items.specs.declared.items.State.TheVariants as states
 use Rattle.cert_stream.specs.Items.{Field, splits, cut, cuts_left}
 use Rattle.proof_lines.specs.declared.refusal.Refusal.TheVariants.{Split as SplitAt}
 use Rattle.proof_lines.specs.declared.stream_refusal.StreamRefusal.TheVariants.{Refused}

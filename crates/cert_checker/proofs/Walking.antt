@@ -7,11 +7,11 @@ use Rattle.pool_model.specs.Network.{Net, counts_of}
 use Rattle.pool_model.specs.Claim.{Claimed, with_gap, with_bound, no_plan}
 use Rattle.cert_format.specs.Cert.{NodeProof, FitsShape, ClaimFits}
 use Rattle.cert_format.specs.Views.{shown_claim}
-use Rattle.cert_format.specs.declared.certificate.Claim.{Claim}
+use Rattle.cert_writing.specs.declared.certificate.Claim.{Claim}
 use Rattle.cert_format.specs.declared.reading.Kind.{Kind}
 use Rattle.split_tree.specs.Splits.{Splits, IsOf}
 use Rattle.cert_stream.specs.declared.fault.ItemFault.{ItemFault}
-use Rattle.cert_stream.specs.declared.items.State.TheVariants as states
+use Rattle.cert_items.specs.declared.items.State.TheVariants as states
 use Rattle.cert_stream.specs.Items.{Field, kind, shape, splits, cut, proofs, end_is, kind_number, claimed_kind, plan_items, claimed_plan_items, proof_items}
 use Rattle.cert_stream.specs.Items.{claim_items, items_of, claim_state, shaped_state}
 use Rattle.cert_stream.specs.Streams.{IsAtEnd}

@@ -13,8 +13,8 @@ use Rattle.cert_format.specs.Cert.{Cert, NodeProof, FitsShape, ClaimFits, IsCert
 use Rattle.cert_format.specs.declared.reading.Kind.{Kind}
 use Rattle.cert_format.specs.declared.reading.Kind.TheVariants as kinds
 use Rattle.cert_stream.specs.declared.fault.ItemFault.{ItemFault}
-use Rattle.cert_stream.specs.declared.items.State.{State}
-use Rattle.cert_stream.specs.declared.items.State.TheVariants as states
+use Rattle.cert_items.specs.declared.items.State.{State}
+use Rattle.cert_items.specs.declared.items.State.TheVariants as states
 use Rattle.cert_stream.specs.Items.{Field, kind as kind_item, shape as shape_item, splits, cut, kind_number, plan_items}
 use Rattle.cert_stream.specs.Items.{claim_items, items_of, shaped_state}
 use Rattle.cert_stream.specs.Streams.{IsAtEnd}
@@ -22,7 +22,7 @@ use Rattle.proof_lines.specs.declared.refusal.Refusal.{Refusal}
 use Rattle.proof_lines.specs.declared.refusal.Refusal.TheVariants.{Plan, Split as SplitAt}
 use Rattle.proof_lines.specs.declared.stream_refusal.StreamRefusal.{StreamRefusal}
 use Rattle.cert_format.specs.Views.{shown_claim}
-use Rattle.cert_format.specs.declared.certificate.Claim.{Claim}
+use Rattle.cert_writing.specs.declared.certificate.Claim.{Claim}
 use Rattle.cert_checker.specs.declared.walk.Walked.{Walked}
 use Rattle.cert_checker.specs.declared.opening.Opening.{Opening}
 use Rattle.cert_checker.specs.declared.opening.Opening.TheVariants as openings

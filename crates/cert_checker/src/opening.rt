@@ -4,7 +4,7 @@ ghost use Rattle.std.specs.Prelude.{◌≡◌};
 ghost use Rattle.pool_model.specs.Network.{net_of, counts_of};
 ghost use Rattle.cert_format.specs.declared.reading.Kind.TheVariants as kinds;
 ghost use Rattle.plan_core.specs.Views.{shown_plan};
-ghost use Rattle.cert_stream.specs.declared.items.State.TheVariants as states;
+ghost use Rattle.cert_items.specs.declared.items.State.TheVariants as states;
 ghost use Rattle.cert_stream.specs.Items.{weight as weight_item, outflow as outflow_item, direct as direct_item, directs_left, shaped_state};
 ghost use Rattle.proof_lines.specs.Grammar.{kind_of, weights_left, outflows_left};
 ghost use Rattle.proof_lines.specs.Parts.{Takes};

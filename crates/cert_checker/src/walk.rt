@@ -4,7 +4,7 @@ ghost use Rattle.std.specs.Prelude.{◌≡◌, ◌≤◌, ◌*◌, ◌^◌, OnOk
 ghost use Rattle.pool_model.specs.Network.{net_of, IsLimited};
 ghost use Rattle.pool_model.specs.Starting.{reach_bound};
 ghost use Rattle.cert_format.specs.declared.reading.Kind.{Kind as AKind};
-ghost use Rattle.cert_stream.specs.declared.items.State.TheVariants as states;
+ghost use Rattle.cert_items.specs.declared.items.State.TheVariants as states;
 ghost use Rattle.cert_stream.specs.Items.{claim_state};
 ghost use Rattle.proof_lines.specs.Parts.{Takes};
 ghost use Rattle.cert_checker.specs.Parts.{Walks, ReadsClaim, IsBegun, IsRefusedFront, IsSplitList, IsWrongSplitList, opening_kind};

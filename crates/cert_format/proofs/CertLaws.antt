@@ -15,9 +15,9 @@ use Rattle.cert_text.proofs.Laws.{Reads, bind_reads, done_reads, reworded, AreIt
 use Rattle.cert_text.proofs.NumberLaws.{below, u64_reads, i128_reads, same_reads, word_then}
 use Rattle.cert_format.specs.declared.reading.Kind.{Kind}
 use Rattle.cert_format.specs.declared.reading.Kind.TheVariants as kinds
-use Rattle.cert_format.specs.Cert.{Cert, NodeProof, ClaimFits, IsClaimInRange, IsSplitInRange, IsProofInRange, IsCert}
+use Rattle.cert_writing.specs.Cert.{Cert, NodeProof, ClaimFits, IsClaimInRange, IsSplitInRange, IsProofInRange, IsCert}
 use Rattle.cert_format.specs.Reading.{Opened, with_plan, bound_alone, none, kind_spelling, kind_at, shape_at, plan_at, opened_at, splits_at, proofs_at, bound_at, gap_at, claim_at, cert_at}
-use Rattle.cert_format.specs.Text.{line, kind_of, plan_lines, claimed_plan_lines, split_lines, proof_lines, number_lines, rest_lines, text_of}
+use Rattle.cert_writing.specs.Text.{line, kind_of, plan_lines, claimed_plan_lines, split_lines, proof_lines, number_lines, rest_lines, text_of}
 use Rattle.cert_format.proofs.LineLaws.{Any, IsPlanOf, kind_reads, shape_reads, plan_reads, AreLines, IsCounted, splits_reads, proofs_reads, bound_reads, two_numbers}
 
 -- ---- the numbers of a gap

@@ -21,10 +21,10 @@ use Rattle.cert_text.proofs.PieceLaws.{IsPiece, piece_reads, value_of, one_line,
 use Rattle.cert_text.proofs.NumberLaws.{below, u32_reads, u64_reads, i64_reads, i128_reads, word_then, stop, stop_is, count_is, list_line, each_spelling-same}
 use Rattle.cert_format.specs.declared.reading.Kind.{Kind}
 use Rattle.cert_format.specs.declared.reading.Kind.TheVariants as kinds
-use Rattle.cert_format.specs.Cert.{NodeProof, IsSplitInRange, IsPartInRange, IsProofInRange}
+use Rattle.cert_writing.specs.Cert.{NodeProof, IsSplitInRange, IsPartInRange, IsProofInRange}
 use Rattle.cert_format.specs.Reading.{kind_spelling, as_kind, kind_from, kind_at, shape_at, u32s_at, list_word_at, weights_at}
 use Rattle.cert_format.specs.Reading.{flows_at, plan_at, split_line_at, splits_at, part_at, proof_line_at, proofs_at, bound_at}
-use Rattle.cert_format.specs.Text.{field, line, plan_lines, split_line, part_fields, proof_line, split_lines, proof_lines}
+use Rattle.cert_writing.specs.Text.{field, line, plan_lines, split_line, part_fields, proof_line, split_lines, proof_lines}
 
 -- ---- the kind
 
@@ -217,11 +217,13 @@ from_weights-reads sh b f = bind_reads (List ℕ) Written (AreItems (below 32) (
     (weights_reads (get_or sh 4 0)) (λ ws i. from_outflows-reads sh b f ws) (λ ws z h. ap (λ (y : Written). y.weights) h.1.1)
 
 from_flow_base-reads : (sh : List ℕ) (b : ℕ) → Reads Written (IsFromFlowBase sh b) from_flow_base (read_flow_base sh b)
-from_flow_base-reads sh b = bind_reads ℕ Written (below 32) (number_spelling (end_of Line)) (u32_at Line) (λ f z. IsFromWeights sh b f z) (λ _ z. from_weights z) (λ f a. read_weights sh b f a) (λ z. z.flow_base)
+from_flow_base-reads sh b = bind_reads ℕ Written (below 32) (number_spelling (end_of Line)) (u32_at Line)
+    (λ f z. IsFromWeights sh b f z) (λ _ z. from_weights z) (λ f a. read_weights sh b f a) (λ z. z.flow_base)
     (u32_reads Line) (λ f i. from_weights-reads sh b f) (λ f z h. ap (λ (y : Written). y.flow_base) h.1.1.1)
 
 from_base-reads : (sh : List ℕ) → Reads Written (IsPlanOf sh) from_base (read_base sh)
-from_base-reads sh = bind_reads ℕ Written (below 32) (number_spelling (end_of Space)) (u32_at Space) (λ b z. IsFromFlowBase sh b z) (λ _ z. from_flow_base z) (λ b a. read_flow_base sh b a) (λ z. z.base)
+from_base-reads sh = bind_reads ℕ Written (below 32) (number_spelling (end_of Space)) (u32_at Space)
+    (λ b z. IsFromFlowBase sh b z) (λ _ z. from_flow_base z) (λ b a. read_flow_base sh b a) (λ z. z.base)
     (u32_reads Space) (λ b i. from_flow_base-reads sh b) (λ b z h. ap (λ (y : Written). y.base) h.1.1.1.1)
 
 -- two numbers of a line, and what stands behind it

@@ -9,12 +9,12 @@ use Rattle.cert_format.specs.declared.fault.Halt.{Halt}
 use Rattle.cert_format.specs.declared.fault.Halt.TheVariants as halts
 use Rattle.cert_format.specs.declared.fault.ReadCert.{ReadCert}
 use Rattle.cert_format.specs.declared.fault.ReadCert.TheVariants.{Memory, Text}
-use Rattle.cert_format.specs.declared.certificate.Certificate.{Certificate}
+use Rattle.cert_writing.specs.declared.certificate.Certificate.{Certificate}
 use Rattle.cert_format.specs.Answers.{IsReadAs, IsTextFault, Halts, Comes}
-use Rattle.cert_format.specs.Cert.{Cert, IsCert}
+use Rattle.cert_writing.specs.Cert.{Cert, IsCert}
 use Rattle.cert_format.specs.Reading.{cert_at}
-use Rattle.cert_format.specs.Views.{shown_cert}
-use Rattle.cert_format.specs.Text.{text_of}
+use Rattle.cert_writing.specs.Views.{shown_cert}
+use Rattle.cert_writing.specs.Text.{text_of}
 use Rattle.cert_format.proofs.CertLaws.{cert_reads}
 
 -- an item of a list stops

@@ -2,14 +2,14 @@
 use Rattle.std.specs.Prelude.{◌≡◌, ℕ, Bool, List, Result, Ok, Err}
 use Rattle.cert_text.specs.Lines.{IsFaultyLine}
 use Rattle.cert_text.specs.Reading.{At, Stops}
-use Rattle.cert_format.specs.declared.certificate.Certificate.{Certificate}
+use Rattle.cert_writing.specs.declared.certificate.Certificate.{Certificate}
 use Rattle.cert_format.specs.declared.fault.Halt.{Halt}
 use Rattle.cert_format.specs.declared.fault.Halt.TheVariants as halts
 use Rattle.cert_format.specs.declared.fault.ReadCert.{ReadCert}
 use Rattle.cert_format.specs.declared.fault.ReadCert.TheVariants.{Memory, Text}
-use Rattle.cert_format.specs.Cert.{Cert, IsCert}
-use Rattle.cert_format.specs.Views.{shown_cert}
-use Rattle.cert_format.specs.Text.{text_of}
+use Rattle.cert_writing.specs.Cert.{Cert, IsCert}
+use Rattle.cert_writing.specs.Views.{shown_cert}
+use Rattle.cert_writing.specs.Text.{text_of}
 
 -- the certificate is what was read, unless memory ran out
 abbrev pub IsReadAs : Cert → Result Certificate ReadCert → Type 0

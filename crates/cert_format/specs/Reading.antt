@@ -11,7 +11,7 @@ use Rattle.cert_format.specs.declared.reading.Kind.{Kind}
 use Rattle.cert_format.specs.declared.reading.Kind.TheVariants as kinds
 use Rattle.cert_format.specs.declared.reading.Opening as declared
 use Rattle.cert_format.specs.declared.reading.Opening.TheVariants as openings
-use Rattle.cert_format.specs.Cert.{Cert, NodeProof}
+use Rattle.cert_writing.specs.Cert.{Cert, NodeProof}
 
 -- ---- the kind
 

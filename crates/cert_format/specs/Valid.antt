@@ -5,7 +5,7 @@ use Rattle.pool_model.specs.Plan.{Written, plan_of, IsWritten, Obeys, cost_of}
 use Rattle.pool_model.specs.Claim.{Claimed, with_gap, with_bound, no_plan}
 use Rattle.row_model.specs.Multipliers.{Proof}
 use Rattle.row_model.specs.Trees.{Tree, nodes, IsTree, tree_bound}
-use Rattle.cert_format.specs.Cert.{Cert, NodeProof}
+use Rattle.cert_writing.specs.Cert.{Cert, NodeProof}
 
 -- the proof of a node: that of its first line, where it has one
 abbrev pub proof_of : List NodeProof → ℕ → Option Proof

@@ -1,8 +1,8 @@
 //! What holds of the text of certificates.
 
 ghost use Rattle.std.specs.Prelude.{◌≡◌, ◌++◌, ℕ, List};
-ghost use Rattle.cert_format.specs.Cert.{Cert, IsCert};
-ghost use Rattle.cert_format.specs.Text.{text_of};
+ghost use Rattle.cert_writing.specs.Cert.{Cert, IsCert};
+ghost use Rattle.cert_writing.specs.Text.{text_of};
 
 /// No two certificates share a text, and none's text begins another's.
 ///

@@ -7,18 +7,18 @@ ghost use Rattle.box_space.specs.Views.{shown_part, shown_split};
 ghost use Rattle.plan_core.specs.Views.{shown_plan};
 ghost use Rattle.cert_text.specs.Reading.{Gives, finished, whole, each_at};
 ghost use Rattle.cert_format.specs.Answers.{IsReadAs, IsTextFault, Yields, Closes, Comes};
-ghost use Rattle.cert_format.specs.Cert.{Cert, IsCert};
+ghost use Rattle.cert_writing.specs.Cert.{Cert, IsCert};
 ghost use Rattle.cert_format.specs.Reading.{kind_word_at, kind_at, shape_at, u32s_at, u64s_at, list_word_at, weights_at, flows_at, plan_at, opened, opened_at};
 ghost use Rattle.cert_format.specs.Reading.{split_line_at, splits_at, part_at, proof_line_at, proofs_at, bound_at, gap_at, claim_at, cert_at};
-ghost use Rattle.cert_format.specs.Views.{shown_claim, shown_node_proof, shown_cert};
-ghost use Rattle.cert_format.specs.Text.{text_of};
+ghost use Rattle.cert_writing.specs.Views.{shown_claim, shown_node_proof, shown_cert};
+ghost use Rattle.cert_writing.specs.Text.{text_of};
 
-use crate::certificate::{Certificate, Claim, NodeProof};
 use crate::fault::{Halt, ReadCert};
 use box_space::{Part, Proof, Split};
 use cert_text::{
     Ends, SliceSource, Source, Stop, TextFault, i64_then, i128_then, same, u32_then, u64_then, word,
 };
+use cert_writing::{Certificate, Claim, NodeProof};
 use plan_core::WrittenPlan;
 use std::alloc::Global;
 

@@ -10,10 +10,10 @@ use Rattle.cert_text.specs.declared.fault.TextFault.{TextFault}
 use Rattle.cert_text.specs.Reading.{At}
 use Rattle.cert_stream.specs.declared.fault.ItemFault.{ItemFault}
 use Rattle.cert_stream.specs.declared.fault.ItemFault.TheVariants.{Read, TooLong, Text}
-use Rattle.cert_stream.specs.declared.items.Item as declared
-use Rattle.cert_stream.specs.declared.items.State.{State}
-use Rattle.cert_stream.specs.declared.items.State.TheVariants as states
-use Rattle.cert_stream.specs.Items.{Field, shown_item, Gave}
+use Rattle.cert_items.specs.declared.items.Item as declared
+use Rattle.cert_items.specs.declared.items.State.{State}
+use Rattle.cert_items.specs.declared.items.State.TheVariants as states
+use Rattle.cert_items.specs.Items.{Field, shown_item, Gave}
 use Rattle.cert_stream.specs.Streams.{Reader, at_of, MayFollow, IsAtEnd, Took, Filled, IsMore, TookMore, GivesItem, GivesFault, Ran, Finished, FailsLater, Fails}
 
 -- ---- what is taken

@@ -1,9 +1,5 @@
-pub mod ItemLaws
-pub mod Pieces
-pub mod ItemPieces
 pub mod Places
 pub mod Calls
 pub mod Steps
-pub mod Lasts
 pub mod NextItem
 pub mod Runs

@@ -8,14 +8,14 @@ use Rattle.cert_text.specs.declared.fault.TextFault.{TextFault}
 use Rattle.cert_text.specs.Reading.{At}
 use Rattle.cert_stream.specs.declared.fault.ItemFault.{ItemFault}
 use Rattle.cert_stream.specs.declared.fault.ItemFault.TheVariants.{Text}
-use Rattle.cert_stream.specs.declared.items.Item as declared
-use Rattle.cert_stream.specs.declared.items.Item.TheVariants as items
-use Rattle.cert_stream.specs.declared.items.State.{State}
-use Rattle.cert_stream.specs.declared.items.State.TheVariants as states
-use Rattle.cert_stream.specs.Items.{Field, shown_item, next_at}
+use Rattle.cert_items.specs.declared.items.Item as declared
+use Rattle.cert_items.specs.declared.items.Item.TheVariants as items
+use Rattle.cert_items.specs.declared.items.State.{State}
+use Rattle.cert_items.specs.declared.items.State.TheVariants as states
+use Rattle.cert_items.specs.Items.{Field, shown_item, next_at}
 use Rattle.cert_stream.specs.Rooms.{IsHandedOut}
 use Rattle.cert_stream.specs.Streams.{Reader, at_of, MayFollow, IsAtEnd, Took, Filled, GivesItem, GivesFault, HasBehind}
-use Rattle.cert_stream.proofs.Lasts.{end-last, last-end}
+use Rattle.cert_items.proofs.Lasts.{end-last, last-end}
 use Rattle.cert_stream.proofs.Calls.{took-then, may-follow, filled-at}
 
 -- ---- a piece

@@ -7,11 +7,11 @@ use Rattle.cert_text.specs.Lines.{IsFaultyLine}
 use Rattle.cert_text.specs.Reading.{At, start}
 use Rattle.cert_format.specs.Cert.{Cert, IsCert}
 use Rattle.cert_format.specs.Text.{text_of}
-use Rattle.cert_stream.specs.declared.items.State.TheVariants as states
-use Rattle.cert_stream.specs.Items.{Field, items_of, next_at, Gave}
+use Rattle.cert_items.specs.declared.items.State.TheVariants as states
+use Rattle.cert_items.specs.Items.{Field, items_of, next_at, Gave}
 use Rattle.cert_stream.specs.Streams.{Reader, fresh, at_of, IsAtEnd, Took, GivesFault, StandsBehind, Ran, IsRest, IsTextOf, IsFaultyAt, IsPaid}
 use Rattle.cert_stream.proofs.Calls.{told, took-then, gave-append}
-use Rattle.cert_stream.proofs.ItemLaws.{gave-end, gave-prefix, gave-fault, gave-behind}
+use Rattle.cert_items.proofs.ItemLaws.{gave-end, gave-prefix, gave-fault, gave-behind}
 
 -- where nothing is left, what was taken is the rest
 pub all-taken : {r s : Reader} {rest now : Option (List ℕ)} (h : Took r rest s now) → IsTrue s.ended → IsRest rest h.taken

@@ -6,11 +6,11 @@ use Rattle.std.proofs.Math.Seq.{drop-append_seam}
 use Rattle.cert_text.specs.Lines.{line_feeds}
 use Rattle.cert_text.specs.Reading.{At}
 use Rattle.cert_text.proofs.WindowLaws.{further}
-use Rattle.cert_stream.specs.declared.items.State.{State}
-use Rattle.cert_stream.specs.Items.{Field, next_at}
+use Rattle.cert_items.specs.declared.items.State.{State}
+use Rattle.cert_items.specs.Items.{Field, next_at}
 use Rattle.cert_stream.specs.Streams.{Reader, at_of, MayFollow}
-use Rattle.cert_stream.proofs.Pieces.{IsBehind}
-use Rattle.cert_stream.proofs.ItemPieces.{next_piece}
+use Rattle.cert_items.proofs.Pieces.{IsBehind}
+use Rattle.cert_items.proofs.ItemPieces.{next_piece}
 
 -- the bytes that are held, and nothing behind them
 abbrev pub alone : Reader → At

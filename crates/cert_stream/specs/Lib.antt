@@ -1,3 +1,3 @@
-pub mod Items
+pub use Rattle.cert_items.specs.Items
 pub mod Rooms
 pub mod Streams

@@ -6,13 +6,13 @@ ghost use Rattle.edge_io.specs.Counts.{Grows, Rose, RoseBy};
 ghost use Rattle.edge_io.specs.Opened.{IsUsedUp};
 ghost use Rattle.cert_text.specs.declared.fault.TextFault.{TextFault as AFault};
 ghost use Rattle.cert_stream.specs.declared.fault.ItemFault.TheVariants as faults;
-ghost use Rattle.cert_stream.specs.declared.items.State.TheVariants as states;
-ghost use Rattle.cert_stream.specs.Items.{shown_item, next_at};
+ghost use Rattle.cert_items.specs.declared.items.State.TheVariants as states;
+ghost use Rattle.cert_items.specs.Items.{shown_item, next_at};
 ghost use Rattle.cert_stream.specs.Streams.{Filled, Took, GivesItem, GivesFault, Finished, FailsLater, Fails, HasBehind, IsMore, TookMore, MayFollow, IsAtEnd, fresh, at_of};
 
 use crate::fault::ItemFault;
 use crate::held::Held;
-use crate::items::{Item, State, read_item};
+use cert_items::{Item, State, read_item};
 use cert_text::{SliceSource, Source, Stop, TextFault};
 use edge_io::{Memory, Shelf};
 use std::alloc::Global;

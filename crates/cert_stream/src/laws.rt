@@ -1,4 +1,4 @@
-//! What the items of a certificate that comes in pieces say of its text.
+//! What the calls of a reader say of the file that they read.
 
 ghost use Rattle.std.specs.Prelude.{◌≡◌, ◌≢◌, ◌-◌, ◌++◌, [], ◌∷◌, length, ℕ, List, Option, Some, IsTrue};
 ghost use Rattle.edge_io.specs.Counts.{RoseBy};
@@ -6,21 +6,10 @@ ghost use Rattle.edge_io.specs.Opened.{IsUsedUp};
 ghost use Rattle.cert_text.specs.declared.fault.TextFault.{TextFault};
 ghost use Rattle.cert_format.specs.Cert.{Cert, IsCert};
 ghost use Rattle.cert_format.specs.Text.{text_of};
-ghost use Rattle.cert_stream.specs.declared.items.Item.{Item as AnItem};
-ghost use Rattle.cert_stream.specs.declared.items.State.TheVariants as states;
-ghost use Rattle.cert_stream.specs.Items.{Field, shown_item, items_of, EndsRight, BeginsRight, FailsRight, StopsRight};
+ghost use Rattle.cert_items.specs.declared.items.Item.{Item as AnItem};
+ghost use Rattle.cert_items.specs.declared.items.State.TheVariants as states;
+ghost use Rattle.cert_items.specs.Items.{Field, shown_item, items_of};
 ghost use Rattle.cert_stream.specs.Streams.{Reader, fresh, IsAtEnd, GivesItem, GivesFault, Ran, IsTextOf, IsFaultyAt, IsPaid};
-
-/// What the items that come one after another from the start of a text say of it.
-///
-/// At the end they are those of the one certificate that has the text; before it they are the first of them, where one has it; and
-/// a fault, of an item or behind the last line, is that of the first faulty line.
-pub fn stream_law()
-    ensures ends { (bytes : List ℕ) → EndsRight bytes }
-    ensures begins { (bytes : List ℕ) → BeginsRight bytes }
-    ensures fails { (bytes : List ℕ) → FailsRight bytes }
-    ensures stops { (bytes : List ℕ) → StopsRight bytes }
-{}
 
 /// What the calls of a reader from the start of a file, one after another, say of the file.
 ///

@@ -13,9 +13,9 @@ use Rattle.cert_format.specs.Reading.{kind_at, shape_at, list_word_at, split_lin
 use Rattle.cert_text.specs.declared.fault.TextFault.{TextFault}
 use Rattle.cert_stream.specs.declared.fault.ItemFault.{ItemFault}
 use Rattle.cert_stream.specs.declared.fault.ItemFault.TheVariants as faults
-use Rattle.cert_stream.specs.declared.items.Item.{Item}
-use Rattle.cert_stream.specs.declared.items.State.{State}
-use Rattle.cert_stream.specs.declared.items.State.TheVariants as states
+use Rattle.cert_items.specs.declared.items.Item.{Item}
+use Rattle.cert_items.specs.declared.items.State.{State}
+use Rattle.cert_items.specs.declared.items.State.TheVariants as states
 use Rattle.cert_stream.specs.Items.{Field, kind, shape, bases, weight, outflow, direct, splits, cut, proofs, head, one_part, cost_is, bound_is, gap_is, end_is}
 use Rattle.cert_stream.specs.Items.{shown_item, kind_number, cuts_left, proofs_left, parts_left, directs_left, shaped_state, direct_words_at, outflow_words_at}
 use Rattle.cert_stream.specs.Items.{weight_words_at, begin_at, shape_step_at, bases_step_at, weight_step_at, outflow_step_at, direct_step_at, head_step_at}

@@ -13,8 +13,8 @@ use Rattle.cert_format.specs.Valid.{no_proof}
 use Rattle.cert_stream.specs.Items.{Field, head, one_part, proof_items, claim_state, proofs_left, parts_left}
 use Rattle.cert_format.specs.declared.reading.Kind.{Kind}
 use Rattle.cert_format.specs.declared.reading.Kind.TheVariants as kinds
-use Rattle.cert_stream.specs.declared.items.State.{State}
-use Rattle.cert_stream.specs.declared.items.State.TheVariants as states
+use Rattle.cert_items.specs.declared.items.State.{State}
+use Rattle.cert_items.specs.declared.items.State.TheVariants as states
 use Rattle.proof_lines.specs.declared.refusal.Refusal.TheVariants.{ProofPlace}
 use Rattle.proof_lines.specs.declared.stream_refusal.StreamRefusal.TheVariants.{Refused}
 use Rattle.proof_lines.specs.Lines.{ArePlacedTo, ArePartsSkipped, AreAllPlaced, IsLaterPlace}

@@ -3,8 +3,8 @@ use Rattle.std.proofs.Common.{◌≡◌, ◌≢◌, ℕ, ◌+◌, ◌-◌, ◌<�
 use Rattle.std.proofs.lemmas.Bool.{ne_eqb}
 use Rattle.cert_format.specs.declared.reading.Kind.{Kind}
 use Rattle.cert_format.specs.declared.reading.Kind.TheVariants as kinds
-use Rattle.cert_stream.specs.declared.items.State.{State}
-use Rattle.cert_stream.specs.declared.items.State.TheVariants as states
+use Rattle.cert_items.specs.declared.items.State.{State}
+use Rattle.cert_items.specs.declared.items.State.TheVariants as states
 use Rattle.cert_stream.specs.Items.{claim_state, cuts_left, proofs_left, parts_left, directs_left, shaped_state}
 use Rattle.proof_lines.specs.Grammar.{outflows_left, weights_left}
 

@@ -3,9 +3,9 @@ use Rattle.std.specs.Prelude.{◌≡◌, ℕ, ◌-◌, [], ◌∷◌, ℤ, Resul
 use Rattle.cert_format.specs.declared.reading.Kind.{Kind}
 use Rattle.cert_format.specs.declared.reading.Kind.TheVariants as kinds
 use Rattle.cert_stream.specs.declared.fault.ItemFault.{ItemFault}
-use Rattle.cert_stream.specs.declared.items.Item as declared
-use Rattle.cert_stream.specs.declared.items.State.{State}
-use Rattle.cert_stream.specs.declared.items.State.TheVariants as states
+use Rattle.cert_items.specs.declared.items.Item as declared
+use Rattle.cert_items.specs.declared.items.State.{State}
+use Rattle.cert_items.specs.declared.items.State.TheVariants as states
 use Rattle.cert_stream.specs.Items.{Field, kind, shape, bases, weight, outflow, direct, splits, cut, proofs, head, one_part, cost_is, bound_is, gap_is, end_is}
 use Rattle.cert_stream.specs.Items.{shown_item, cuts_left, proofs_left, parts_left, directs_left, shaped_state}
 use Rattle.cert_stream.specs.Streams.{IsAtEnd}

@@ -15,7 +15,7 @@ use Rattle.row_book.specs.declared.shown.Shown as values
 use Rattle.cert_format.specs.Cert.{NodeProof}
 use Rattle.cert_format.specs.Valid.{no_proof, IsRising}
 use Rattle.cert_stream.specs.declared.fault.ItemFault.{ItemFault}
-use Rattle.cert_stream.specs.declared.items.State.{State}
+use Rattle.cert_items.specs.declared.items.State.{State}
 use Rattle.cert_format.specs.declared.reading.Kind.{Kind}
 use Rattle.cert_stream.specs.Items.{Field, head, one_part, proof_items, proofs_left}
 use Rattle.proof_lines.specs.declared.judge.Judge.{Judge}

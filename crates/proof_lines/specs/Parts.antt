@@ -5,7 +5,7 @@ use Rattle.pool_model.specs.Network.{Net}
 use Rattle.row_model.specs.Trees.{Split, nodes}
 use Rattle.cert_format.specs.Cert.{NodeProof}
 use Rattle.cert_format.specs.declared.reading.Kind.{Kind}
-use Rattle.cert_stream.specs.declared.items.State.{State}
+use Rattle.cert_items.specs.declared.items.State.{State}
 use Rattle.cert_stream.specs.Items.{Field, proofs as proofs_item, head}
 use Rattle.cert_stream.specs.Items.{proof_items, claim_state}
 use Rattle.proof_lines.specs.declared.refusal.Refusal.{Refusal}

@@ -5,8 +5,8 @@ use Rattle.edge_io.specs.Counts.{Grows, Rose, RoseBy}
 use Rattle.edge_io.specs.Opened.{IsUsedUp}
 use Rattle.cert_stream.specs.declared.fault.ItemFault.{ItemFault}
 use Rattle.cert_stream.specs.declared.fault.ItemFault.TheVariants as faults
-use Rattle.cert_stream.specs.declared.items.State.{State}
-use Rattle.cert_stream.specs.declared.items.State.TheVariants.{Ended}
+use Rattle.cert_items.specs.declared.items.State.{State}
+use Rattle.cert_items.specs.declared.items.State.TheVariants.{Ended}
 use Rattle.cert_stream.specs.Items.{Field}
 use Rattle.cert_stream.specs.Streams.{Reader, Ran, FailsLater, IsMore, TookMore}
 use Rattle.proof_lines.specs.declared.refusal.Refusal.{Refusal}

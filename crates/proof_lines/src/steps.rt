@@ -3,7 +3,7 @@
 ghost use Rattle.std.specs.Prelude.{◌≡◌, ◌≢◌, ◌⊎◌, ℕ, IsTrue};
 ghost use Rattle.edge_io.specs.Opened.{IsUsedUp};
 ghost use Rattle.cert_format.specs.declared.reading.Kind.{Kind as AKind};
-ghost use Rattle.cert_stream.specs.declared.items.State.TheVariants as states;
+ghost use Rattle.cert_items.specs.declared.items.State.TheVariants as states;
 ghost use Rattle.cert_stream.specs.Items as items;
 ghost use Rattle.proof_lines.specs.Grammar.{bases_item, cut_item, head_item, part_item, cost_item, gap_item, behind_item, Came, Reads, ReadsEnd};
 ghost use Rattle.proof_lines.specs.Runs.{moment};

@@ -6,7 +6,7 @@ ghost use Rattle.pool_model.specs.Starting.{least_below, reach_bound};
 ghost use Rattle.row_model.specs.Trees.{is_cut};
 ghost use Rattle.split_tree.specs.Splits.{IsOf};
 ghost use Rattle.cert_format.specs.declared.reading.Kind.{Kind as AKind};
-ghost use Rattle.cert_stream.specs.declared.items.State.TheVariants as states;
+ghost use Rattle.cert_items.specs.declared.items.State.TheVariants as states;
 ghost use Rattle.proof_lines.specs.Parts.{Takes, AreProofs, AreWrongProofs};
 ghost use Rattle.proof_lines.specs.Runs.{moment, IsReady};
 

@@ -3,8 +3,8 @@ use Rattle.std.proofs.Common.{◌≡◌, ◌-◌, ◌+◌, ◌<◌, ℕ, slice_i
 use Rattle.std.proofs.lemmas.Result.{err_from_is_err_and}
 use Rattle.pool_model.specs.Network.{Net, net_of}
 use Rattle.cert_format.specs.declared.reading.Kind.TheVariants as kinds
-use Rattle.cert_stream.specs.declared.items.State.{State}
-use Rattle.cert_stream.specs.declared.items.State.TheVariants as states
+use Rattle.cert_items.specs.declared.items.State.{State}
+use Rattle.cert_items.specs.declared.items.State.TheVariants as states
 use Rattle.cert_stream.specs.Items.{direct, directs_left}
 use Rattle.proof_lines.specs.Grammar.{behind_item}
 use Rattle.cert_checker.specs.Parts.{Never, IsListed}

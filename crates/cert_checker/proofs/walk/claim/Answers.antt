@@ -3,8 +3,8 @@ use Rattle.std.proofs.Common.{◌∷◌, [], sym, ap, subst, ◌∙◌, rules, F
 use mir.Syntax.{w128}
 use Rattle.std.proofs.lemmas.Result.{err_from_is_err_and}
 use Rattle.pool_model.specs.Claim.{no_plan}
-use Rattle.cert_stream.specs.declared.items.State.{State}
-use Rattle.cert_stream.specs.declared.items.State.TheVariants as states
+use Rattle.cert_items.specs.declared.items.State.{State}
+use Rattle.cert_items.specs.declared.items.State.TheVariants as states
 use Rattle.cert_stream.specs.Items.{cost_is, bound_is, gap_is, claim_state}
 use Rattle.cert_checker.specs.declared.opening.Opening.{Opening}
 use Rattle.proof_lines.specs.Grammar.{behind_item, gap_item}

@@ -5,7 +5,7 @@ use Rattle.pool_model.specs.Network.{Net, net_of}
 use Rattle.box_space.specs.Views.{shown_split}
 use Rattle.split_tree.specs.Splits.{Splits}
 use Rattle.cert_format.specs.declared.reading.Kind.{Kind}
-use Rattle.cert_stream.specs.declared.items.State.{State}
+use Rattle.cert_items.specs.declared.items.State.{State}
 use Rattle.cert_stream.specs.Items.{cut, cuts_left}
 use Rattle.proof_lines.specs.Grammar.{behind_item}
 use Rattle.cert_checker.specs.Parts.{IsWrongSplitList}

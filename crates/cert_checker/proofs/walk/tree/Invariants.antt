@@ -1,7 +1,7 @@
 use Rattle.std.proofs.Common.{◌≡◌}
 use Rattle.pool_model.specs.Network.{net_of}
 use Rattle.cert_format.specs.declared.reading.Kind.{Kind}
-use Rattle.cert_stream.specs.declared.items.State.TheVariants as states
+use Rattle.cert_items.specs.declared.items.State.TheVariants as states
 use Rattle.proof_lines.specs.Runs.{moment}
 use Rattle.cert_checker.proofs.Cutting.{AreCut}
 use Rattle.cert_checker.proofs.walk.tree.Given as goal

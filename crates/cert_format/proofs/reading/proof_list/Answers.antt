@@ -1,6 +1,6 @@
 use Rattle.std.proofs.Common.{map}
 use Rattle.std.proofs.lemmas.Result.{err_from_is_err_and}
-use Rattle.cert_format.specs.Views.{shown_node_proof}
+use Rattle.cert_writing.specs.Views.{shown_node_proof}
 use Rattle.cert_text.specs.Reading.{each_at}
 use Rattle.cert_text.proofs.Each.{each-push, each-end}
 use Rattle.cert_format.specs.Reading.{proof_line_at}

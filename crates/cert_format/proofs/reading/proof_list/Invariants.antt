@@ -1,5 +1,5 @@
 use Rattle.std.proofs.Common.{◌≡◌, ◌-◌, map}
-use Rattle.cert_format.specs.Views.{shown_node_proof}
+use Rattle.cert_writing.specs.Views.{shown_node_proof}
 use Rattle.cert_text.specs.Reading.{each_at}
 use Rattle.cert_text.proofs.Each.{with_front}
 use Rattle.cert_format.specs.Reading.{proof_line_at}

@@ -2,7 +2,7 @@
 use Rattle.std.proofs.Common.{◌≡◌, ◌-◌, ◌+◌, ◌<◌, ◌≤◌, ℕ, sym, subst, ◌∙◌, arith}
 use Rattle.std.proofs.lemmas.Result.{err_from_is_err_and}
 use Rattle.row_model.specs.Trees.{nodes}
-use Rattle.cert_stream.specs.declared.items.State.{State}
+use Rattle.cert_items.specs.declared.items.State.{State}
 use Rattle.cert_stream.specs.Items.{parts_left}
 use Rattle.proof_lines.specs.Grammar.{head_item, behind_item}
 use Rattle.proof_lines.specs.Lines.{IsLaterPlace}

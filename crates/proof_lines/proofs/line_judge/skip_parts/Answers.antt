@@ -2,7 +2,7 @@
 use Rattle.std.proofs.Common.{◌≡◌, ◌-◌, ◌+◌, ◌<◌, ℕ, ap, subst, ◌∙◌, arith}
 use Rattle.std.proofs.lemmas.Result.{err_from_is_err_and}
 use Rattle.box_space.specs.Views.{shown_part}
-use Rattle.cert_stream.specs.declared.items.State.{State}
+use Rattle.cert_items.specs.declared.items.State.{State}
 use Rattle.cert_stream.specs.Items.{parts_left}
 use Rattle.proof_lines.specs.Grammar.{part_item, behind_item}
 use Rattle.proof_lines.specs.Runs.{Moment, moment, IsReady}

@@ -5,7 +5,7 @@ use Rattle.std.proofs.Common.{◌≡◌, ◌<◌, ◌^◌, List, length, get_or,
 use Rattle.std.proofs.lemmas.Result.{err_from_is_err_and}
 use Rattle.pool_model.specs.Network.{Net, net_of}
 use Rattle.cert_format.specs.declared.reading.Kind.{Kind}
-use Rattle.cert_stream.specs.declared.items.State.{State}
+use Rattle.cert_items.specs.declared.items.State.{State}
 use Rattle.cert_stream.specs.Items.{proofs, proofs_left}
 use Rattle.proof_lines.specs.Grammar.{behind_item}
 use Rattle.proof_lines.specs.Parts.{AreWrongProofs}

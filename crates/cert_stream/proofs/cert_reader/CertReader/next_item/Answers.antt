@@ -1,8 +1,8 @@
 use Rattle.std.proofs.Common.{rules, ◌≡◌, Err, ap, subst, ◌∙◌}
 use Rattle.cert_text.specs.declared.fault.TextFault.{TextFault}
 use Rattle.cert_stream.specs.declared.fault.ItemFault.TheVariants as faults
-use Rattle.cert_stream.specs.declared.items.Item.{Item}
-use Rattle.cert_stream.specs.Items.{shown_item}
+use Rattle.cert_items.specs.declared.items.Item.{Item}
+use Rattle.cert_items.specs.Items.{shown_item}
 use Rattle.cert_stream.specs.Streams.{Reader, Took}
 use Rattle.cert_stream.proofs.NextItem.{Stepped, gives-item, gives-last, gives-fault, gives-behind, same-text}
 use Rattle.cert_stream.proofs.cert_reader.CertReader.next_item.Goals as goal

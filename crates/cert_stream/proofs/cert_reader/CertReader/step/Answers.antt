@@ -1,7 +1,7 @@
 use Rattle.std.proofs.Common.{◌≡◌, ◌-◌, false, List, ℕ, length, drop, Ok, Err, sym, ap, subst, arith}
 use Rattle.cert_text.specs.declared.fault.Stop.{Stop}
 use Rattle.cert_text.specs.Reading.{At, Stops}
-use Rattle.cert_stream.specs.Items.{shown_item, next_at}
+use Rattle.cert_items.specs.Items.{shown_item, next_at}
 use Rattle.cert_stream.specs.Streams.{Reader, MayFollow, at_of}
 use Rattle.cert_stream.proofs.Steps.{IsFull, alone, item-lines, step-kept, step-gives, step-faults}
 use Rattle.cert_stream.proofs.cert_reader.CertReader.step.Goals as goal

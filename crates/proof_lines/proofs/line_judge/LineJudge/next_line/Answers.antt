@@ -4,7 +4,7 @@ use Rattle.std.proofs.lemmas.Result.{err_from_is_err_and}
 use Rattle.pool_model.specs.Network.{Net, net_of}
 use Rattle.row_model.specs.Trees.{Split, nodes}
 use Rattle.cert_format.specs.declared.reading.Kind.{Kind}
-use Rattle.cert_stream.specs.declared.items.State.{State}
+use Rattle.cert_items.specs.declared.items.State.{State}
 use Rattle.cert_stream.specs.Items.{parts_left}
 use Rattle.proof_lines.specs.Grammar.{head_item, behind_item}
 use Rattle.cert_format.specs.Cert.{NodeProof}

@@ -1,7 +1,7 @@
 -- One part more, and what all of them are.
 use Rattle.std.proofs.Common.{◌≡◌, ◌+◌, ◌-◌, ◌<◌, ◌≤◌, ℕ, IsTrue, refl, sym, subst, ◌∙◌, arith, rules}
 use Rattle.std.proofs.lemmas.Result.{err_from_is_err_and}
-use Rattle.cert_stream.specs.declared.items.State.{State}
+use Rattle.cert_items.specs.declared.items.State.{State}
 use Rattle.cert_stream.specs.Items.{parts_left}
 use Rattle.proof_lines.specs.Grammar.{part_item, behind_item}
 use Rattle.proof_lines.specs.Runs.{Moment, moment, IsReady}

@@ -1,0 +1,4 @@
+pub mod Pieces
+pub mod ItemPieces
+pub mod ItemLaws
+pub mod Lasts
