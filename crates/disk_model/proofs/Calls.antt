@@ -1,6 +1,6 @@
 -- A call of a disk in memory, and its count.
-use Rattle.std.proofs.Common.{◌≡◌, ℕ, Bool, List, Result, Ok, Err, OnErr, sym, subst}
-use Rattle.disk_model.specs.Disks.{Follows, Among, Elapses}
+use Rattle.std.proofs.Common.{◌≡◌, ℕ, Bool, List, sym, subst}
+use Rattle.disk_calls.specs.Disks.{Follows, Among, Elapses}
 use Rattle.disk_model.specs.Images.{only-now, time-same}
 use Rattle.disk_model.specs.MemDisks.{moment_of, ImageOf, SinceOf}
 use Rattle.disk_model.specs.declared.mem_disk.MemDisk.{MemDisk}
@@ -30,8 +30,3 @@ call-time old gone new behind h = subst (λ (d : MemDisk). Elapses (moment_of ol
 -- a step that leaves each image as it is
 pub among-same : (old new : List ℕ → Type 0) → Follows (λ i c. c ≡ i) old new → Among old new
 among-same old new follows c left = let from = follows c left in subst old (sym from.2) from.1
-
--- what holds, said of an error
-pub on_err : (T E P : Type 0) (r : Result T E) → P → OnErr r P
-on_err T E P (Ok value) holds = tt
-on_err T E P (Err fault) holds = holds

@@ -1,6 +1,6 @@
 -- How a torn write lands.
 use Rattle.std.proofs.Common.{◌≡◌, ℕ, ◌≤◌, List, length, sym, subst}
-use Rattle.disk_model.specs.Disks.{written, Torn}
+use Rattle.disk_calls.specs.Disks.{written, Torn}
 use Rattle.disk_model.specs.Images.{torn-written}
 
 -- no more bytes than were to be written

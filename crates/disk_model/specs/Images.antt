@@ -3,14 +3,11 @@ use Rattle.std.specs.Prelude.{◌≡◌, ℕ, ◌+◌, ◌-◌, ◌≤◌, ◌�
 use Rattle.std.proofs.Common.{sym, ◌∙◌, ap, subst, inl, inr, arith, append_assoc, length-append, length-take, length-drop}
 use Rattle.std.proofs.lemmas.Bool.{cases_lt}
 use Rattle.std.proofs.lemmas.List.{take_at, drop_at, take_all, drop_all, drop-drop, take-append-le, take_min}
-use Rattle.disk_model.specs.Disks.{written, Torn, Shortened, Follows, Only, Elapses}
+use Rattle.disk_calls.proofs.Calling.{torn-same, shortened-same}
+use Rattle.disk_calls.specs.Disks.{written, Torn, Shortened, Follows, Only, Elapses}
 use Rattle.disk_model.specs.Steps.{after_step, file_after, Lands, Leaves, IsImage, MayLeave, LeftSince}
 use Rattle.disk_model.specs.declared.step.Step.{Step}
 use Rattle.disk_model.specs.declared.step.Step.TheVariants.{Write, Cut, Sync}
-
--- a write that never came
-pub torn-same : (at n : ℕ) (file : List ℕ) → Torn at n file file
-torn-same at n file = record { before = take_min at file; after = refl; no_shorter = omega arith; no_longer = omega arith }
 
 -- a front of the bytes, or others in their place
 pub torn-written : (at n : ℕ) (file bytes : List ℕ) → length bytes ≤ n → Torn at n file (written file at bytes)
@@ -41,9 +38,6 @@ torn-written at n file bytes le = record {
         ∙ ap (drop (n - length bytes)) (drop_at (take at file ++ bytes) (drop (at + length bytes) file) (at + length bytes) is)
         ∙ drop-drop (n - length bytes) (at + length bytes) file
         ∙ ap (λ (k : ℕ). drop k file) (sym split)
-
-pub shortened-same : (to : ℕ) (file : List ℕ) → Shortened to file file
-shortened-same to file = record { front = take_all (length file) file (omega arith); no_shorter = omega arith }
 
 pub shortened-take : (to n : ℕ) (file : List ℕ) → to ≤ n → Shortened to file (take n file)
 shortened-take to n file le = record {

@@ -1,4 +1,4 @@
-pub mod Disks
+pub use Rattle.disk_calls.specs.Disks
 pub mod Steps
 pub mod Images
 pub mod MemDisks

@@ -1,7 +1,7 @@
 -- The steps that a file in memory has gone, and what a crash may leave after them.
 use Rattle.std.specs.Prelude.{◌≡◌, ℕ, ◌≤◌, List, [], ◌∷◌, length, take, Option, Some, None, Vec}
 use Rattle.std.specs.declared.alloc.Global.{Global}
-use Rattle.disk_model.specs.Disks.{written, Torn, Shortened}
+use Rattle.disk_calls.specs.Disks.{written, Torn, Shortened}
 use Rattle.disk_model.specs.declared.step.Step.{Step}
 use Rattle.disk_model.specs.declared.step.Step.TheVariants.{Write, Cut, Sync}
 

@@ -2,16 +2,16 @@
 
 ghost use Rattle.std.specs.Prelude.{◌≡◌, ◌+◌, ◌-◌, ◌^◌, ◌<◌, ◌≤◌, ◌⊎◌, None, true, min, length, take, drop, Contains, IfOk, IfSome, OnOk, OnErr, IsErr, option_map, Some};
 ghost use Rattle.edge_io.specs.Counts.{Grows, Rose};
-ghost use Rattle.disk_model.specs.Disks.{written, Torn, Shortened, Follows, Among, Only, Reaches, IsOneOf, Elapses};
+ghost use Rattle.disk_calls.specs.Disks.{written, Torn, Shortened, Follows, Among, Only, Reaches, IsOneOf, Elapses};
 
-use crate::disk::{Disk, DiskFailed};
 use crate::mem_disk::MemDisk;
+use disk_calls::{Disk, DiskFailed};
 use edge_io::Memory;
 use std::alloc::Global;
 
 /// A `MemDisk` of which some calls fail. A write or a cut that is told to fail has reached the file all the same; another
 /// call has done nothing.
-#[derive(Debug, Drop)]
+#[derive(Drop)]
 pub struct FailDisk {
     disk: MemDisk,
 }

@@ -1,33 +1,21 @@
-//! A disk that may crash at any moment.
+//! A disk that may crash at any moment, of the system and in memory.
 //!
-//! A `Disk` is one file: attach it, read and write at places, cut it, sync it. The clauses of the trait say what a read
-//! gives and which images of the file a crash leaves, now or at some moment since an earlier one: between two syncs each
-//! written range, and the part past the old end, may hold any bytes, and a cut leaves some length between the two. After
-//! a failure nothing is known of reads until the file is attached again, and each failure is counted.
+//! The trait `Disk` with its clauses, `FileDisk` and `append_byte` are those of `disk_calls`, passed on with the words of the clauses
+//! and the lemmas. Here are the disks in memory. `MemDisk` keeps each step that its file has gone and shows images of every moment;
+//! `FailDisk` is one that fails where it was told to. `WildDisk` tells nothing, and reads as anything: over it a caller shows that it
+//! stands on the clauses alone.
 //!
-//! `MemDisk` is such a disk in memory, which keeps each step that its file has gone and shows images of every moment;
-//! `FailDisk` is one that fails where it was told to. `FileDisk` is a file of the system, and tells nothing. `WildDisk` tells nothing
-//! either, and reads as anything: over it a caller shows that it stands on the clauses alone.
-//!
-//! The layer above stands on the clauses and laws of the trait alone. The lemmas of `proofs/Moments.antt` go from "this
-//! holds of each image since a moment" over one call more to the same after it, for a write behind the end, a write of
-//! one byte, a cut, a sync and an attach; those of `proofs/Calling.antt` say what one torn write or cut leaves.
-//! `append_byte` is a small call that is proved by them.
-//!
-//! That a file of the system holds what was written is left to the system: no clause speaks of it.
+//! The layer above stands on the clauses and laws of the trait alone, and on the lemmas that are passed on in `proofs/`: `Moments`
+//! goes from "this holds of each image since a moment" over one call more to the same after it, and `Calling` says what one torn
+//! write or cut leaves.
 #![tactic(auto)]
 
-mod append;
-mod disk;
 mod fail_disk;
-mod file_disk;
 mod mem_disk;
 mod step;
 mod wild_disk;
 
-pub use append::append_byte;
-pub use disk::{Disk, DiskFailed, MAX_LENGTH};
+pub use disk_calls::{Disk, DiskFailed, FileDisk, MAX_LENGTH, append_byte};
 pub use fail_disk::FailDisk;
-pub use file_disk::FileDisk;
 pub use mem_disk::MemDisk;
 pub use wild_disk::WildDisk;

@@ -2,18 +2,18 @@
 
 ghost use Rattle.std.specs.Prelude.{◌≡◌, ◌+◌, ◌-◌, ◌^◌, ◌<◌, ◌≤◌, ◌⊎◌, [], ◌∷◌, ◌++◌, None, true, false, min, length, take, drop, Contains, IsTrue, IfOk, IfSome, OnOk, OnErr, IsErr, option_map, Some};
 ghost use Rattle.edge_io.specs.Counts.{Grows, Rose};
-ghost use Rattle.disk_model.specs.Disks.{written, Torn, Shortened, Follows, Among, Only, Reaches, IsOneOf, Elapses};
+ghost use Rattle.disk_calls.specs.Disks.{written, Torn, Shortened, Follows, Among, Only, Reaches, IsOneOf, Elapses};
 ghost use Rattle.disk_model.specs.Steps.{held, file_after, after_step, Lands, Replayed, GoesOn};
 ghost use Rattle.disk_model.specs.Images.{reads-held, counts-now, only-now};
 
-use crate::disk::{Disk, DiskFailed, MAX_LENGTH};
 use crate::step::{Step, WHOLLY};
+use disk_calls::{Disk, DiskFailed, MAX_LENGTH};
 use edge_io::Memory;
 use std::alloc::{AllocError, Global};
 
 /// A disk of one file in memory, which every name attaches. It keeps each step that the file has gone, and so answers for
 /// every moment.
-#[derive(Debug, Drop)]
+#[derive(Drop)]
 pub struct MemDisk {
     alloc: Global,
     start: Vec<u8>,

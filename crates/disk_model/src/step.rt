@@ -1,7 +1,7 @@
 //! The steps that a file in memory goes, and how a crash cuts them short.
 
 ghost use Rattle.std.specs.Prelude.{◌≡◌, ◌<◌, ◌≤◌, ◌++◌, IfOk, OnOk, length, take};
-ghost use Rattle.disk_model.specs.Disks.{written, Torn, Shortened};
+ghost use Rattle.disk_calls.specs.Disks.{written, Torn, Shortened};
 
 use std::alloc::{AllocError, Global};
 
@@ -9,7 +9,7 @@ use std::alloc::{AllocError, Global};
 pub(crate) const WHOLLY: u64 = 1;
 
 /// What a call does to a file.
-#[derive(Debug, Drop)]
+#[derive(Drop)]
 pub(crate) enum Step {
     /// These bytes are written from this place on.
     Write(usize, Vec<u8>),

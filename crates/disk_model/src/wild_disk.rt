@@ -2,10 +2,10 @@
 
 ghost use Rattle.std.specs.Prelude.{◌≡◌, ◌+◌, ◌^◌, ◌<◌, ◌≤◌, None, Ok, true, false, length, IfOk, OnOk, OnErr, IsOk, IsErr};
 ghost use Rattle.edge_io.specs.Counts.{Grows, Rose};
-ghost use Rattle.disk_model.specs.Disks.{Torn, Shortened, Follows};
+ghost use Rattle.disk_calls.specs.Disks.{Torn, Shortened, Follows};
 ghost use Rattle.drawn_numbers.specs.Draws.{draws, state_after};
 
-use crate::disk::{Disk, DiskFailed, MAX_LENGTH};
+use disk_calls::{Disk, DiskFailed, MAX_LENGTH};
 use drawn_numbers::Draws;
 
 /// How long the file is, in bytes, whatever is written or cut.
@@ -15,7 +15,7 @@ const LENGTH: u64 = 300;
 /// 300 bytes long, and each byte that is read is the next of those that a number gives.
 ///
 /// A call fails only where every disk of its kind does: a read past the end of the file, and a write or a cut past the longest length.
-#[derive(Debug, Drop)]
+#[derive(Drop)]
 pub struct WildDisk {
     draws: Draws,
     faults: u64,

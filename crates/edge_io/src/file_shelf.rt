@@ -1,6 +1,6 @@
 //! Files of the system.
 
-ghost use Rattle.std.specs.Prelude.{◌≡◌, ◌≤◌, None, true, length, IfOk};
+ghost use Rattle.std.specs.Prelude.{◌≡◌, ◌+◌, ◌-◌, ◌^◌, ◌≤◌, None, true, min, length, IfOk};
 ghost use Rattle.std.specs.Io.KnownBytes.{ReadConsumes};
 ghost use Rattle.edge_io.specs.Counts.{Grows, Rose};
 
@@ -39,6 +39,15 @@ impl<R: Files> FileShelf<R> {
         let file = fs::open(&self.files, name)?;
         file.take(limit).read_to_end(bytes)?;
         Ok(())
+    }
+
+    /// Counts that many bytes, which a call has taken.
+    fn count(&mut self, n: usize)
+        ensures counted { self.new.taken ≡ min (self.old.taken + n) (2 ^ 64 - 1) }
+        ensures grows { Grows self.old.taken self.new.taken }
+        ensures faults { self.new.faults ≡ self.old.faults }
+    {
+        self.taken = self.taken.saturating_add(n as u64);
     }
 
     /// Counts a failure.
@@ -81,7 +90,7 @@ impl<R: Files> Shelf for FileShelf<R> {
         let mut bytes = Vec::new(alloc);
         let limit = (most as u64).saturating_add(1);
         let outcome = self.read(name, limit, &mut bytes);
-        self.taken = self.taken.saturating_add(bytes.len() as u64);
+        self.count(bytes.len());
         match outcome {
             Ok(()) if bytes.len() > most => Err(ShelfFault::TooLong),
             Ok(()) => Ok(bytes),
@@ -116,7 +125,7 @@ impl<R: Files> Shelf for FileShelf<R> {
         };
         match outcome {
             Ok(n) => {
-                self.taken = self.taken.saturating_add(n as u64);
+                self.count(n);
                 Ok(n)
             }
             Err(_) => {

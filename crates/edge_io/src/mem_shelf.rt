@@ -12,7 +12,7 @@ use crate::shelf::Shelf;
 use std::alloc::Global;
 
 /// A shelf of files that it was given, which fails where it was told to. It admits every name.
-#[derive(Debug, Drop)]
+#[derive(Drop)]
 pub struct MemShelf {
     files: Vec<(String, Vec<u8>)>,
     failing: Vec<u64>,

@@ -1,6 +1,6 @@
 //! A sink in memory.
 
-ghost use Rattle.std.specs.Prelude.{◌≡◌, ◌+◌, ◌-◌, ◌^◌, ◌<◌, ◌≤◌, ◌⊎◌, [], ◌++◌, Some, None, min, length, take, vec_len, vec_capacity, option_map, Contains, IsErr, OnErr, IfOk};
+ghost use Rattle.std.specs.Prelude.{◌≡◌, ◌+◌, ◌-◌, ◌^◌, ◌<◌, ◌≤◌, ◌⊎◌, [], ◌++◌, Some, None, min, length, take, vec_len, vec_capacity, option_map, Contains, IsTrue, IsNone, IsErr, OnErr, IfOk, IfSome, IfNone};
 ghost use Rattle.std.specs.Option.{ForSome};
 ghost use Rattle.edge_io.specs.Counts.{Grows, Rose};
 
@@ -9,7 +9,7 @@ use crate::sink::Sink;
 use std::alloc::Global;
 
 /// A sink that keeps what it takes, and fails where it was told to.
-#[derive(Debug, Drop)]
+#[derive(Drop)]
 pub struct MemSink {
     bytes: Vec<u8>,
     failing: Vec<u64>,
@@ -64,6 +64,49 @@ impl MemSink {
         self.bytes.as_slice()
     }
 
+    /// Counts a call, and says whether it was told to fail.
+    fn is_told(&mut self) -> bool
+        ensures told { IsTrue result → Contains (failing_of self.old) (calls_of self.old) }
+        ensures only { Contains (failing_of self.old) (calls_of self.old) → IsTrue result }
+        ensures next { self.new ≡ record self.old { calls = min (self.old.calls + 1) (2 ^ 64 - 1) } }
+    {
+        let call = self.calls;
+        self.calls = call.saturating_add(1);
+        self.failing.contains(&call)
+    }
+
+    /// Keeps the bytes, or as many as there is room for, and says how many; none where there is no room left, or a growth finds no
+    /// memory.
+    fn keep(&mut self, bytes: &[u8]) -> Option<usize>
+        ensures part { IfSome result (λ n. n ≤ length bytes.now) }
+        ensures some { IfSome result (λ n. n ≡ 0 → length bytes.now ≡ 0) }
+        ensures appended { IfSome result (λ n. bytes_of self.new ≡ bytes_of self.old ++ take n bytes.now) }
+        ensures unchanged { IfNone result (bytes_of self.new ≡ bytes_of self.old) }
+        ensures full { room_of self.old ≡ Some 0 → IsNone result }
+        ensures only { IfNone result (ForSome (room_of self.old) (λ room. room ≡ 0)) }
+        ensures whole { room_of self.old ≡ None → IfSome result (λ n. n ≡ length bytes.now) }
+        ensures limited { IfSome result (λ n. ForSome (room_of self.old) (λ room. n ≡ min (length bytes.now) room)) }
+        ensures room_left { IfSome result (λ n. room_of self.new ≡ option_map (λ room. room - n) (room_of self.old)) }
+        ensures room_kept { IfNone result (room_of self.new ≡ room_of self.old) }
+        ensures same_failing { self.new.failing ≡ self.old.failing }
+        ensures same_calls { self.new.calls ≡ self.old.calls }
+        ensures same_faults { self.new.faults ≡ self.old.faults }
+    {
+        let part = match self.room {
+            Some(0) => return None,
+            Some(room) => {
+                let part = bytes.len().min(room);
+                self.room = Some(room - part);
+                part
+            }
+            None => bytes.len(),
+        };
+        match self.bytes.extend_from_slice(&bytes[..part]) {
+            Ok(()) => Some(part),
+            Err(_) => None,
+        }
+    }
+
     /// Counts a failure.
     fn fail(&mut self) -> SinkFailed
         ensures counted { Rose self.old.faults self.new.faults }
@@ -107,23 +150,12 @@ impl Sink for MemSink {
         ensures next { calls_of self.new ≡ min (calls_of self.old + 1) (2 ^ 64 - 1) }
         ensures same { failing_of self.new ≡ failing_of self.old }
     {
-        let call = self.calls;
-        self.calls = call.saturating_add(1);
-        if self.failing.contains(&call) {
+        if self.is_told() {
             return Err(self.fail());
         }
-        let part = match self.room {
-            Some(0) => return Err(self.fail()),
-            Some(room) => {
-                let part = bytes.len().min(room);
-                self.room = Some(room - part);
-                part
-            }
-            None => bytes.len(),
-        };
-        if self.bytes.extend_from_slice(&bytes[..part]).is_err() {
-            return Err(self.fail());
+        match self.keep(bytes) {
+            Some(part) => Ok(part),
+            None => Err(self.fail()),
         }
-        Ok(part)
     }
 }

@@ -5,7 +5,7 @@ ghost use Rattle.std.specs.Prelude.{◌≡◌, ◌≤◌, [], length, drop, min,
 use std::alloc::Global;
 
 /// A file, and how much of it is handed out.
-#[derive(Debug, Drop)]
+#[derive(Drop)]
 pub(crate) struct Opened {
     pub(crate) bytes: Vec<u8>,
     pub(crate) done: usize,

@@ -1,7 +1,7 @@
 use Rattle.std.proofs.Common.{◌≡◌, ◌≤◌, ℕ, List, length, Vec, ap, arith}
 use Rattle.std.specs.declared.alloc.Global.{Global}
 use Rattle.std.proofs.lemmas.Result.{IfOk-weaker}
-use Rattle.disk_model.specs.Disks.{written, Torn}
+use Rattle.disk_calls.specs.Disks.{written, Torn}
 use Rattle.disk_model.proofs.Landing.{torn-piece}
 use Rattle.disk_model.proofs.step.land_write.Goals as goal
 

@@ -1,5 +1,5 @@
 use Rattle.std.proofs.Common.{ℕ, List, length, subst}
-use Rattle.disk_model.specs.Disks.{Torn, Follows}
+use Rattle.disk_calls.specs.Disks.{Torn, Follows}
 use Rattle.disk_model.specs.MemDisks.{moment_of, ImageOf, SinceOf}
 use Rattle.disk_model.proofs.mem_disk.MemDisk.put.Goals as goal
 

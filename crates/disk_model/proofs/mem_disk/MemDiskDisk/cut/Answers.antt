@@ -1,4 +1,4 @@
-use Rattle.disk_model.specs.Disks.{Shortened}
+use Rattle.disk_calls.specs.Disks.{Shortened}
 use Rattle.disk_model.proofs.Calls.{call-crash, call-time}
 use Rattle.disk_model.proofs.mem_disk.MemDiskDisk.cut.Goals as goal
 

@@ -1,5 +1,6 @@
 use Rattle.std.proofs.Common.{⊎_elim, ap}
-use Rattle.disk_model.proofs.Calls.{on_err, quiet-crash, quiet-time}
+use Rattle.disk_calls.proofs.Calling.{on_err}
+use Rattle.disk_model.proofs.Calls.{quiet-crash, quiet-time}
 use Rattle.disk_model.specs.MemDisks.{bytes_of, moment_of, failing_of}
 use Rattle.disk_model.proofs.mem_disk.MemDiskDisk.read_at.Goals as goal
 

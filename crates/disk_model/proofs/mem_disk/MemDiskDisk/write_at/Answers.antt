@@ -1,5 +1,5 @@
 use Rattle.std.proofs.Common.{length}
-use Rattle.disk_model.specs.Disks.{Torn}
+use Rattle.disk_calls.specs.Disks.{Torn}
 use Rattle.disk_model.proofs.Calls.{call-crash, call-time}
 use Rattle.disk_model.proofs.mem_disk.MemDiskDisk.write_at.Goals as goal
 

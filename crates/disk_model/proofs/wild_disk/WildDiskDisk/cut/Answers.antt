@@ -1,4 +1,4 @@
-use Rattle.disk_model.specs.Images.{shortened-same}
+use Rattle.disk_calls.proofs.Calling.{shortened-same}
 use Rattle.disk_model.proofs.wild_disk.WildDiskDisk.cut.Goals as goal
 
 pub returns-clause-crash : goal.returns-clause-crash

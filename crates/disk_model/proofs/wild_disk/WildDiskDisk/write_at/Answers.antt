@@ -1,5 +1,5 @@
 use Rattle.std.proofs.Common.{length}
-use Rattle.disk_model.specs.Images.{torn-same}
+use Rattle.disk_calls.proofs.Calling.{torn-same}
 use Rattle.disk_model.proofs.wild_disk.WildDiskDisk.write_at.Goals as goal
 
 pub returns-clause-crash : goal.returns-clause-crash

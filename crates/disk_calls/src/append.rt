@@ -2,7 +2,7 @@
 
 ghost use Rattle.std.specs.Prelude.{◌≡◌, [], ◌∷◌, ◌++◌, List, ℕ, Some, IsTrue, OnOk, OnErr};
 ghost use Rattle.edge_io.specs.Counts.{Grows, Rose};
-ghost use Rattle.disk_model.specs.Disks.{Only, Reaches, LeavesOnly, IsSameOrLonger};
+ghost use Rattle.disk_calls.specs.Disks.{Only, Reaches, LeavesOnly, IsSameOrLonger};
 
 use crate::disk::{Disk, DiskFailed};
 

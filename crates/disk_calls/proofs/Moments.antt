@@ -1,7 +1,7 @@
 -- How a run of calls of a disk goes on: what holds of each image since its start still holds after one call more.
 use Rattle.std.proofs.Common.{◌≡◌, inl, inr, ⊎_elim, ℕ, ◌+◌, ◌≤◌, List, ◌∷◌, ◌++◌, length, take, drop, arith}
-use Rattle.disk_model.specs.Disks.{Torn, Shortened, Follows, Among, Only, Elapses, LeavesOnly}
-use Rattle.disk_model.proofs.Calling.{among-all, behind-all, byte-all, cut-all}
+use Rattle.disk_calls.specs.Disks.{Torn, Shortened, Follows, Among, Only, Elapses, LeavesOnly}
+use Rattle.disk_calls.proofs.Calling.{among-all, behind-all, byte-all, cut-all}
 
 module _ {D : Type 0} (moment : D → ℕ) (left_since : D → ℕ → List ℕ → Type 0) where
   -- before the first call

@@ -1,10 +1,10 @@
-use Rattle.std.proofs.Common.{◌≡◌, ◌≤◌, ℕ, List, [], ◌∷◌, ◌++◌, length, Option, IfSome, inl, inr, refl, subst, arith}
+use Rattle.std.proofs.Common.{◌≡◌, ◌≤◌, ℕ, List, [], ◌∷◌, ◌++◌, length, Option, IfSome, inl, inr, refl, subst, arith, rules}
 use Rattle.std.proofs.lemmas.List.{append-nil}
 use Rattle.edge_io.proofs.Counting.{grows-then, rose-behind}
-use Rattle.disk_model.specs.Disks.{Only, IsSameOrLonger}
-use Rattle.disk_model.proofs.Calls.{on_err}
-use Rattle.disk_model.proofs.Moments.{started, goes_on-kept, goes_on-behind, now-has}
-use Rattle.disk_model.proofs.append.append_byte.Goals as goal
+use Rattle.disk_calls.specs.Disks.{Only, IsSameOrLonger}
+use Rattle.disk_calls.proofs.Calling.{on_err}
+use Rattle.disk_calls.proofs.Moments.{started, goes_on-kept, goes_on-behind, now-has}
+use Rattle.disk_calls.proofs.append.append_byte.Goals as goal
 
 -- at most one byte behind the file
 one_more : (file rest : List ℕ) → length rest ≤ 1 → IsSameOrLonger file (file ++ rest)
@@ -32,9 +32,9 @@ returns-in_err-write_at-clause-failed g c =
 
 pub returns-clause-faults_grow : goal.returns-clause-faults_grow
 returns-clause-faults_grow g c =
-    grows-then (g.D.Disk.faults c.args.disk.now) (g.D.Disk.faults c.write_at.new.self) (g.D.Disk.faults c.sync.new.self)
+    grows-then _ (g.D.Disk.faults c.write_at.new.self) _
     (grows-then (g.D.Disk.faults c.args.disk.now) (g.D.Disk.faults c.len.new.self) (g.D.Disk.faults c.write_at.new.self) c.len.ensures.faults_grow c.write_at.ensures.faults_grow)
-    c.sync.ensures.faults_grow
+    (search rules)
 
 pub returns-in_err-write_at-clause-any_moment : goal.returns-in_err-write_at-clause-any_moment
 returns-in_err-write_at-clause-any_moment g c = λ file is only.
@@ -59,5 +59,5 @@ returns-clause-any_moment g c = λ file is only.
     let first = goes_on-kept g.D.Disk.moment g.D.Disk.left_since g.D.Disk.may_leave disk disk measured P at_start c.len.ensures.time c.len.ensures.crash (λ k now. inl (only k now)) in
     let wrote = goes_on-behind g.D.Disk.moment g.D.Disk.left_since g.D.Disk.may_leave disk measured c.write_at.new.self P file c.in_ok-end.end 1 first
     c.write_at.ensures.time c.write_at.ensures.crash still at_end (one_more file) in
-    goes_on-kept g.D.Disk.moment g.D.Disk.left_since g.D.Disk.may_leave disk c.write_at.new.self c.sync.new.self P wrote c.sync.ensures.time c.sync.ensures.crash
+    goes_on-kept g.D.Disk.moment g.D.Disk.left_since g.D.Disk.may_leave disk c.write_at.new.self _ P wrote (search rules) (search rules)
     (now-has g.D.Disk.moment g.D.Disk.left_since g.D.Disk.may_leave g.met.D.Disk.counts_now disk c.write_at.new.self P wrote)

@@ -1,9 +1,17 @@
 -- What the calls of a disk leave, in the words of lists.
-use Rattle.std.proofs.Common.{◌≡◌, ℕ, ◌+◌, ◌≤◌, min, List, ◌∷◌, ◌++◌, length, get_or, take, drop, Option, Some, None, IfSome, option_map, refl, sym, ◌∙◌, ap, subst, arith, length-take, length-drop}
-use Rattle.std.proofs.lemmas.List.{take-append-drop, take_all, drop_all, drop_more, append-nil}
-use Rattle.disk_model.specs.Disks.{written, Torn, Shortened, Follows, Among, Only, Reaches, IsOneOf}
+use Rattle.std.proofs.Common.{◌≡◌, ℕ, ◌+◌, ◌≤◌, min, List, ◌∷◌, ◌++◌, length, get_or, take, drop, Option, Some, None, Result, Ok, Err, IfSome, OnErr, option_map, refl, sym, ◌∙◌, ap, subst, arith, length-take, length-drop}
+use Rattle.std.proofs.lemmas.List.{take-append-drop, take_all, take_min, drop_all, drop_more, append-nil}
+use Rattle.disk_calls.specs.Disks.{written, Torn, Shortened, Follows, Among, Only, Reaches, IsOneOf}
 
 -- ---- one image
+
+-- a write that never came
+pub torn-same : (at n : ℕ) (file : List ℕ) → Torn at n file file
+torn-same at n file = record { before = take_min at file; after = refl; no_shorter = omega arith; no_longer = omega arith }
+
+-- a cut that never came
+pub shortened-same : (to : ℕ) (file : List ℕ) → Shortened to file file
+shortened-same to file = record { front = take_all (length file) file (omega arith); no_shorter = omega arith }
 
 -- the front of a file that a write starts within stays
 pub torn-front : (at n : ℕ) (old new : List ℕ) → Torn at n old new → at ≤ length old → take at new ≡ take at old
@@ -89,3 +97,10 @@ at-file reads file P is clause = subst (λ (o : Option (List ℕ)). IfSome o P) 
 -- what a write or a cut makes of the file
 pub changed-file : (change : List ℕ → List ℕ) (before after : Option (List ℕ)) (file : List ℕ) → before ≡ Some file → after ≡ option_map change before → after ≡ Some (change file)
 changed-file change before after file is by = by ∙ ap (option_map change) is
+
+-- ---- what a call answers
+
+-- what holds, said of an error
+pub on_err : (T E P : Type 0) (r : Result T E) → P → OnErr r P
+on_err T E P (Ok value) holds = tt
+on_err T E P (Err fault) holds = holds

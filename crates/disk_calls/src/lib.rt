@@ -1,0 +1,23 @@
+//! The calls of a disk that may crash at any moment.
+//!
+//! A `Disk` is one file: attach it, read and write at places, cut it, sync it. The clauses of the trait say what a read
+//! gives and which images of the file a crash leaves, now or at some moment since an earlier one: between two syncs each
+//! written range, and the part past the old end, may hold any bytes, and a cut leaves some length between the two. After
+//! a failure nothing is known of reads until the file is attached again, and each failure is counted.
+//!
+//! `FileDisk` is a file of the system, and tells nothing. That it holds what was written is left to the system: no clause speaks
+//! of it. Disks in memory, which tell, are left to the layer above.
+//!
+//! The layer above stands on the clauses and laws of the trait alone. `specs/Disks.antt` has the words of the clauses. The lemmas
+//! of `proofs/Moments.antt` go from "this holds of each image since a moment" over one call more to the same after it, for a write
+//! behind the end, a write of one byte, a cut, a sync and an attach; those of `proofs/Calling.antt` say what one torn write or cut
+//! leaves. `append_byte` is a small call that is proved by them.
+#![tactic(auto)]
+
+mod append;
+mod disk;
+mod file_disk;
+
+pub use append::append_byte;
+pub use disk::{Disk, DiskFailed, MAX_LENGTH};
+pub use file_disk::FileDisk;
