@@ -6,6 +6,7 @@ pub mod Placing
 pub mod RowCount
 pub mod NetworkRows
 pub mod Subtracting
+pub mod Products
 pub mod Terms
 pub mod Rising
 pub mod AllParts
