@@ -1,5 +1,6 @@
 -- What the calls of a disk leave, in the words of lists.
-use Rattle.std.proofs.Common.{◌≡◌, ℕ, ◌+◌, ◌≤◌, min, List, ◌∷◌, ◌++◌, length, get_or, take, drop, Option, Some, None, Result, Ok, Err, IfSome, OnErr, option_map, refl, sym, ◌∙◌, ap, subst, arith, length-take, length-drop}
+use Rattle.std.proofs.Common.{◌≡◌, ℕ, ◌+◌, ◌≤◌, min, List, ◌∷◌, ◌++◌, length, get_or, take, drop, Option, Some, None}
+use Rattle.std.proofs.Common.{Result, Ok, Err, IfSome, OnErr, option_map, refl, sym, ◌∙◌, ap, subst, arith, length-take, length-drop}
 use Rattle.std.proofs.lemmas.List.{take-append-drop, take_all, take_min, drop_all, drop_more, append-nil}
 use Rattle.disk_calls.specs.Disks.{written, Torn, Shortened, Follows, Among, Only, Reaches, IsOneOf}
 

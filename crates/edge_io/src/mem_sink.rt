@@ -1,6 +1,7 @@
 //! A sink in memory.
 
-ghost use Rattle.std.specs.Prelude.{◌≡◌, ◌+◌, ◌-◌, ◌^◌, ◌<◌, ◌≤◌, ◌⊎◌, [], ◌++◌, Some, None, min, length, take, vec_len, vec_capacity, option_map, Contains, IsTrue, IsNone, IsErr, OnErr, IfOk, IfSome, IfNone};
+ghost use Rattle.std.specs.Prelude.{◌≡◌, ◌+◌, ◌-◌, ◌^◌, ◌<◌, ◌≤◌, ◌⊎◌, [], ◌++◌, Some, None, min, length};
+ghost use Rattle.std.specs.Prelude.{take, vec_len, vec_capacity, option_map, Contains, IsTrue, IsNone, IsErr, OnErr, IfOk, IfSome, IfNone};
 ghost use Rattle.std.specs.Option.{ForSome};
 ghost use Rattle.edge_io.specs.Counts.{Grows, Rose};
 

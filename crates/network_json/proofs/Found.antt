@@ -11,7 +11,8 @@ use Rattle.json_walk.specs.declared.fault.Place.{Place}
 use Rattle.json_walk.specs.declared.fault.ReadNet.{ReadNet}
 use Rattle.json_walk.specs.declared.fault.ReadNet.TheVariants.{TooLong, NotJson, Net, Memory}
 use Rattle.json_walk.specs.Walk.{◌>>=◌, top, needs, allows, ignored, list, items, text, quantity, version}
-use Rattle.json_walk.proofs.Found.{IsFound, OnlyFound, then_found, ok_or_found, either_found, text_found, quantity_found, version_found, needs_found, there_found, after_object, after_needed, after_allowed, each_found, items_found, list_found}
+use Rattle.json_walk.proofs.Found.{IsFound, OnlyFound, then_found, ok_or_found, either_found, text_found, quantity_found, version_found}
+use Rattle.json_walk.proofs.Found.{needs_found, there_found, after_object, after_needed, after_allowed, each_found, items_found, list_found}
 use Rattle.network_json.specs.Format.{quality, limit, limits, no_limits, source, pool, product, two_texts, arc, lists, network, value_of, rows_in}
 use Rattle.network_json.specs.Reading.{IsRefusal}
 
