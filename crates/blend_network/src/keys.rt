@@ -1,7 +1,7 @@
 //! What arcs and paths are looked up by.
 
 /// Arcs by a node at one of their ends; paths by their feed, by their out, or by the product in which they end.
-#[derive(Clone, Copy)]
+#[derive(Clone, Copy, Debug)]
 pub enum Key {
     /// Feeds by their source.
     FeedsFrom,
