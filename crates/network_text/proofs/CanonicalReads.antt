@@ -19,7 +19,8 @@ use Rattle.json_walk.specs.declared.fault.Section.{Section}
 use Rattle.json_walk.specs.declared.fault.Section.TheVariants.{Qualities, Sources, Pools, Products, Arcs}
 use Rattle.json_walk.specs.Walk.{◌>>=◌, Walk, text, quantity, object as object_at, names_in, is_among, present, needs, allows, if_there, each, list_of, items, rows, place, top, version}
 use Rattle.network_json.specs.Format.{quality, limit, limits, source, pool, product, arc, lists, network}
-use Rattle.network_text.specs.Canonical.{quantity_data, set_at, set_members, list_data, source_data, pool_data, product_data, arc_data, network_data}
+use Rattle.network_values.specs.Values.{quantity_data, set_at, set_members, list_data, source_data, pool_data, product_data, arc_data}
+use Rattle.network_text.specs.Canonical.{network_data}
 
 -- a quantity is read from its value
 abbrev pub IsRead : ℤ → Type 0

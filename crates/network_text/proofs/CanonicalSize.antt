@@ -19,7 +19,8 @@ use Rattle.pool_model.specs.Network.{Source, Pool, Product, Network}
 use Rattle.blend_network.specs.Canonical.{canonical_arcs}
 use Rattle.blend_network.proofs.CanonicalSizes.{IsShort, AreShortEnds}
 use Rattle.network_text.proofs.CanonicalReads.{each_by}
-use Rattle.network_text.specs.Canonical.{units_of, quantity_data, set_at, set_members, list_data, source_data, pool_data, product_data, arc_data, network_data}
+use Rattle.network_values.specs.Values.{units_of, quantity_data, set_at, set_members, list_data, source_data, pool_data, product_data, arc_data}
+use Rattle.network_text.specs.Canonical.{network_data}
 
 -- ---- texts
 

@@ -23,7 +23,7 @@ use Rattle.network_json.specs.Reading.{ReadAs}
 use Rattle.network_text.specs.Canonical.{network_data, canonical_text}
 use Rattle.network_json.proofs.Bytes.{value_found}
 use Rattle.network_text.proofs.WrittenReads.{written_read}
-use Rattle.network_text.proofs.CanonicalSteps.{quality_each, least_each, most_each}
+use Rattle.network_values.proofs.Lengths.{quality_each, least_each, most_each}
 use Rattle.network_text.proofs.CanonicalReads.{IsRead, IsSetRead, AreDistinct, IsSourceRead, IsProductRead, IsAllRead, network_read}
 use Rattle.network_text.proofs.CanonicalSize.{IsNarrow, IsSetNarrow, IsSourceShort, IsPoolShort, IsProductShort, IsAllShort, IsSmall, network_small}
 

@@ -9,7 +9,7 @@ use Rattle.pool_model.specs.Quantity.{signed, shortest}
 use Rattle.quantity.proofs.Spelled.{shortest_back, signed_back}
 use Rattle.json_walk.specs.declared.fault.Place.{Place}
 use Rattle.json_walk.specs.Walk.{quantity}
-use Rattle.network_text.specs.Canonical.{units_of}
+use Rattle.network_values.specs.Values.{units_of}
 use Rattle.network_text.proofs.CanonicalReads.{IsRead}
 
 integer_back : (z : ℤ) → as_integer (of_integer z) ≡ Some z

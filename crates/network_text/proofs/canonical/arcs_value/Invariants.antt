@@ -3,7 +3,7 @@ use Rattle.serde_json.specs.View.{view}
 use Rattle.blend_network.specs.Kinds.{names_of}
 use Rattle.network_parts.specs.declared.fault.Kind.TheVariants as kind
 use Rattle.blend_network.specs.Canonical.{canonical_arc}
-use Rattle.network_text.specs.Canonical.{arc_data}
+use Rattle.network_values.specs.Values.{arc_data}
 use Rattle.network_text.proofs.canonical.arcs_value.Given as goal
 
 abbrev pub invariant-feeds : goal.invariant-feeds

@@ -1,6 +1,6 @@
 use Rattle.std.proofs.Common.{◌≡◌, map, take}
 use Rattle.serde_json.specs.View.{view}
-use Rattle.network_text.specs.Canonical.{pool_data}
+use Rattle.network_values.specs.Values.{pool_data}
 use Rattle.network_text.proofs.canonical.pools_value.Given as goal
 
 abbrev pub invariant-loop-n : goal.invariant-loop-n

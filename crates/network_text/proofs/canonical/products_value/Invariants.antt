@@ -1,6 +1,6 @@
 use Rattle.std.proofs.Common.{◌≡◌, map, take}
 use Rattle.serde_json.specs.View.{view}
-use Rattle.network_text.specs.Canonical.{product_data}
+use Rattle.network_values.specs.Values.{product_data}
 use Rattle.network_text.proofs.canonical.products_value.Given as goal
 
 abbrev pub invariant-loop-n : goal.invariant-loop-n

@@ -2,8 +2,8 @@ use Rattle.std.proofs.Common.{◌≡◌, length, get_or, arith}
 use Rattle.std.proofs.lemmas.Grind.{common_steps}
 use Rattle.std.proofs.lemmas.List.{take_all}
 use Rattle.pool_model.specs.Network.{net_of, no_product}
-use Rattle.network_text.proofs.CanonicalSteps.{least_each}
-use Rattle.network_text.proofs.canonical.least_of.Goals as goal
+use Rattle.network_values.proofs.Lengths.{least_each}
+use Rattle.network_values.proofs.nodes.least_of.Goals as goal
 
 pub loop-k-preserved : goal.loop-k-preserved
 unfolding net_of

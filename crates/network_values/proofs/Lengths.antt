@@ -1,4 +1,4 @@
--- How long the lists of a network are, as its canonical value takes them.
+-- How long the lists of a network are: one for each quality.
 use Rattle.std.proofs.Common.{◌≡◌, ℕ, ◌<◌, length, get_or}
 use Rattle.pool_model.specs.Network.{Network, no_source, no_product}
 use Rattle.blend_network.specs.Made.{IsMade}
