@@ -1,10 +1,10 @@
 -- A reader that sees only the first bytes of a text reads in them what it reads in the whole, if no spelling is longer.
-use Rattle.std.proofs.Common.{◌≡◌, ℕ, suc, ◌+◌, ◌<◌, ◌≤◌, Bool, true, false, cond, eqb, List, [], ◌∷◌, ◌++◌, length, Result, Ok, Err, refl, sym, ap, subst, ◌∙◌, append_assoc, arith, length-append}
+use Rattle.std.proofs.Common.{◌≡◌, ℕ, ◌+◌, ◌<◌, ◌≤◌, Bool, true, false, cond, eqb, List, [], ◌∷◌, ◌++◌, length, Result, Ok, Err, refl, sym, ap, subst, ◌∙◌, append_assoc, arith, length-append}
 use Rattle.std.proofs.lemmas.List.{append-nil}
 use Rattle.cert_text.specs.Lines.{line_feeds, first_line}
 use Rattle.cert_text.specs.Reading.{At, ◌>>=◌}
 use Rattle.cert_text.proofs.LineLemmas.{line_feeds-append}
-use Rattle.cert_text.proofs.Laws.{Takes, Faults, Reads, done, ok_is, bind_ok}
+use Rattle.cert_text.proofs.Laws.{Faults, Reads, done, ok_is, bind_ok}
 
 -- where these bytes come from this line on
 abbrev pub at : ℕ → List ℕ → At

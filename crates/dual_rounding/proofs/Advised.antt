@@ -1,13 +1,11 @@
 -- The parts of an advice, row by row.
-use Rattle.std.proofs.Common.{◌≡◌, ℕ, suc, ◌+◌, ◌<◌, ◌≤◌, List, [], ◌∷◌, ◌++◌, map, take, length, get_or, ℤ, pos, unsigned_abs, nat_lt, Bool, true, false}
-use Rattle.std.proofs.Common.{if◌then◌else◌, add-one, arith, refl, sym, ap, ◌∙◌}
+use Rattle.std.proofs.Common.{◌≡◌, ℕ, ◌+◌, ◌<◌, ◌≤◌, List, [], ◌∷◌, ◌++◌, map, take, length, get_or, ℤ}
+use Rattle.std.proofs.Common.{add-one, arith, sym, ap, ◌∙◌}
 use Rattle.std.specs.List.{zip}
-use Rattle.std.specs.Prelude.{filter}
 use Rattle.std.proofs.Math.Seq.{take-suc}
-use Rattle.std.proofs.lemmas.List.{map-append, append-nil, take_all}
+use Rattle.std.proofs.lemmas.List.{map-append, take_all}
 use Rattle.std.proofs.lemmas.List.Elements.{filter-append}
 use Rattle.std.proofs.lemmas.Slice.Zip.{get_or-zip, length-zip}
-use Rattle.std.proofs.lemmas.Bool.Decides.{nat_tests}
 use Rattle.row_model.specs.Multipliers.{Part}
 use Rattle.lp_program.specs.declared.lp.LpRow.{LpRow}
 use Rattle.dual_rounding.specs.Price.{is_nonzero, nonzero}

@@ -1,5 +1,5 @@
 -- What is known of a box while proofs are tried.
-use Rattle.std.proofs.Common.{◌≡◌, ◌^◌, List, [], ◌∷◌, ◌++◌, All, Bool, true, false, not, if◌then◌else◌, Option, Some, None, option_map, IfSome, IsTrue, refl, sym, ap, subst, ◌∙◌}
+use Rattle.std.proofs.Common.{◌≡◌, ◌^◌, List, [], ◌∷◌, ◌++◌, Bool, true, false, not, if◌then◌else◌, Option, Some, None, refl, sym, ap, subst, ◌∙◌}
 use Rattle.std.proofs.lemmas.List.Elements.{All-nil, All-head}
 use Rattle.pool_model.specs.Network.{Net, IsLimited}
 use Rattle.row_model.specs.Boxes.{Box, IsProper}

@@ -1,23 +1,21 @@
 -- On the program of a form the tried proofs name rows of the form alone.
-use Rattle.std.proofs.Common.{◌≡◌, ℕ, ◌+◌, ◌^◌, ◌<◌, List, [], ◌∷◌, ◌++◌, map, All, ℤ, Bool, true, IsTrue, Option, Some, None, arith, refl, sym, ap, subst, ◌∙◌}
+use Rattle.std.proofs.Common.{◌≡◌, ℕ, ◌+◌, ◌^◌, ◌<◌, List, [], ◌∷◌, ◌++◌, map, All, IsTrue, arith, refl, sym, subst}
 use Rattle.std.specs.List.{zip}
-use Rattle.std.specs.Prelude.{filter}
-use Rattle.std.proofs.lemmas.List.Elements.{All-filter, All-map, All-cons, All-nil, All-head, All-tail, All-weaker, filter_passes}
+use Rattle.std.proofs.lemmas.List.Elements.{All-filter, All-map, All-cons, All-nil, All-head, All-tail, filter_passes}
 use Rattle.integers.specs.Numbers.{tabulate}
 use Rattle.integers.proofs.Tabulate.{All-tabulate}
 use Rattle.pool_model.specs.Network.{Net}
-use Rattle.row_model.specs.Boxes.{Box, root}
-use Rattle.row_model.specs.Catalogue.{rows, row_count, network_families, p_families, q_families}
+use Rattle.row_model.specs.Boxes.{Box}
+use Rattle.row_model.specs.Catalogue.{rows, row_count, network_families}
 use Rattle.row_model.specs.Multipliers.{Part, Proof, Shown}
 use Rattle.box_space.specs.declared.coordinates.Form.{Form}
 use Rattle.box_space.specs.declared.coordinates.Form.TheVariants.{P, Q, Pq}
-use Rattle.row_book.specs.Groups.{takes, group_of}
 use Rattle.row_book.proofs.Families.{test_true}
 use Rattle.lp_program.specs.declared.lp.Lp.{Lp}
 use Rattle.lp_program.specs.declared.lp.LpRow.{LpRow}
 use Rattle.lp_simplex.specs.declared.advice.Advice.{Advice}
 use Rattle.dual_rounding.specs.Programs.{has_row, form_rows, numbers}
-use Rattle.dual_rounding.specs.Price.{is_nonzero, nonzero, price_part, price_proof}
+use Rattle.dual_rounding.specs.Price.{is_nonzero, price_part, price_proof}
 use Rattle.dual_rounding.specs.Tried.{advised_part, advised_proof, tried}
 use Rattle.dual_rounding.specs.Answers.{IsFirstGreatest}
 use Rattle.dual_rounding.proofs.FormRows.{All-unmap}

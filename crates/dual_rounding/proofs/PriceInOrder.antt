@@ -25,7 +25,7 @@ use Rattle.row_model.proofs.Numbering.{by_number-each}
 use Rattle.row_book.proofs.Families.{row_count-append, row_in-front}
 use Rattle.row_book.proofs.NearEnds.{within, few_least, few_unwrapped, few_if, ends-near}
 use Rattle.row_book.proofs.NetworkRows.{at_balance}
-use Rattle.dual_rounding.specs.Price.{is_nonzero, nonzero, feed_cost, price_part, price_proof}
+use Rattle.dual_rounding.specs.Price.{is_nonzero, feed_cost, price_part, price_proof}
 
 -- ---- the rows
 

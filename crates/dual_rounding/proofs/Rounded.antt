@@ -1,11 +1,11 @@
 -- The best of what was tried so far, and what is known by it.
-use Rattle.std.proofs.Common.{◌≡◌, List, [], ◌∷◌, ◌++◌, All, Option, Some, None, ◌≤ℤ◌, ◌<ℤ◌, append_assoc, arith, refl, sym, ap, subst, ◌∙◌}
+use Rattle.std.proofs.Common.{List, [], ◌∷◌, ◌++◌, All, Option, Some, None, append_assoc, arith, refl, sym, ap, subst, ◌∙◌}
 use Rattle.std.proofs.lemmas.Int.{ints, by_lt_z}
-use Rattle.std.proofs.lemmas.List.Elements.{All-append, All-push, All-cons, All-nil, All-weaker, All-head, All-tail}
+use Rattle.std.proofs.lemmas.List.Elements.{All-append, All-push, All-cons, All-nil, All-weaker}
 use Rattle.pool_model.specs.Network.{Net}
 use Rattle.row_model.specs.Boxes.{Box}
 use Rattle.row_model.specs.Multipliers.{Proof, IsInOrder, Shown, bound, no_plan, shown_by}
-use Rattle.dual_rounding.specs.Answers.{IsBelow, IsAtMost, ShowsBelow, ShowsAtMost, IsFirstGreatest, IsRounded, known_by}
+use Rattle.dual_rounding.specs.Answers.{IsBelow, IsAtMost, ShowsBelow, ShowsAtMost, IsRounded, known_by}
 
 -- ---- the order of what is shown
 

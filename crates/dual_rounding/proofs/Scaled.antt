@@ -1,7 +1,6 @@
 -- A dual times a power of two, over 2^32, is the dual shifted; and the multiplier that it gives.
-use Rattle.std.proofs.Common.{◌≡◌, ℕ, suc, ◌+◌, ◌-◌, ◌*◌, ◌/◌, ◌^◌, ◌<◌, ◌≤◌, Bool, true, false, nat_lt, nat_le, ◌&&◌, ◌||◌, if◌then◌else◌, ℤ, pos, negsuc}
+use Rattle.std.proofs.Common.{◌≡◌, ℕ, suc, ◌+◌, ◌-◌, ◌*◌, ◌/◌, ◌^◌, ◌<◌, ◌≤◌, Bool, true, false, nat_lt, nat_le, ◌&&◌, if◌then◌else◌, ℤ, pos, negsuc}
 use Rattle.std.proofs.Common.{neg_ℤ, ◌*ℤ◌, FitsSigned, arith, refl, sym, ap, ◌∙◌}
-use Rattle.std.specs.Prelude.{int_le}
 use Rattle.std.specs.Int.{int_div_euclid, int_shr}
 use Rattle.std.proofs.lemmas.Nat.{shl-shr, shr-shr, shr_high, pow_pos}
 use Rattle.std.proofs.lemmas.Bool.Decides.{nat_tests}

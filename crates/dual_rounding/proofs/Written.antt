@@ -1,6 +1,6 @@
 -- Lists that are written over element by element.
 use Rattle.std.proofs.Common.{◌≡◌, ◌≢◌, ℤ, pos, get_or-set_other, get_or-set_same, below_more, ℕ, zero, suc, ◌+◌, ◌<◌, List, [], ◌∷◌, ◌++◌, map, length, take}
-use Rattle.std.proofs.Common.{set, get_or, All, arith, add-one, refl, sym, ap, subst, ◌∙◌}
+use Rattle.std.proofs.Common.{set, get_or, All, arith, add-one, sym, ap, subst, ◌∙◌}
 use Rattle.std.proofs.Math.Seq.{take-suc-set, take-append_seam}
 use Rattle.std.proofs.lemmas.List.Elements.{All-push}
 

@@ -1,5 +1,5 @@
 -- The proofs that are tried: the price proof, and the advice at four scales.
-use Rattle.std.specs.Prelude.{ℕ, ◌^◌, ◌*◌, List, [], ◌∷◌, map, Bool, ◌&&◌, ◌||◌, if◌then◌else◌, ℤ, pos, neg_ℤ, ◌*ℤ◌, int_le, int_lt}
+use Rattle.std.specs.Prelude.{ℕ, ◌^◌, List, [], ◌∷◌, map, Bool, ◌&&◌, ◌||◌, if◌then◌else◌, ℤ, pos, neg_ℤ, ◌*ℤ◌, int_le, int_lt}
 use Rattle.std.specs.List.{zip}
 use Rattle.std.specs.Int.{int_div_euclid}
 use Rattle.pool_model.specs.Network.{Net}

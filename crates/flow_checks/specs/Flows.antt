@@ -1,5 +1,5 @@
 -- Flows that code holds, as a plan, and the rules of the network at one node.
-use Rattle.std.specs.Prelude.{◌≡◌, ℕ, ◌*◌, ◌<◌, ◌≤◌, ◌^◌, List, length, get_or}
+use Rattle.std.specs.Prelude.{◌≡◌, ℕ, ◌*◌, ◌≤◌, ◌^◌, List, length, get_or}
 use Rattle.pool_model.specs.Network.{Net}
 use Rattle.pool_model.specs.Plan.{Plan, outflow, pool_inflow, source_outflow, product_inflow}
 use Rattle.flow_checks.specs.Sizes.{AreAtMost}

@@ -1,5 +1,5 @@
 -- The rows of a made network as they are drawn: so many of each kind, from a state on.
-use Rattle.std.specs.Prelude.{ℕ, ◌+◌, ◌*◌, List, ◌++◌, map}
+use Rattle.std.specs.Prelude.{ℕ, ◌*◌, List, ◌++◌, map}
 use Rattle.std.specs.List.{flat_map}
 use Rattle.integers.specs.Numbers.{tabulate}
 use Rattle.pool_model.specs.Rows.{SourceRow, PoolRow, ProductRow}

@@ -1,7 +1,7 @@
 -- The order of the faults: which differ in a number, and which in a kind and a number, and what is the first.
-use Rattle.std.proofs.Common.{◌≡◌, ℕ, suc, ◌<◌, [], ◌∷◌, refl, sym, subst, arith}
-use Rattle.faults.specs.First.{IsBelow, IsFirst, IsFirstOf}
-use Rattle.faults.proofs.First.{IsClear, IsNumbered, IsKinded, clear-next, lone-first, numbered-first, numbered-next, kinded-first, kinded-next}
+use Rattle.std.proofs.Common.{◌≡◌, ℕ, suc, ◌<◌, refl, arith}
+use Rattle.faults.specs.First.{IsFirstOf}
+use Rattle.faults.proofs.First.{IsNumbered, IsKinded, clear-next, lone-first, numbered-first, numbered-next, kinded-first, kinded-next}
 use Rattle.pool_model.specs.Rows.{Rows}
 use Rattle.network_parts.specs.FirstFault.{Holds, number, kind_number, about, IsFirstFault, LacksEarlier}
 use Rattle.network_parts.specs.Faults.{IsFaultless}

@@ -1,5 +1,5 @@
 -- Divisors of a number and others, one after another, and the least base that they leave.
-use Rattle.std.proofs.Common.{◌≡◌, ℕ, zero, suc, ◌+◌, ◌*◌, ◌/◌, ◌<◌, ◌≤◌, ◌⊎◌, ◌↔◌, inl, inr, arith, refl, sym, ap, subst, ◌∙◌}
+use Rattle.std.proofs.Common.{◌≡◌, ℕ, zero, suc, ◌+◌, ◌*◌, ◌/◌, ◌<◌, ◌⊎◌, inl, inr, arith, sym, subst}
 use Rattle.std.specs.Int.{◌∣◌, IsGcd}
 use Rattle.std.proofs.Math.Nat.{div-mul_cancel, mul-dvd-mul_left, dvd_of_mul-dvd-mul_right, mul-dvd-mul_right, dvd-mul_right, mul_comm}
 use Rattle.std.proofs.lemmas.Nat.Gcd.{dvd_refl, dvd_trans}
@@ -7,7 +7,7 @@ use Rattle.integers.proofs.Divides.{positive-gcd}
 use Rattle.integers.proofs.Twos.{IsGcd-scaled}
 use Rattle.pool_model.specs.Network.{Net}
 use Rattle.pool_model.specs.Plan.{Plan}
-use Rattle.program_plans.specs.LeastBases.{AreWholeFlows, IsLeastFlowBase}
+use Rattle.program_plans.specs.LeastBases.{IsLeastFlowBase}
 use Rattle.plan_bases.specs.Divisors.{IsDivisorOf}
 
 pub divisor-none : (start : ℕ) (parts : ℕ → ℕ) → IsDivisorOf start parts 0 start

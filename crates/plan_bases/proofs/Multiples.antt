@@ -1,5 +1,5 @@
 -- The least common multiple of two numbers.
-use Rattle.std.proofs.Common.{◌≡◌, ℕ, zero, suc, ◌*◌, ◌/◌, ◌<◌, ◌≤◌, ◌↔◌, arith, sym, ap, subst, ◌∙◌}
+use Rattle.std.proofs.Common.{◌≡◌, ℕ, zero, suc, ◌*◌, ◌/◌, ◌<◌, ◌≤◌, arith, sym, ap, subst, ◌∙◌}
 use Rattle.std.specs.Int.{◌∣◌, IsGcd}
 use Rattle.std.proofs.Math.Nat.{div-mul_cancel, mul-dvd-mul_left, dvd-mul_right, mul_comm, dvd_of_mul-dvd-mul_right, mul-le-mul}
 use Rattle.std.proofs.lemmas.Nat.Gcd.{dvd_trans}

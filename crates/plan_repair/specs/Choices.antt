@@ -1,5 +1,5 @@
 -- The choice among judged plans, and the limit that one has to stay below.
-use Rattle.std.specs.Prelude.{ℕ, ◌<◌, Bool, true, if◌then◌else◌, Option, Some, None, option_map, pos, ◌*ℤ◌, int_lt}
+use Rattle.std.specs.Prelude.{◌<◌, Bool, true, if◌then◌else◌, Option, Some, None, option_map, pos, ◌*ℤ◌, int_lt}
 use Rattle.pool_model.specs.Network.{Net}
 use Rattle.pool_model.specs.Plan.{Written}
 use Rattle.plan_core.specs.Faults.{IsCostOf}

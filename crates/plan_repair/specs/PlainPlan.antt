@@ -1,5 +1,5 @@
 -- The plain plan of a point: its flows rounded down, and proportions as its flows into the pools have them.
-use Rattle.std.specs.Prelude.{ℕ, ◌+◌, ◌-◌, ◌*◌, ◌/◌, ◌≡◌, min, nat_lt, List, get_or, Bool, ◌==◌, ◌&&◌, ◌||◌, not, if◌then◌else◌, ℤ, pos, negsuc}
+use Rattle.std.specs.Prelude.{ℕ, ◌+◌, ◌-◌, ◌*◌, ◌/◌, min, nat_lt, List, get_or, Bool, ◌==◌, ◌&&◌, ◌||◌, not, if◌then◌else◌, ℤ, pos, negsuc}
 use Rattle.integers.specs.Sums.{sum_at}
 use Rattle.integers.specs.Numbers.{tabulate}
 use Rattle.pool_model.specs.Network.{Net}

@@ -1,5 +1,5 @@
 -- What a repair may answer.
-use Rattle.std.specs.Prelude.{◌≡◌, ◌*◌, Option, ℤ, pos, ◌*ℤ◌, ◌≤ℤ◌}
+use Rattle.std.specs.Prelude.{◌*◌, Option, pos, ◌*ℤ◌, ◌≤ℤ◌}
 use Rattle.std.specs.Option.{ForSome}
 use Rattle.pool_model.specs.Network.{Net}
 use Rattle.pool_model.specs.Plan.{Written, IsWritten, Obeys, plan_of, cost_of}

@@ -1,5 +1,5 @@
 -- Tests of a fact at each number below a count, and of facts that are the same.
-use Rattle.std.proofs.Common.{◌≡◌, ℕ, ◌+◌, ◌<◌, ◌≤◌, ◌^◌, Bool, true, false, ◌↔◌, IsTrue, ℤ, ◌+ℤ◌, unsigned_abs, arith, refl, subst}
+use Rattle.std.proofs.Common.{◌≡◌, ℕ, ◌<◌, ◌≤◌, ◌^◌, Bool, true, false, ◌↔◌, IsTrue, ℤ, ◌+ℤ◌, unsigned_abs, arith, refl, subst}
 use Rattle.std.proofs.lemmas.Bool.{false≢true}
 use Rattle.std.proofs.lemmas.Int.{ints}
 use mir.Syntax.{w128}

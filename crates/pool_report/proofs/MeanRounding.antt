@@ -1,9 +1,9 @@
 -- A mean, rounded down: the factors of all pools cancel.
-use Rattle.std.proofs.Common.{◌≡◌, ℕ, ◌*◌, ◌<◌, ℤ, pos, ◌+ℤ◌, ◌*ℤ◌, ◌≤ℤ◌, ◌<ℤ◌, arith, refl, sym, ap, ◌∙◌}
+use Rattle.std.proofs.Common.{◌≡◌, ℕ, ◌*◌, ◌<◌, ℤ, pos, ◌+ℤ◌, ◌*ℤ◌, ◌≤ℤ◌, ◌<ℤ◌, arith, refl, ap, ◌∙◌}
 use Rattle.std.proofs.Math.Nat.{mul-le-mul}
 use Rattle.std.proofs.lemmas.Int.{ints}
 use Rattle.integers.specs.Sums.{product_below}
-use Rattle.integers.proofs.Ring.{additive, sorted}
+use Rattle.integers.proofs.Ring.{sorted}
 use Rattle.integers.proofs.Order.{floor-le, le-mul, lt-mul}
 use Rattle.integers.proofs.AtKey.{positive-product_below}
 use Rattle.pool_model.specs.Network.{Net}

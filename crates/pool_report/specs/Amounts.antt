@@ -2,7 +2,7 @@
 use Rattle.std.specs.Prelude.{ℕ, ◌*◌, pos, ℤ, ◌-ℤ◌}
 use Rattle.integers.specs.Sums.{product_below}
 use Rattle.pool_model.specs.Network.{Net}
-use Rattle.pool_model.specs.Plan.{Plan, factor, outflow, source_outflow, product_inflow, quality_inflow}
+use Rattle.pool_model.specs.Plan.{Plan, factor, product_inflow, quality_inflow}
 use Rattle.text_pieces.specs.Rounding.{rounded_down}
 
 -- a flow over the plan's denominator, in millionths of a unit

@@ -1,13 +1,12 @@
 -- How large the numbers of points are.
-use Rattle.std.proofs.Common.{◌≡◌, ℕ, ◌+◌, ◌*◌, ◌<◌, ◌≤◌, ◌^◌, arith, refl, sym, ap, subst, ◌∙◌}
+use Rattle.std.proofs.Common.{◌≡◌, ℕ, ◌*◌, ◌<◌, ◌≤◌, ◌^◌, arith, refl}
 use Rattle.std.proofs.Math.Nat.{mul-le-mul_left, le_of_mul-le-mul_left}
-use Rattle.integers.specs.Sums.{sum_at}
 use Rattle.integers.proofs.AtKey.{term-le-sum_at}
 use Rattle.pool_model.specs.Network.{Net, IsLimited}
 use Rattle.pool_model.specs.Plan.{Plan, Carries, product_inflow}
 use Rattle.row_model.specs.Variables.{path_count, path_feed, path_out}
 use Rattle.row_model.proofs.PathSums.{path_feed-below}
-use Rattle.program_model.specs.Points.{ProportionPoint, proportion_flows}
+use Rattle.program_model.specs.Points.{ProportionPoint}
 use Rattle.program_model.specs.Programs.{IsPointOfQ}
 use Rattle.program_plans.specs.Bounds.{IsBounded}
 

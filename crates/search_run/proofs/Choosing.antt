@@ -35,7 +35,6 @@ use Rattle.std.proofs.Common.{
   ◌∙◌,
 }
 use Rattle.std.specs.Prelude.{filter}
-use denote.Ref.{Bor}
 use Rattle.std.proofs.lemmas.List.{get_or-map, length-map}
 use Rattle.std.proofs.lemmas.List.Elements.{All-get_or}
 use Rattle.std.proofs.lemmas.Grind.{common_steps}
@@ -47,7 +46,7 @@ use Rattle.row_model.specs.Trees.{Split as Cut}
 use Rattle.box_tree.specs.Counts.{cuts_on, AreCounts}
 use Rattle.box_space.specs.declared.coordinates.Form.{Form}
 use Rattle.box_space.specs.declared.coordinates.Split.{Split}
-use Rattle.branching.specs.Rows.{View, row_at, no_row, width_of, IsOpenAt, HasOpen}
+use Rattle.branching.specs.Rows.{View, row_at, no_row, width_of, IsOpenAt}
 use Rattle.branching.specs.Rules.{Answers, IsPick}
 use Rattle.branching.specs.Known.{IsFirstOpen, IsFirstGreatest, IsMoreCut, IsNarrower}
 use Rattle.branching.specs.declared.view.CoordRow.{CoordRow}

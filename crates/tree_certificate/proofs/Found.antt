@@ -1,5 +1,5 @@
 -- The certificate of what was found is valid, and its numbers and lists are those of what it is made of.
-use Rattle.std.proofs.Common.{◌≡◌, ℕ, suc, ◌*◌, ◌+◌, ◌^◌, ◌<◌, ◌≤◌, List, All, map, length, get_or, Option, Some, None, ℤ, pos, negsuc, neg_ℤ, ◌-ℤ◌, ◌*ℤ◌, ◌≤ℤ◌}
+use Rattle.std.proofs.Common.{◌≡◌, ℕ, suc, ◌*◌, ◌^◌, ◌<◌, ◌≤◌, List, length, get_or, Option, Some, None, ℤ, pos, negsuc, neg_ℤ, ◌-ℤ◌, ◌*ℤ◌, ◌≤ℤ◌}
 use Rattle.std.proofs.Common.{unsigned_abs, FitsSigned, arith, refl, sym, ap, subst, ◌∙◌}
 use Rattle.std.specs.Option.{ForSome}
 use mir.Val.{to_z, of_z}
@@ -11,10 +11,10 @@ use Rattle.std.proofs.lemmas.Option.{none-some}
 use Rattle.std.proofs.Math.Nat.{mul-le-mul}
 use Rattle.pool_model.specs.Network.{Net, counts_of, IsLimited}
 use Rattle.pool_model.specs.Plan.{Written, IsWritten, Obeys, cost_of, plan_of}
-use Rattle.pool_model.specs.Claim.{Claimed, with_gap, with_bound, no_plan, HasNoPlan, IsBound}
+use Rattle.pool_model.specs.Claim.{Claimed, with_gap, HasNoPlan, IsBound}
 use Rattle.row_model.specs.Catalogue.{rows}
-use Rattle.row_model.specs.Multipliers.{Part, Proof, IsInOrder}
-use Rattle.row_model.specs.Trees.{Split, Tree, IsTree, nodes, most_splits, tree_bound, box_of}
+use Rattle.row_model.specs.Multipliers.{Part, Proof}
+use Rattle.row_model.specs.Trees.{Split, Tree, IsTree, nodes, tree_bound}
 use Rattle.pool_model.specs.Starting.{reach_bound}
 use Rattle.plan_core.specs.Faults.{IsCostOf, IsFirstFault}
 use Rattle.plan_core.specs.declared.plan.Cost.{Cost}
@@ -25,8 +25,8 @@ use Rattle.box_tree.specs.Kept.{Kept, searched_of}
 use Rattle.box_tree.proofs.Refusals.{bad-plan, refused}
 use Rattle.cert_checker.proofs.Lowest.{AtLeast, tree-above}
 use Rattle.row_book.proofs.Rising.{no_more}
-use Rattle.cert_format.specs.Cert.{Cert, NodeProof, ClaimFits, FitsShape, IsShaped}
-use Rattle.cert_format.specs.Valid.{IsShown, IsValid, tree_of, proof_of}
+use Rattle.cert_format.specs.Cert.{Cert, NodeProof, ClaimFits, IsShaped}
+use Rattle.cert_format.specs.Valid.{IsShown, IsValid, tree_of}
 use Rattle.tree_certificate.specs.Certificates.{cert_of, claim_of, gap_of, node_proofs}
 use Rattle.tree_certificate.proofs.Lines.{all_lines, few_lines, lines_rise, proofs_back}
 

@@ -1,4 +1,4 @@
-use Rattle.std.proofs.Common.{ℕ, ◌<◌, List, map, drop, length, vec_len, arith, ap, ◌∙◌}
+use Rattle.std.proofs.Common.{◌<◌, map, drop, length, vec_len, arith, ap, ◌∙◌}
 use Rattle.pool_model.specs.Network.{net_of}
 use Rattle.row_model.specs.Catalogue.{rows}
 use Rattle.lp_program.specs.declared.lp.LpRow.{LpRow}

@@ -1,4 +1,4 @@
-use Rattle.std.proofs.Common.{◌≡◌, ◌<◌, All, length, get_or, arith, subst, ◌∙◌, sym}
+use Rattle.std.proofs.Common.{◌<◌, All, arith, subst, ◌∙◌}
 use Rattle.std.proofs.lemmas.List.{take_all}
 use Rattle.pool_model.specs.Network.{net_of}
 use Rattle.row_model.specs.Catalogue.{rows}

@@ -1,6 +1,5 @@
-use Rattle.std.proofs.Common.{◌≡◌, ◌<◌, ◌≤◌, ◌*◌, ◌^◌, ℕ, ℤ, unsigned_abs, FitsSigned, rules, arith, sym, ap, subst, ◌∙◌}
-use mir.Syntax.{w64, w128}
-use mir.Val.{to_z, of_z}
+use Rattle.std.proofs.Common.{◌^◌, unsigned_abs, FitsSigned, rules, arith, ap, ◌∙◌}
+use mir.Syntax.{w64}
 use Rattle.std.proofs.lemmas.Int.{to_z-of_z}
 use Rattle.pool_model.specs.Network.{net_of}
 use Rattle.flow_checks.proofs.Parts.{part-size}

@@ -1,4 +1,4 @@
-use Rattle.std.proofs.Common.{◌≡◌, ◌≤◌, ◌+◌, ◌*◌, ◌^◌, ℕ, List, ℤ, pos, ◌*ℤ◌, unsigned_abs, get_or, arith, subst, sym, ap, ◌∙◌}
+use Rattle.std.proofs.Common.{◌≤◌, ◌+◌, ◌*◌, ◌^◌, ℕ, List, ℤ, pos, ◌*ℤ◌, unsigned_abs, get_or, arith, subst, sym, ap, ◌∙◌}
 use mir.Syntax.{w128}
 use mir.Val.{to_z}
 use Rattle.std.proofs.lemmas.List.{take_all}

@@ -1,4 +1,4 @@
-use Rattle.std.proofs.Common.{ℕ, get_or, subst, sym, arith, length, ◌≡◌}
+use Rattle.std.proofs.Common.{ℕ, get_or, subst, arith, length, ◌≡◌}
 use Rattle.plan_bases.specs.Divisors.{IsDivisorOf}
 use Rattle.plan_bases.proofs.CommonDivisors.{divisor-none, divisor-more}
 use Rattle.plan_bases.proofs.bases.common_divisor.Goals as goal

@@ -1,4 +1,4 @@
-use Rattle.std.proofs.Common.{ℕ, get_or}
+use Rattle.std.proofs.Common.{get_or}
 use Rattle.plan_bases.specs.Divisors.{IsDivisorOf}
 use Rattle.plan_bases.proofs.bases.common_divisor.Given as goal
 

@@ -1,4 +1,4 @@
-use Rattle.std.proofs.Common.{◌≡◌, ℕ, ◌<◌, ◌≤◌, ◌*◌, get_or, arith, subst, sym}
+use Rattle.std.proofs.Common.{◌≡◌, ℕ, ◌≤◌, ◌*◌, get_or, arith, subst, sym}
 use Rattle.std.proofs.Math.Nat.{div-le_of_le-mul}
 use Rattle.integers.specs.Sums.{sum_at}
 use Rattle.integers.proofs.AtKey.{term-le-sum_at}

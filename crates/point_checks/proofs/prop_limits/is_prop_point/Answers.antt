@@ -1,4 +1,4 @@
-use Rattle.std.proofs.Common.{ℕ, ◌<◌, refl}
+use Rattle.std.proofs.Common.{refl}
 use Rattle.pool_model.specs.Network.{net_of}
 use Rattle.point_checks.specs.ProportionTests.{FitsProps, IsPropPoint}
 use Rattle.point_checks.proofs.Tests.{never, same-test}

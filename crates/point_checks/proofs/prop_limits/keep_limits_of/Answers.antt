@@ -1,4 +1,4 @@
-use Rattle.std.proofs.Common.{ℕ, ◌<◌, arith, below_more, refl}
+use Rattle.std.proofs.Common.{arith, below_more, refl}
 use Rattle.pool_model.specs.Network.{net_of}
 use Rattle.point_checks.specs.Slices.{seen}
 use Rattle.point_checks.specs.ProportionTests.{KeepsLimits}

@@ -1,11 +1,10 @@
-use Rattle.std.proofs.Common.{◌≡◌, ◌+◌, ℕ, ℤ, ◌+ℤ◌, pos, ◌*ℤ◌, get_or, arith, sym, ap, ◌∙◌}
+use Rattle.std.proofs.Common.{◌≡◌, ◌+◌, ◌+ℤ◌, pos, ◌*ℤ◌, sym, ap, ◌∙◌}
 use Rattle.integers.specs.Sums.{int_sum_at, sum_at}
 use Rattle.pool_model.specs.Network.{net_of}
 use Rattle.pool_model.specs.Plan.{product_inflow}
 use Rattle.row_model.specs.Variables.{path_count, path_feed, path_out}
 use Rattle.program_model.specs.Points.{proportion_flows}
-use Rattle.program_model.specs.Programs.{path_inflow, direct_mix}
-use Rattle.flow_checks.specs.Qualities.{MeetsLimits}
+use Rattle.program_model.specs.Programs.{direct_mix}
 use Rattle.point_checks.specs.Slices.{seen}
 use Rattle.point_checks.specs.ProportionTests.{KeepsLimits}
 use Rattle.point_checks.proofs.Tests.{same-test, meets-same, wide_sum}

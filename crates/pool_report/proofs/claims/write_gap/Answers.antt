@@ -1,4 +1,4 @@
-use Rattle.std.proofs.Common.{◌≡◌, ◌*◌, ℤ, FitsSigned, rules}
+use Rattle.std.proofs.Common.{◌≡◌, ◌*◌, FitsSigned, rules}
 use Rattle.std.proofs.lemmas.Int.{to_z-of_z}
 use mir.Syntax.{w128}
 use Rattle.edge_io.proofs.Writes.{wrote-same}

@@ -1,4 +1,4 @@
-use Rattle.std.proofs.Common.{◌≡◌, ℕ, FitsSigned, unsigned_abs, rules, ap, ◌∙◌}
+use Rattle.std.proofs.Common.{◌≡◌, FitsSigned, unsigned_abs, rules, ap, ◌∙◌}
 use Rattle.std.proofs.lemmas.Int.{to_z-of_z}
 use mir.Syntax.{w128}
 use Rattle.pool_model.specs.Network.{net_of}

@@ -1,4 +1,4 @@
-use Rattle.std.proofs.Common.{◌≡◌, ◌≤◌, ◌*◌, ◌^◌, ℤ, pos, ◌*ℤ◌, unsigned_abs, get_or, take}
+use Rattle.std.proofs.Common.{◌≡◌, ◌≤◌, ◌*◌, ◌^◌, pos, ◌*ℤ◌, unsigned_abs, get_or, take}
 use Rattle.integers.specs.Sums.{int_sum_by}
 use Rattle.pool_model.specs.Network.{net_of}
 use Rattle.program_points.proofs.qualities.weighed_quality.Given as goal

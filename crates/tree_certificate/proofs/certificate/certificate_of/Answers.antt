@@ -1,8 +1,6 @@
-use Rattle.std.proofs.Common.{◌≡◌, ◌≤◌, ◌*◌, ◌^◌, length, map, option_map, unsigned_abs, sym, subst, ◌∙◌, arith}
+use Rattle.std.proofs.Common.{length, map, option_map, sym, subst, ◌∙◌}
 use Rattle.std.proofs.lemmas.List.{length-map}
 use Rattle.pool_model.specs.Network.{net_of}
-use Rattle.pool_model.specs.Starting.{reach_bound}
-use Rattle.row_model.specs.Catalogue.{rows}
 use Rattle.plan_core.specs.Views.{shown_plan}
 use Rattle.box_space.specs.Views.{shown_proof, shown_split}
 use Rattle.box_tree.specs.Kept.{searched_of}

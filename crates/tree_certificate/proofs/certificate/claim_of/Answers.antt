@@ -1,4 +1,4 @@
-use Rattle.std.proofs.Common.{refl, rules}
+use Rattle.std.proofs.Common.{refl}
 use Rattle.tree_certificate.proofs.certificate.claim_of.Goals as goal
 
 pub gap-requires-clause-written : goal.gap-requires-clause-written

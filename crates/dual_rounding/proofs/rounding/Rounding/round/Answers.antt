@@ -1,4 +1,4 @@
-use Rattle.std.proofs.Common.{◌≡◌, List, map, Option, Some, None, IsTrue, ap, ◌∙◌}
+use Rattle.std.proofs.Common.{◌≡◌, List, map, Some, None, IsTrue, ap, ◌∙◌}
 use Rattle.pool_model.specs.Network.{net_of}
 use Rattle.row_model.specs.Multipliers.{Proof}
 use Rattle.row_book.specs.Views.{shown_value}
