@@ -7,7 +7,7 @@ use Rattle.integers.specs.Sums.{piece}
 use Rattle.pool_model.specs.Network.{Net}
 use Rattle.row_model.specs.Variables.{PerVariable, none, path_count, variables, by_number}
 use Rattle.row_model.specs.Catalogue.{when}
-use Rattle.box_space.specs.declared.terms.Term.{Term}
+use Rattle.linear_program.specs.declared.terms.Term.{Term}
 use Rattle.box_space.specs.declared.table.Block.{Block}
 use Rattle.box_space.specs.declared.table.Block.TheVariants.{Feeds, Outs, Directs, Paths, Proportions, Qualities, Mixed}
 use Rattle.box_space.specs.declared.table.Terms.{Terms}

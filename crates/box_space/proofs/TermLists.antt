@@ -9,7 +9,7 @@ use Rattle.integers.specs.Numbers.{numbers_at}
 use Rattle.integers.specs.Sums.{piece}
 use Rattle.integers.proofs.AtKey.{same_or_other, chosen, passed}
 use Rattle.row_model.specs.Catalogue.{when}
-use Rattle.box_space.specs.declared.terms.Term.{Term}
+use Rattle.linear_program.specs.declared.terms.Term.{Term}
 use Rattle.box_space.specs.Lines.{term_of, terms_by, terms_from, terms_at}
 
 -- a term or none

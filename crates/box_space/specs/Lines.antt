@@ -1,7 +1,7 @@
 -- Rows as they are written, term by term.
 use Rattle.std.specs.Prelude.{ℕ, zero, suc, ◌+◌, List, [], ◌∷◌, ◌++◌, ◌==◌, if◌then◌else◌, ℤ, unsigned_abs}
 use Rattle.std.specs.List.{flat_map}
-use Rattle.box_space.specs.declared.terms.Term.{Term}
+use Rattle.linear_program.specs.declared.terms.Term.{Term}
 
 -- terms in a row, and a constant
 pub record Line : Type 0 where

@@ -8,7 +8,7 @@ use Rattle.box_space.specs.Blocks.{IsBlock, rank, size_of, number_of, source_of,
 use Rattle.blend_network.specs.Keys.{key_of, nodes_of, count_of}
 use Rattle.box_space.specs.Lines.{term_of, terms_at}
 use Rattle.box_space.specs.Views.{shown_kind}
-use Rattle.box_space.specs.declared.terms.Term.{Term}
+use Rattle.linear_program.specs.declared.terms.Term.{Term}
 use Rattle.box_space.specs.declared.table.Block.{Block}
 use Rattle.box_space.specs.declared.table.Rate.{Rate}
 use Rattle.box_space.specs.declared.table.Rate.TheVariants.{Plain, Less, Below, Above}

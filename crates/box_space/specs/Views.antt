@@ -11,8 +11,8 @@ use Rattle.box_space.specs.declared.boxes.BoxView.{BoxView}
 use Rattle.box_space.specs.declared.coordinates.Coord.{Coord}
 use Rattle.box_space.specs.declared.coordinates.Coord.TheVariants.{Prop, Qual, Flow}
 use Rattle.box_space.specs.declared.coordinates.Split.{Split}
-use Rattle.box_space.specs.declared.multipliers.Part.{Part}
-use Rattle.box_space.specs.declared.multipliers.Proof.{Proof}
+use Rattle.linear_program.specs.declared.multipliers.Part.{Part}
+use Rattle.linear_program.specs.declared.multipliers.Proof.{Proof}
 use Rattle.box_space.specs.declared.rows.RowKind.{RowKind}
 use Rattle.box_space.specs.declared.rows.RowKind.TheVariants.{AtLeast, Equal}
 

@@ -1,7 +1,7 @@
-//! Boxes of a network's plans, and the plain types of its relaxations: coordinates, splits, rows and multipliers.
+//! Boxes of a network's plans, and the plain types of its relaxations: coordinates, splits and rows.
 //!
 //! A box has a least and a greatest end for each coordinate of a plan. [`Coord`] names a coordinate, and [`Split`] cuts a box
-//! at one. A [`Proof`] is multipliers on rows, which show a bound on what plans in a box cost.
+//! at one. [`Term`], [`Part`] and [`Proof`], terms of rows and multipliers on them, are those of `linear_program`.
 //!
 //! Contracts see these types as the data of `row_model`, by `specs/Views.antt`.
 //!
@@ -11,21 +11,18 @@
 
 mod boxes;
 mod coordinates;
-mod multipliers;
 mod numbers;
 mod root;
 mod rows;
 mod table;
-mod terms;
 mod variables;
 mod write;
 
 pub use boxes::{BoxEnds, BoxView, can_cut, halves};
 pub use coordinates::{Coord, Form, Split, coord_at, coords, of_form};
-pub use multipliers::{Part, Proof};
+pub use linear_program::{Part, Proof, Term};
 pub use numbers::{flow_coordinate, quality_coordinate, variable_number};
 pub use root::{root_box, root_ends};
 pub use rows::{LinRow, RowKind};
 pub use table::{Block, Factor, Rate, RowTable, Terms};
-pub use terms::Term;
 pub use variables::{Variable, var_cost, var_ends, variable_at, vars};

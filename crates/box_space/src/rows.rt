@@ -3,8 +3,8 @@
 ghost use Rattle.std.specs.Prelude.{◌≡◌, ◌++◌, ◌<◌, [], length, pos, IfOk};
 ghost use Rattle.box_space.specs.Lines.{term_of};
 
-use crate::terms::Term;
 use edge_io::Memory;
+use linear_program::Term;
 use std::alloc::Global;
 use std::marker::Model;
 

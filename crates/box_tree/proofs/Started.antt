@@ -6,7 +6,7 @@ use Rattle.pool_model.specs.Starting.{reach_bound}
 use Rattle.row_model.specs.Boxes.{coords}
 use Rattle.row_model.specs.Multipliers.{Proof}
 use Rattle.box_space.specs.Views.{shown_proof}
-use Rattle.box_space.specs.declared.multipliers.Proof.{Proof as HeldProof}
+use Rattle.linear_program.specs.declared.multipliers.Proof.{Proof as HeldProof}
 use Rattle.row_model.specs.Trees.{Split, node_bound}
 use Rattle.split_tree.specs.declared.span.Span.{Span}
 use Rattle.split_tree.specs.Splits.{Splits, IsOf as AreCut}

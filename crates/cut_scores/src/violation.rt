@@ -6,7 +6,7 @@ ghost use Rattle.pool_model.specs.Network.{net_of};
 use crate::square_root::square_root;
 use blend_network::Network;
 use box_space::{Block, Form, coords, flow_coordinate, quality_coordinate, variable_number};
-use lp_simplex::{Advice, Lp};
+use linear_program::{Advice, Lp};
 use lp_sparse::fixed::clamped;
 use lp_sparse::lookup::{at, put};
 use row_book::{Group, exact_rows};

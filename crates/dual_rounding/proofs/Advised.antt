@@ -7,7 +7,7 @@ use Rattle.std.proofs.lemmas.List.{map-append, take_all}
 use Rattle.std.proofs.lemmas.List.Elements.{filter-append}
 use Rattle.std.proofs.lemmas.Slice.Zip.{get_or-zip, length-zip}
 use Rattle.row_model.specs.Multipliers.{Part}
-use Rattle.lp_program.specs.declared.lp.LpRow.{LpRow}
+use Rattle.linear_program.specs.declared.lp.LpRow.{LpRow}
 use Rattle.dual_rounding.specs.Price.{is_nonzero, nonzero}
 use Rattle.dual_rounding.specs.Tried.{advised_part}
 

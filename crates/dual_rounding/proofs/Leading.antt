@@ -9,8 +9,8 @@ use Rattle.row_book.specs.Views.{shown_value}
 use Rattle.row_book.specs.declared.fault.ProofFault.{ProofFault}
 use Rattle.row_book.specs.declared.shown.Shown as declared
 use Rattle.row_book.proofs.AgreedFaults.{no-fault}
-use Rattle.lp_program.specs.declared.lp.Lp.{Lp}
-use Rattle.lp_simplex.specs.declared.advice.Advice.{Advice}
+use Rattle.linear_program.specs.declared.lp.Lp.{Lp}
+use Rattle.linear_program.specs.declared.advice.Advice.{Advice}
 use Rattle.dual_rounding.specs.declared.rounding.Lead.{Lead}
 use Rattle.dual_rounding.specs.Price.{price_proof}
 use Rattle.dual_rounding.specs.Tried.{advised_proof, tried}

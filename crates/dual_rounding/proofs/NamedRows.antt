@@ -11,9 +11,9 @@ use Rattle.row_model.specs.Multipliers.{Part, Proof, Shown}
 use Rattle.box_space.specs.declared.coordinates.Form.{Form}
 use Rattle.box_space.specs.declared.coordinates.Form.TheVariants.{P, Q, Pq}
 use Rattle.row_book.proofs.Families.{test_true}
-use Rattle.lp_program.specs.declared.lp.Lp.{Lp}
-use Rattle.lp_program.specs.declared.lp.LpRow.{LpRow}
-use Rattle.lp_simplex.specs.declared.advice.Advice.{Advice}
+use Rattle.linear_program.specs.declared.lp.Lp.{Lp}
+use Rattle.linear_program.specs.declared.lp.LpRow.{LpRow}
+use Rattle.linear_program.specs.declared.advice.Advice.{Advice}
 use Rattle.dual_rounding.specs.Programs.{has_row, form_rows, numbers}
 use Rattle.dual_rounding.specs.Price.{is_nonzero, price_part, price_proof}
 use Rattle.dual_rounding.specs.Tried.{advised_part, advised_proof, tried}

@@ -8,8 +8,8 @@ use Rattle.row_model.specs.Catalogue.{rows, at_least, equal}
 use Rattle.row_book.specs.Groups.{takes, group_of}
 use Rattle.row_book.specs.PartRows.{IsRow, kind_at}
 use Rattle.box_space.specs.declared.coordinates.Form.{Form}
-use Rattle.lp_program.specs.declared.lp.Lp.{Lp}
-use Rattle.lp_program.specs.declared.lp.LpRow.{LpRow}
+use Rattle.linear_program.specs.declared.lp.Lp.{Lp}
+use Rattle.linear_program.specs.declared.lp.LpRow.{LpRow}
 
 -- whether a form has the row of a number
 unfoldable pub has_row : Net → Form → ℕ → Bool

@@ -4,9 +4,9 @@ use Rattle.std.specs.List.{zip}
 use Rattle.std.specs.Int.{int_div_euclid}
 use Rattle.pool_model.specs.Network.{Net}
 use Rattle.row_model.specs.Multipliers.{Part, Proof}
-use Rattle.lp_program.specs.declared.lp.Lp.{Lp}
-use Rattle.lp_program.specs.declared.lp.LpRow.{LpRow}
-use Rattle.lp_simplex.specs.declared.advice.Advice.{Advice}
+use Rattle.linear_program.specs.declared.lp.Lp.{Lp}
+use Rattle.linear_program.specs.declared.lp.LpRow.{LpRow}
+use Rattle.linear_program.specs.declared.advice.Advice.{Advice}
 use Rattle.dual_rounding.specs.Price.{nonzero, price_proof}
 
 -- a dual, which counts parts of 2^32, times a scale, rounded down

@@ -6,7 +6,7 @@ ghost use Rattle.dual_rounding.specs.Price.{nonzero};
 ghost use Rattle.dual_rounding.specs.Tried as proofs;
 
 use box_space::{Part, Proof};
-use lp_simplex::{Advice, Lp};
+use linear_program::{Advice, Lp};
 use std::alloc::AllocError;
 
 /// Writes the proof of an advice at a scale over a proof: a part for each row and its dual, but for those of multiplier 0. A dual

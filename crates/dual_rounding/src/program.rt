@@ -11,7 +11,7 @@ ghost use Rattle.dual_rounding.specs.Programs.{IsProgramOf, IsOfNetwork, IsOver,
 use blend_network::Network;
 use box_space::{BoxView, Form, LinRow, RowKind, var_cost, var_ends, vars};
 use edge_io::Memory;
-use lp_simplex::{Lp, LpRow};
+use linear_program::{Lp, LpRow};
 use row_book::{in_form, row_at, rows};
 use std::alloc::{AllocError, Global};
 

@@ -10,7 +10,7 @@ use crate::program::{blank, write};
 use blend_network::Network;
 use box_space::{BoxView, Form, LinRow};
 use edge_io::Memory;
-use lp_simplex::Lp;
+use linear_program::Lp;
 use std::alloc::Global;
 use std::marker::Model;
 
@@ -23,7 +23,7 @@ pub struct Relaxation {
 }
 
 impl Model for Relaxation {
-    ghost use Rattle.lp_program.specs.declared.lp.Lp as programs;
+    ghost use Rattle.linear_program.specs.declared.lp.Lp as programs;
 
     ghost Value = { programs.Lp };
 

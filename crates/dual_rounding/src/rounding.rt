@@ -19,7 +19,7 @@ use crate::price::price_proof;
 use blend_network::Network;
 use box_space::{BoxView, Proof};
 use edge_io::Memory;
-use lp_simplex::{Advice, Lp};
+use linear_program::{Advice, Lp};
 use row_book::{Scratch, Shown, value};
 use std::alloc::{AllocError, Global};
 

@@ -2,14 +2,15 @@
 //!
 //! Where the proportions of a network's pools are fixed, its plans are the points of a small linear program in the outflows
 //! and the directs. [`flow_program`] puts it together from an [`Outline`], the network's numbers as plain lists, and a
-//! [`Blend`], what the pools mix; [`SmallProgram::solve`] solves it from the last basis of its kind. [`rounded`] brings
-//! proportions to their base, and [`Flows::mend`] lowers flows that were rounded until they keep each limit again.
+//! [`Blend`], what the pools mix; [`SmallProgram::lp`] is what advice is asked on. [`flows_of`] reads the flows off the point
+//! of an advice, [`rounded`] brings proportions to their base, and [`Flows::mend`] lowers flows that were rounded until they
+//! keep each limit again.
 //!
 //! Nobody has to trust any of it: whoever makes a plan of these flows has it checked. So every call is safe and returns for
-//! every value of its arguments, and but for the least cut of mending that is all that is promised. Sums and products wrap,
-//! what is kept is brought into its range, and what is not there counts as nothing.
+//! every value of its arguments, and that is all that is promised. Sums and products wrap, what is kept is brought into its
+//! range, and what is not there counts as nothing.
 //!
-//! Which proportions to try is left to the crate above.
+//! How a network is read, how a program is solved and which proportions to try is left to the crate above.
 #![tactic(auto)]
 
 mod blend;
@@ -24,6 +25,6 @@ pub use blend::Blend;
 pub use flows::{Layout, flow_program, flows_of};
 pub use groups::Groups;
 pub use mending::Flows;
-pub use outline::{Arc, Arcs, GRAIN, Limit, Meetings, Nodes, Outline, Product, Source};
+pub use outline::{Arc, Arcs, GRAIN, Limit, Meetings, Nodes, Outline, Product, Qualities, Source};
 pub use program::SmallProgram;
 pub use rounding::rounded;

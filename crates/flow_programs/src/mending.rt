@@ -4,10 +4,9 @@
 //! a product breaks, what its worst arc for that limit brings is lowered by the least number of millionths that makes up
 //! for what is missing, round after round. Only where that does not end is the product dropped.
 
-ghost use Rattle.std.specs.Prelude.{ℕ, ◌*◌, ◌<◌, ◌≤◌};
-
 use crate::blend::Blend;
 use crate::outline::{GRAIN, Limit, Outline};
+use lp_sparse::least_cut;
 use lp_sparse::lookup::{at, put};
 
 /// How many rounds a product is mended before it is dropped.
@@ -219,15 +218,4 @@ fn lower(flows: &mut [u64], place: usize, over: i128, each: i128) -> i128 {
     let cut = cut.min(u128::from(flow)) as u64;
     put(flows, place, flow.wrapping_sub(cut));
     over.wrapping_sub(i128::from(cut).wrapping_mul(each))
-}
-
-/// The least number of parts, of `each`, that make up for what is missing.
-fn least_cut(missing: u128, each: u128) -> u128
-    ensures enough { 0 < each → missing ≤ result * each }
-    ensures least { (n : ℕ) → missing ≤ n * each → result ≤ n }
-{
-    if each == 0 {
-        return 0;
-    }
-    missing.div_ceil(each)
 }

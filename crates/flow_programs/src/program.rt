@@ -1,7 +1,6 @@
 //! Small linear programs, put together term by term.
 
-use box_space::Term;
-use lp_simplex::{Advice, Lp, LpRow, advise, advise_from};
+use linear_program::{Lp, LpRow, Term};
 use lp_sparse::fixed::{bit_length, shifted_down};
 use lp_sparse::lookup::at;
 use std::alloc::{AllocError, Global};
@@ -11,9 +10,6 @@ const COEF_BITS: i32 = 46;
 
 /// Half of the bits of a point's unit.
 const HALF: u32 = 16;
-
-/// How many changes of the basis a small program may take.
-const PIVOTS: u32 = 2000;
 
 /// A linear program. Variables and rows are named by their places.
 #[derive(Drop)]
@@ -102,32 +98,13 @@ impl SmallProgram {
         }
     }
 
-    /// The point of least cost, in units of 2^-32, from the basis where the last program of this kind ended; none where no
-    /// point seems to be there.
-    pub fn solve(
-        &mut self,
-        alloc: Global,
-        basis: &mut Vec<u32>,
-    ) -> Result<Option<Advice>, AllocError> {
-        self.shorten();
-        let advice = if basis.is_empty() {
-            advise(alloc, &self.lp, PIVOTS)
-        } else {
-            advise_from(alloc, &self.lp, basis, PIVOTS)
-        };
-        let advice = advice.map_err(|_| AllocError)?;
-        if advice.ray {
-            return Ok(None);
-        }
-        if !advice.basis.is_empty() {
-            basis.clear();
-            basis.extend_from_slice(&advice.basis)?;
-        }
-        Ok(Some(advice))
+    /// The program itself, as advice is asked on it.
+    pub fn lp(&self) -> &Lp {
+        &self.lp
     }
 
-    /// Brings each row, and all costs together, to coefficients that are not too long.
-    fn shorten(&mut self) {
+    /// Brings each row, and all costs together, to coefficients that are not too long for advice.
+    pub fn shorten(&mut self) {
         for row in self.lp.rows.iter_mut() {
             shorten_row(row);
         }
@@ -141,7 +118,7 @@ impl SmallProgram {
         }
     }
 
-    /// What a point costs, but for the bits that the costs have lost.
+    /// What a point costs whose numbers are in units of 2^-32, but for the bits that the costs have lost.
     pub fn cost(&self, point: &[i128]) -> i128 {
         let mut sum = 0i128;
         for (cost, number) in self.lp.cost.iter().zip(point) {

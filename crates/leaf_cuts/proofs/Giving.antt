@@ -10,13 +10,13 @@ use Rattle.row_model.specs.Boxes.{Box, Agree}
 use Rattle.row_model.specs.Multipliers.{Part, Proof, Shown, IsInOrder, shown_by}
 use Rattle.row_model.proofs.Agreement.{in_order-same, shown-same}
 use Rattle.box_space.specs.Views.{shown_box, shown_box_ends, shown_proof, shown_part, AreEndsOf}
-use Rattle.box_space.specs.declared.multipliers.Proof as held
+use Rattle.linear_program.specs.declared.multipliers.Proof as held
 use Rattle.edge_io.specs.declared.Memory.{Memory}
 use Rattle.box_space.specs.declared.coordinates.Form.{Form}
 use Rattle.box_space.specs.declared.boxes.BoxView.{BoxView}
 use Rattle.box_space.specs.declared.boxes.BoxEnds.{BoxEnds}
-use Rattle.lp_program.specs.declared.lp.Lp.{Lp}
-use Rattle.lp_simplex.specs.declared.advice.Advice.{Advice}
+use Rattle.linear_program.specs.declared.lp.Lp.{Lp}
+use Rattle.linear_program.specs.declared.advice.Advice.{Advice}
 use Rattle.dual_rounding.specs.Programs.{IsProgramOf, has_row}
 use Rattle.dual_rounding.specs.Price.{price_proof}
 use Rattle.dual_rounding.specs.Tried.{tried}

@@ -7,7 +7,7 @@ use Rattle.row_model.specs.Multipliers.{bound}
 use Rattle.box_space.specs.Views.{shown_proof, shown_box_ends, AreEndsOf, AreHalves}
 use Rattle.box_space.specs.declared.boxes.BoxEnds.{BoxEnds}
 use Rattle.box_space.specs.declared.coordinates.Form.{Form}
-use Rattle.box_space.specs.declared.multipliers.Proof as held
+use Rattle.linear_program.specs.declared.multipliers.Proof as held
 use Rattle.box_space.proofs.Halving.{left-half, right-half}
 use Rattle.leaf_cuts.specs.Given.{IsGiven}
 use Rattle.leaf_cuts.specs.Halvings.{middle_at}

@@ -5,8 +5,8 @@ use Rattle.pool_model.specs.Network.{Net}
 use Rattle.row_model.specs.Boxes.{Box, Agree}
 use Rattle.row_model.specs.Multipliers.{Proof, Shown, IsInOrder, shown_by}
 use Rattle.box_space.specs.declared.coordinates.Form.{Form}
-use Rattle.lp_program.specs.declared.lp.Lp.{Lp}
-use Rattle.lp_simplex.specs.declared.advice.Advice.{Advice}
+use Rattle.linear_program.specs.declared.lp.Lp.{Lp}
+use Rattle.linear_program.specs.declared.advice.Advice.{Advice}
 use Rattle.dual_rounding.specs.Programs.{IsProgramOf, has_row}
 use Rattle.dual_rounding.specs.Price.{price_proof}
 use Rattle.dual_rounding.specs.Tried.{tried}

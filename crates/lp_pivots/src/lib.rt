@@ -3,7 +3,7 @@
 //! The method is that of C. E. Lemke (The dual method of solving the linear programming problem, 1954) with an upper bound
 //! on every variable. At any duals each variable goes to the end of its box that its reduced cost asks for, so every square
 //! of active rows and basic variables that can be solved with is a start. [`Simplex`] is the state over a program of
-//! `lp_program`; [`Simplex::begin_at`] takes a start, [`Simplex::run`] goes on from it and says how it [`End`]ed, and readers
+//! `lp_scaling`; [`Simplex::begin_at`] takes a start, [`Simplex::run`] goes on from it and says how it [`End`]ed, and readers
 //! tell what the state is then. In the order of a run:
 //!
 //! | Modules | What they do |

@@ -3,7 +3,7 @@
 use crate::basis::Basis;
 use crate::sums::Sums;
 use lp_factors::{Column, Kernel};
-use lp_program::Program;
+use lp_scaling::Program;
 use lp_sparse::lookup::{at, put};
 use lp_sparse::{Entry, Marks};
 use std::alloc::{AllocError, Global};

@@ -5,7 +5,7 @@
 //! they never drift and are never summed anew. A solve with the kernel need only be near: what it leaves over is read off
 //! these sums, and corrected.
 
-use lp_program::Program;
+use lp_scaling::Program;
 use lp_sparse::Marks;
 use lp_sparse::fixed::{COEF_BITS, product, rounded};
 use lp_sparse::lookup::{at, put};

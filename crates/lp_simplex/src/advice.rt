@@ -1,27 +1,15 @@
 //! The calls, and what they answer.
 
 ghost use Rattle.std.specs.Prelude.{◌≡◌, vec_len, IfOk};
-ghost use Rattle.lp_program.specs.Columns.{NamesColumns};
+ghost use Rattle.linear_program.specs.Columns.{NamesColumns};
 
 use crate::answer::{advice_of, one_row};
 use crate::start::{cold_start, start_at_rest};
-use box_space::Proof;
 use edge_io::Memory;
+use linear_program::{Advice, Lp, Proof};
 use lp_pivots::{End, Simplex};
-use lp_program::{Lp, Scaled, scale};
+use lp_scaling::{Scaled, scale};
 use std::alloc::{AllocError, Global};
-
-/// What the method suggests, in units of 2^-32. None of it is to be trusted before it is tested.
-#[derive(Debug, Drop)]
-pub struct Advice {
-    /// The duals are meant to show that no point of the box meets the rows, and not to bound the cost.
-    pub ray: bool,
-    pub duals: Vec<i128>,
-    pub point: Vec<i128>,
-    /// Where the method ended: the variables strictly between their ends, by number, and the rows that bind, by their
-    /// places past the count of variables.
-    pub basis: Vec<u32>,
-}
 
 /// An advice, and how the method came to it.
 #[derive(Drop)]

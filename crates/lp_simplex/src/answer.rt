@@ -3,12 +3,12 @@
 //! A method that ended without an answer gives the duals of the best bound on the way, with the values that came with them.
 
 ghost use Rattle.std.specs.Prelude.{◌≡◌, [], vec_len, IfOk};
-ghost use Rattle.lp_program.specs.Columns.{NamesColumns};
+ghost use Rattle.linear_program.specs.Columns.{NamesColumns};
 
-use crate::advice::Advice;
 use crate::refine::refine;
+use linear_program::{Advice, Lp};
 use lp_pivots::{End, Simplex};
-use lp_program::{Lp, Program};
+use lp_scaling::Program;
 use lp_sparse::fixed::{DUAL_BITS, VALUE_BITS, bit_length, shifted};
 use lp_sparse::lookup::{at, put};
 use std::alloc::{AllocError, Global};

@@ -1,4 +1,4 @@
-//! A linear program over a box, and advice on it by a dual simplex method on whole numbers.
+//! Advice on a linear program over a box, by a dual simplex method on whole numbers.
 //!
 //! [`advise`] suggests duals, a point and a basis for a program; [`advise_from`] does so from a basis that is known to be
 //! near, and [`start_of_proof`] reads such a basis off multipliers that were rounded. Nobody has to trust the advice: a
@@ -9,7 +9,7 @@
 //! width.
 //!
 //! The method is a dual simplex method with an upper bound on every variable, that of `lp_pivots`, on the scaled program of
-//! `lp_program`. The rows of a call:
+//! `lp_scaling`. In the order of a call:
 //!
 //! | Modules | What they do |
 //! |---|---|
@@ -17,7 +17,7 @@
 //! | `start` | lists to start from: cold, from a proof |
 //! | `answer`, `refine` | the advice in the units of the program |
 //!
-//! [`Lp`] and [`LpRow`] are those of `lp_program`, for callers that use no more of it.
+//! [`Lp`], [`LpRow`] and [`Advice`] are those of `linear_program`, for callers that use no more of it.
 #![tactic(auto)]
 
 mod advice;
@@ -25,5 +25,5 @@ mod answer;
 mod refine;
 mod start;
 
-pub use advice::{Advice, advise, advise_from, start_of_proof};
-pub use lp_program::{Lp, LpRow};
+pub use advice::{advise, advise_from, start_of_proof};
+pub use linear_program::{Advice, Lp, LpRow};

@@ -5,9 +5,9 @@
 //! Iterative refinement for linear programming, 2016).
 
 use crate::answer::MOST_DUAL;
-use box_space::Term;
+use linear_program::{Lp, Term};
 use lp_pivots::Simplex;
-use lp_program::{Lp, Program};
+use lp_scaling::Program;
 use lp_sparse::Entry;
 use lp_sparse::fixed::{bit_length, clamped, shifted, shifted_down};
 use lp_sparse::lookup::{at, put};

@@ -5,8 +5,7 @@
 //! the variables whose reduced cost is no more than rounding: the duals that belong to it are the proof's, up to rounding,
 //! so the method goes on from the bound that the proof shows.
 
-use box_space::Proof;
-use lp_program::{Lp, LpRow};
+use linear_program::{Lp, LpRow, Proof};
 use lp_sparse::fixed::bit_length;
 use lp_sparse::lookup::{at, put};
 use std::alloc::{AllocError, Global};

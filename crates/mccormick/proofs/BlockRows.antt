@@ -4,7 +4,7 @@ use Rattle.std.proofs.lemmas.List.{append-nil}
 use Rattle.pool_model.specs.Network.{Net}
 use Rattle.row_model.specs.Variables.{none, variables, by_number}
 use Rattle.row_model.specs.Catalogue.{when}
-use Rattle.box_space.specs.declared.terms.Term.{Term}
+use Rattle.linear_program.specs.declared.terms.Term.{Term}
 use Rattle.box_space.specs.declared.table.Block.{Block}
 use Rattle.box_space.specs.declared.table.Terms.TheVariants.{One}
 use Rattle.box_space.specs.Blocks.{IsBlock, rank, size_of, number_of, with_block}

@@ -4,7 +4,7 @@ use Rattle.std.proofs.lemmas.List.{append-nil}
 use Rattle.integers.proofs.Ring.{additive}
 use Rattle.integers.proofs.AtKey.{chosen, passed}
 use Rattle.row_model.specs.Catalogue.{when}
-use Rattle.box_space.specs.declared.terms.Term.{Term}
+use Rattle.linear_program.specs.declared.terms.Term.{Term}
 use Rattle.box_space.specs.Lines.{term_of, terms_from}
 use Rattle.box_space.proofs.TermLists.{terms_from-same}
 use Rattle.mccormick.specs.Coefs.{three_coefs}

@@ -2,7 +2,7 @@
 use Rattle.std.specs.Prelude.{ℕ, ◌+ℤ◌, ℤ}
 use Rattle.row_model.specs.Envelopes.{Side}
 use Rattle.row_model.specs.Catalogue.{when}
-use Rattle.box_space.specs.declared.terms.Term.{Term}
+use Rattle.linear_program.specs.declared.terms.Term.{Term}
 
 -- each of three terms' coefficients at its variable, and 0 elsewhere
 abbrev pub three_coefs : Term → Term → Term → ℕ → ℤ

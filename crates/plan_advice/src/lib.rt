@@ -7,19 +7,23 @@
 //!
 //! | Modules | What they do |
 //! |---|---|
+//! | `reading` | the network's numbers as the programs take them |
 //! | `tries` | the order in which plans are tried, and the cheapest of them |
 //! | `steps` | successive programs, in which proportions and flows move together |
+//! | `solving` | the simplex method of `lp_simplex` on one program after the other |
 //! | `vertex` | the vertex of a flow program, exactly |
 #![tactic(auto)]
 
+mod reading;
+mod solving;
 mod steps;
 mod tries;
 mod vertex;
 
 use blend_network::Network;
 use edge_io::Memory;
-use flow_programs::Outline;
 use plan_core::{Cost, WrittenPlan};
+use reading::outline_of;
 use std::alloc::Global;
 use tries::Search;
 
@@ -32,7 +36,7 @@ pub fn advised_plan(
     point: &[i128],
     limit: Option<Cost>,
 ) -> Result<Option<WrittenPlan>, Memory> {
-    let outline = Outline::new(alloc, net)?;
+    let outline = outline_of(alloc, net)?;
     let mut search = Search::new(alloc, net, &outline, limit);
     search.run(alloc, point)?;
     Ok(search.into_best())

@@ -6,6 +6,7 @@
 //! optimization of continuous processing systems, 1961; on pooling C. A. Haverly, Studies of the behavior of recursion for
 //! the pooling problem, 1978). Changes are at most a radius, and sum to 0 in each pool.
 
+use crate::solving::solve;
 use flow_programs::{Blend, GRAIN, Layout, Limit, Outline, SmallProgram, flow_program, rounded};
 use lp_sparse::lookup::at;
 use std::alloc::{AllocError, Global};
@@ -41,7 +42,7 @@ pub fn step(
     basis: &mut Vec<u32>,
 ) -> Result<Option<Stepped>, AllocError> {
     let mut program = step_program(alloc, outline, place, reach)?;
-    match program.solve(alloc, basis)? {
+    match solve(alloc, &mut program, basis)? {
         None => Ok(None),
         Some(advice) => {
             let cost = program.cost(&advice.point);

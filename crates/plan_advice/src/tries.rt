@@ -8,6 +8,7 @@
 //! point, with what he was answered for his best plan, is told nothing new. The caller's best plan only ends a search early,
 //! before the steps from a plan: where the first step's program takes no plan near the point to be cheaper.
 
+use crate::solving::solve;
 use crate::steps::{Place, Reach, step};
 use crate::vertex::{Vertex, vertex_of};
 use blend_network::Network;
@@ -237,7 +238,7 @@ impl<'a> Search<'a> {
     fn mended_flows(&mut self, alloc: Global, parts: &[u32]) -> Result<Option<Flows>, AllocError> {
         let blend = Blend::new(alloc, self.outline, parts)?;
         let mut program = flow_program(alloc, self.outline, &blend)?;
-        match program.solve(alloc, &mut self.bases.flows)? {
+        match solve(alloc, &mut program, &mut self.bases.flows)? {
             None => Ok(None),
             Some(advice) => {
                 let outs = self.outline.arcs.outs.len();
@@ -272,7 +273,7 @@ impl<'a> Search<'a> {
         let blend = Blend::new(alloc, self.outline, parts)?;
         let program = flow_program(alloc, self.outline, &blend)?;
         let mut short = flow_program(alloc, self.outline, &blend)?;
-        match short.solve(alloc, &mut self.bases.flows)? {
+        match solve(alloc, &mut short, &mut self.bases.flows)? {
             None => Ok(None),
             Some(advice) => vertex_of(alloc, &program, &advice, self.outline.arcs.outs.len()),
         }

@@ -15,7 +15,7 @@ use crate::judging::{Judged, cheapest, gained, judge, limit_of};
 use crate::plain::plain_plan;
 use blend_network::Network;
 use edge_io::Memory;
-use lp_simplex::Advice;
+use linear_program::Advice;
 use plan_advice::advised_plan;
 use plan_core::{Cost, WrittenPlan};
 use std::alloc::Global;

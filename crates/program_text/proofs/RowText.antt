@@ -8,7 +8,7 @@ use Rattle.row_model.specs.Variables.{variables}
 use Rattle.row_model.specs.Catalogue.{Kind}
 use Rattle.row_book.specs.PartRows.{kind_at, coef_at, constant_at, IsRow}
 use Rattle.box_space.specs.Lines.{Line}
-use Rattle.box_space.specs.declared.terms.Term.{Term}
+use Rattle.linear_program.specs.declared.terms.Term.{Term}
 use Rattle.program_text.specs.Lines.{row_head, row_line, written_term}
 use Rattle.program_text.specs.Written.{line_text}
 use Rattle.program_text.proofs.TermTexts.{terms_from-text}

@@ -5,7 +5,7 @@ use Rattle.pool_model.specs.Network.{Net}
 use Rattle.row_model.specs.Variables.{variables}
 use Rattle.row_model.specs.Catalogue.{Kind}
 use Rattle.box_space.specs.Lines.{Line}
-use Rattle.box_space.specs.declared.terms.Term.{Term}
+use Rattle.linear_program.specs.declared.terms.Term.{Term}
 use Rattle.program_text.specs.Lines.{row_head, written_term}
 
 -- terms of variables of the network

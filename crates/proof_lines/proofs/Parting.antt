@@ -7,8 +7,8 @@ use Rattle.std.proofs.lemmas.List.Elements.{All-get_or}
 use Rattle.std.proofs.lemmas.Bool.{cases_lt}
 use Rattle.std.proofs.Math.Seq.{get_or-append_seam}
 use Rattle.row_model.specs.Multipliers.{Part, IsRising}
-use Rattle.box_space.specs.declared.multipliers.Part as declared
-use Rattle.box_space.specs.declared.multipliers.Proof as kept
+use Rattle.linear_program.specs.declared.multipliers.Part as declared
+use Rattle.linear_program.specs.declared.multipliers.Proof as kept
 use Rattle.box_space.specs.Views.{shown_part}
 use Rattle.row_book.specs.declared.fault.ProofFault.TheVariants.{Order, UnknownRow}
 use Rattle.row_book.proofs.FirstFaults.{first-order, first-unknown}

@@ -10,7 +10,7 @@ use Rattle.cert_stream.specs.Items.{Field, kind, shape, bases, weight, outflow, 
 use Rattle.cert_stream.specs.Items.{shown_item, cuts_left, proofs_left, parts_left, directs_left, shaped_state}
 use Rattle.cert_stream.specs.Streams.{IsAtEnd}
 use Rattle.box_space.specs.declared.coordinates.Split.{Split}
-use Rattle.box_space.specs.declared.multipliers.Part.{Part}
+use Rattle.linear_program.specs.declared.multipliers.Part.{Part}
 use Rattle.box_space.specs.Views.{shown_split, shown_part}
 use Rattle.proof_lines.specs.declared.steps.LineHead.{LineHead}
 use Rattle.proof_lines.specs.Runs.{Moment, Run, Failed, IsReady}

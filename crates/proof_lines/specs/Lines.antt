@@ -7,7 +7,7 @@ use Rattle.row_model.specs.Catalogue.{rows}
 use Rattle.row_model.specs.Multipliers.{Part, Proof, IsInOrder, shown_by}
 use Rattle.row_model.specs.Trees.{Split, nodes, split_at, raised}
 use Rattle.box_space.specs.Views.{AreRoot, shown_proof}
-use Rattle.box_space.specs.declared.multipliers.Proof as declared
+use Rattle.linear_program.specs.declared.multipliers.Proof as declared
 use Rattle.row_book.specs.Faults as proofs
 use Rattle.row_book.specs.Views.{shown_value}
 use Rattle.row_book.specs.declared.fault.ProofFault.{ProofFault}

@@ -3,7 +3,7 @@ use Rattle.std.proofs.Common.{◌≡◌, ℕ, suc, ◌<◌, List, All, map, leng
 use Rattle.std.proofs.lemmas.List.{length-map, get_or_default}
 use Rattle.std.proofs.lemmas.List.Elements.{All-map}
 use Rattle.std.proofs.Math.ListN.{get_or-map}
-use Rattle.box_space.specs.declared.multipliers.Part.{Part}
+use Rattle.linear_program.specs.declared.multipliers.Part.{Part}
 use Rattle.box_space.specs.Views.{shown_part}
 use Rattle.row_model.specs.Catalogue.{Kind}
 use Rattle.row_model.specs.Multipliers as multipliers

@@ -18,7 +18,7 @@ use Rattle.row_model.specs.Boxes.{Box}
 use Rattle.row_model.specs.Variables.{variables, by_number, costs, lows, highs}
 use Rattle.row_model.specs.Multipliers as multipliers
 use Rattle.box_space.specs.Views.{shown_part}
-use Rattle.box_space.specs.declared.multipliers.Part.{Part}
+use Rattle.linear_program.specs.declared.multipliers.Part.{Part}
 use Rattle.row_book.specs.Sizes.{end_size}
 use Rattle.row_book.specs.PartRows.{coef_at, constant_at}
 use Rattle.row_book.specs.PartSums.{constants_of, rest_of, rest_weight_of, number_of, weight_of, part_weight}

@@ -14,7 +14,7 @@ use Rattle.row_model.specs.Multipliers as multipliers
 use Rattle.row_model.specs.Boxes.{Box}
 use Rattle.row_model.specs.Variables.{variables, by_number, costs, lows, highs}
 use Rattle.box_space.specs.Views.{shown_part}
-use Rattle.box_space.specs.declared.multipliers.Part.{Part}
+use Rattle.linear_program.specs.declared.multipliers.Part.{Part}
 use Rattle.row_book.specs.PartRows.{coef_at, constant_at}
 use Rattle.row_book.specs.PartSums.{number_of, weight_of}
 use Rattle.row_book.specs.Passing.{AreNarrow, AreSums, HasRoom, IsAdded}

@@ -8,7 +8,7 @@ use Rattle.std.proofs.lemmas.Grind.{get_or-set_at}
 use Rattle.std.proofs.lemmas.List.Sums.{sum_by-cons, sum_by_more_le}
 use Rattle.integers.proofs.Ring.{additive, mul-add}
 use Rattle.integers.proofs.ByList.{int_sum_by_more}
-use Rattle.box_space.specs.declared.terms.Term.{Term}
+use Rattle.linear_program.specs.declared.terms.Term.{Term}
 use Rattle.integers.proofs.AtKey.{same_or_other, chosen, passed}
 use Rattle.row_book.specs.Sizes.{coef_in, size_in}
 

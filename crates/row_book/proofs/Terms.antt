@@ -9,7 +9,7 @@ use Rattle.integers.proofs.Ring.{additive}
 use Rattle.integers.proofs.AtKey.{same_or_other, chosen, passed}
 use Rattle.integers.proofs.ByList.{int_sum_by-append}
 use Rattle.box_space.specs.Lines.{term_of, terms_from}
-use Rattle.box_space.specs.declared.terms.Term.{Term}
+use Rattle.linear_program.specs.declared.terms.Term.{Term}
 use Rattle.row_book.specs.Sizes.{coef_in, size_in}
 
 -- ---- one variable

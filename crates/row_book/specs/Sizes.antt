@@ -6,7 +6,7 @@ use Rattle.pool_model.specs.Network.{Net}
 use Rattle.row_model.specs.Boxes.{Box}
 use Rattle.row_model.specs.Variables.{by_number, lows, highs}
 use Rattle.box_space.specs.Lines.{Line}
-use Rattle.box_space.specs.declared.terms.Term.{Term}
+use Rattle.linear_program.specs.declared.terms.Term.{Term}
 
 -- the size of the larger end of a variable
 abbrev pub end_size : Net → Box → ℕ → ℕ

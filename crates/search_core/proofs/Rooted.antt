@@ -8,7 +8,7 @@ use Rattle.row_model.specs.Trees.{node_bound}
 use Rattle.row_model.specs.Entries.{Searched}
 use Rattle.box_space.specs.Views.{shown_proof}
 use Rattle.box_space.specs.declared.coordinates.Form.{Form}
-use Rattle.box_space.specs.declared.multipliers.Proof as held
+use Rattle.linear_program.specs.declared.multipliers.Proof as held
 use Rattle.edge_io.specs.declared.Memory.{Memory}
 use Rattle.leaf_cuts.specs.Given.{IsGiven}
 use Rattle.search_core.specs.Cases.{IsRootOpen, IsRootProof, HasNoRootProof}

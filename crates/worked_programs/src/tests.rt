@@ -1,5 +1,5 @@
-use box_space::{Part, Proof, Term};
-use lp_simplex::{Advice, Lp, LpRow, advise, advise_from, start_of_proof};
+use linear_program::{Advice, Lp, LpRow, Part, Proof, Term};
+use lp_simplex::{advise, advise_from, start_of_proof};
 use std::alloc::{AllocError, Global};
 use std::test::Fail;
 

@@ -11,7 +11,7 @@ ghost use Rattle.plan_repair.specs.Repairs.{IsAccepted};
 
 use blend_network::Network;
 use box_space::vars;
-use lp_simplex::Advice;
+use linear_program::Advice;
 use plan_core::{WrittenPlan, cheapest_start, check_plan};
 use plan_repair::repair;
 use std::alloc::Global;

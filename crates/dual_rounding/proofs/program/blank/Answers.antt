@@ -1,7 +1,7 @@
 use Rattle.std.proofs.Common.{ℕ, ◌<◌, List, All, arith, subst, sym}
 use Rattle.pool_model.specs.Network.{net_of}
 use Rattle.row_model.specs.Catalogue.{rows}
-use Rattle.lp_program.specs.declared.lp.LpRow.{LpRow}
+use Rattle.linear_program.specs.declared.lp.LpRow.{LpRow}
 use Rattle.dual_rounding.specs.Programs.{has_row}
 use Rattle.dual_rounding.proofs.FormRows.{All-numbers, All-unmap}
 use Rattle.dual_rounding.proofs.program.blank.Goals as goal

@@ -2,7 +2,7 @@ use Rattle.std.proofs.Common.{◌≡◌, ℕ, ◌<◌, ◌∷◌, ◌++◌, [], 
 use Rattle.std.proofs.lemmas.List.{map-append}
 use Rattle.pool_model.specs.Network.{net_of}
 use Rattle.row_model.specs.Catalogue.{rows}
-use Rattle.lp_program.specs.declared.lp.LpRow.{LpRow}
+use Rattle.linear_program.specs.declared.lp.LpRow.{LpRow}
 use Rattle.dual_rounding.specs.Programs.{has_row}
 use Rattle.dual_rounding.proofs.FormRows.{has_row-yes, has_row-no, passes_more, fails_more}
 use Rattle.dual_rounding.proofs.program.blank_rows.Goals as goal

@@ -1,7 +1,7 @@
 use Rattle.std.proofs.Common.{◌<◌, map, drop, length, vec_len, arith, ap, ◌∙◌}
 use Rattle.pool_model.specs.Network.{net_of}
 use Rattle.row_model.specs.Catalogue.{rows}
-use Rattle.lp_program.specs.declared.lp.LpRow.{LpRow}
+use Rattle.linear_program.specs.declared.lp.LpRow.{LpRow}
 use Rattle.dual_rounding.proofs.FormRows.{All-along}
 use Rattle.dual_rounding.proofs.Written.{All-whole}
 use Rattle.dual_rounding.proofs.program.write.Goals as goal

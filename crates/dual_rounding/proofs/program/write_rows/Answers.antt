@@ -3,7 +3,7 @@ use Rattle.std.proofs.lemmas.List.{take_all}
 use Rattle.pool_model.specs.Network.{net_of}
 use Rattle.row_model.specs.Catalogue.{rows}
 use Rattle.box_space.specs.Views.{shown_box}
-use Rattle.lp_program.specs.declared.lp.LpRow.{LpRow}
+use Rattle.linear_program.specs.declared.lp.LpRow.{LpRow}
 use Rattle.dual_rounding.specs.Programs.{IsRowIn}
 use Rattle.dual_rounding.proofs.FormRows.{All-along}
 use Rattle.dual_rounding.proofs.Written.{map-set_same, All-written}

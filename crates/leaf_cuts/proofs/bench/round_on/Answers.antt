@@ -3,7 +3,7 @@ use mir.Syntax.{w128}
 use Rattle.pool_model.specs.Network.{net_of}
 use Rattle.row_model.specs.Multipliers.{bound}
 use Rattle.box_space.specs.Views.{shown_box_ends, shown_proof}
-use Rattle.lp_program.specs.declared.lp.Lp.{Lp}
+use Rattle.linear_program.specs.declared.lp.Lp.{Lp}
 use Rattle.dual_rounding.specs.Programs.{IsProgramOf}
 use Rattle.leaf_cuts.specs.Given.{IsGiven}
 use Rattle.leaf_cuts.proofs.Giving.{given-of}

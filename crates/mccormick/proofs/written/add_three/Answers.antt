@@ -1,7 +1,7 @@
 use Rattle.std.proofs.Common.{List, ◌++◌, FitsSigned, rules, ap, ◌∙◌}
 use Rattle.std.proofs.lemmas.Int.{to_z-of_z}
 use mir.Syntax.{w128}
-use Rattle.box_space.specs.declared.terms.Term.{Term}
+use Rattle.linear_program.specs.declared.terms.Term.{Term}
 use Rattle.box_space.specs.Lines.{term_of}
 use Rattle.mccormick.proofs.ThreeTerms.{rising}
 use Rattle.mccormick.proofs.written.add_three.Goals as goal

@@ -2,7 +2,7 @@ use Rattle.std.proofs.Common.{FitsSigned, rules, ap, ◌∙◌}
 use Rattle.std.proofs.lemmas.Int.{to_z-of_z}
 use mir.Syntax.{w128}
 use Rattle.row_model.specs.Envelopes.{Side}
-use Rattle.box_space.specs.declared.terms.Term.{Term}
+use Rattle.linear_program.specs.declared.terms.Term.{Term}
 use Rattle.box_space.specs.Lines.{terms_from}
 use Rattle.mccormick.specs.Coefs.{side_coef}
 use Rattle.mccormick.proofs.ThreeTerms.{swapped}

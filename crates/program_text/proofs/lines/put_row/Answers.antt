@@ -6,7 +6,7 @@ use Rattle.edge_io.proofs.Writes.{front-first, front-second, wrote-three}
 use Rattle.pool_model.specs.Network.{net_of}
 use Rattle.row_model.specs.Variables.{variables}
 use Rattle.box_space.specs.Views.{shown_box, shown_kind}
-use Rattle.box_space.specs.declared.terms.Term.{Term}
+use Rattle.linear_program.specs.declared.terms.Term.{Term}
 use Rattle.row_book.specs.PartRows.{coef_at}
 use Rattle.row_book.proofs.Terms.{terms-known}
 use Rattle.program_text.specs.Lines.{row_head, written_term}

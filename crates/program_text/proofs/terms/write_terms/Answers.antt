@@ -1,6 +1,6 @@
 use Rattle.std.proofs.lemmas.Result.{err_from_is_err_and}
 use Rattle.pool_model.specs.Network.{net_of}
-use Rattle.box_space.specs.declared.terms.Term.{Term}
+use Rattle.linear_program.specs.declared.terms.Term.{Term}
 use Rattle.edge_io.proofs.Writes.{front-list}
 use Rattle.program_text.specs.Lines.{written_term}
 use Rattle.program_text.proofs.terms.write_terms.Goals as goal

@@ -1,7 +1,7 @@
 use Rattle.std.proofs.Common.{◌≢◌, pos, length, get_or, arith, ap, rules, sym, ◌∙◌, below_more, FitsSigned, to_z, of_z}
 use Rattle.std.proofs.lemmas.Int.{to_z-of_z}
 use mir.Syntax.{w64}
-use Rattle.box_space.specs.declared.multipliers.Part.{Part}
+use Rattle.linear_program.specs.declared.multipliers.Part.{Part}
 use Rattle.row_book.proofs.AllParts.{never, always, no_part, at_part, all_parts}
 use Rattle.row_book.proofs.ordered.are_nonzero.Goals as goal
 

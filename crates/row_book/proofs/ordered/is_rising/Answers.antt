@@ -1,5 +1,5 @@
 use Rattle.std.proofs.Common.{ℕ, suc, ◌<◌, ◌-◌, List, length, get_or, arith, ap, subst}
-use Rattle.box_space.specs.declared.multipliers.Part.{Part}
+use Rattle.linear_program.specs.declared.multipliers.Part.{Part}
 use Rattle.row_book.proofs.Rising.{rises_more}
 use Rattle.row_book.proofs.AllParts.{never, always, no_part, rising_at, rising_all}
 use Rattle.row_book.proofs.ordered.is_rising.Goals as goal

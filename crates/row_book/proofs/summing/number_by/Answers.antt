@@ -9,7 +9,7 @@ use Rattle.row_model.specs.Boxes.{Box}
 use Rattle.row_model.specs.Catalogue.{Kind, rows}
 use Rattle.row_model.specs.Multipliers.{IsSigned}
 use Rattle.box_space.specs.Views.{shown_part, shown_kind, shown_proof, shown_box}
-use Rattle.box_space.specs.declared.multipliers.Part.{Part}
+use Rattle.linear_program.specs.declared.multipliers.Part.{Part}
 use Rattle.row_book.specs.PartRows.{kind_at}
 use Rattle.row_book.specs.PartSums.{AreInOrder}
 use Rattle.row_book.specs.Passing.{AreNarrow, AreSums, IsAdded}

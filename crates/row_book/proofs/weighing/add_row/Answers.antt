@@ -6,7 +6,7 @@ use Rattle.std.proofs.lemmas.List.Sums.{sum_by_more, sum_by_more_le}
 use mir.Syntax.{w128}
 use Rattle.pool_model.specs.Network.{net_of}
 use Rattle.box_space.specs.Views.{shown_box}
-use Rattle.box_space.specs.declared.terms.Term.{Term}
+use Rattle.linear_program.specs.declared.terms.Term.{Term}
 use Rattle.row_book.specs.Sizes.{end_size, size_in}
 use Rattle.row_book.proofs.Subtracting.{fits_here, one_more}
 use Rattle.row_book.proofs.WeightSums.{size_is, on_err}

@@ -5,7 +5,7 @@ use Rattle.std.proofs.lemmas.Grind.{common_steps}
 use Rattle.leaf_order.specs.Order.{ArePut, IsTakenOut}
 use Rattle.leaf_order.specs.declared.leaf.OpenLeaf.{OpenLeaf}
 use Rattle.box_space.specs.Views.{shown_split}
-use Rattle.box_space.specs.declared.multipliers.Proof.{Proof}
+use Rattle.linear_program.specs.declared.multipliers.Proof.{Proof}
 use Rattle.row_model.specs.Trees.{left_node, right_node, nodes, most_splits, is_cut}
 use Rattle.split_tree.specs.Splits.{Splits}
 use Rattle.box_tree.specs.Kept.{Held, AreSized}

@@ -2,7 +2,7 @@ use Rattle.std.proofs.Common.{Option, option_map, refl, sym, subst}
 use Rattle.std.proofs.lemmas.Result.{err_from_is_err_and}
 use Rattle.pool_model.specs.Network.{net_of}
 use Rattle.box_space.specs.Views.{AreEndsOf, shown_proof, shown_split}
-use Rattle.box_space.specs.declared.multipliers.Proof.{Proof}
+use Rattle.linear_program.specs.declared.multipliers.Proof.{Proof}
 use Rattle.split_tree.specs.Spans.{half_at}
 use Rattle.box_tree.specs.EntryFaults.{IsBadProof}
 use Rattle.box_tree.specs.Kept.{Held}

@@ -3,7 +3,7 @@ use Rattle.pool_model.specs.Network.{net_of}
 use Rattle.row_model.specs.Multipliers.{Proof}
 use Rattle.row_book.specs.Views.{shown_value}
 use Rattle.box_space.specs.Views.{shown_box, shown_part, shown_proof}
-use Rattle.box_space.specs.declared.multipliers.Part.{Part}
+use Rattle.linear_program.specs.declared.multipliers.Part.{Part}
 use Rattle.dual_rounding.specs.Programs.{has_row}
 use Rattle.dual_rounding.specs.Tried.{tried}
 use Rattle.dual_rounding.proofs.FormRows.{All-unmap}

@@ -3,9 +3,8 @@
 //! A variable is its low end plus a power of two times a value from 0 to at most 1; each row and all costs together are
 //! brought to numbers of at most 1. Then one tolerance serves all.
 
-use crate::lp::{Lp, LpRow};
 use crate::scaling::{Merged, RowRange, Widths, range_of};
-use box_space::Term;
+use linear_program::{Lp, LpRow, Term};
 use lp_sparse::fixed::{COEF_BITS, DUAL_BITS, VALUE_BITS, bit_length, clamped, rounded, shifted};
 use lp_sparse::lookup::at;
 use lp_sparse::{Entry, Sparse};

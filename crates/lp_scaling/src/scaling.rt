@@ -3,8 +3,7 @@
 //! Scaling is by powers of two, so that it loses no bit but those that it shifts out. A row that holds at every point of the
 //! box, or at none, is found here and comes to no pivot.
 
-use crate::lp::{Lp, LpRow};
-use box_space::Term;
+use linear_program::{Lp, LpRow, Term};
 use lp_sparse::fixed::bit_length;
 use lp_sparse::lookup::{at, put};
 use std::alloc::{AllocError, Global};

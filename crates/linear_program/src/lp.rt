@@ -1,9 +1,9 @@
 //! Linear programs over a box.
 
 ghost use Rattle.std.specs.Prelude.{◌≡◌};
-ghost use Rattle.lp_program.specs.Columns.{columns_in, NamesColumns};
+ghost use Rattle.linear_program.specs.Columns.{columns_in, NamesColumns};
 
-use box_space::Term;
+use crate::terms::Term;
 
 /// The least `cost`, where each variable lies between `low` and `high` and each row holds.
 #[derive(Debug, Drop)]

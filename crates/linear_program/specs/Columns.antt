@@ -1,6 +1,6 @@
 -- Which numbers name columns of a program.
 use Rattle.std.specs.Prelude.{◌+◌, ◌<◌, ℕ, List, All, filter, nat_lt, vec_len}
-use Rattle.lp_program.specs.declared.lp.Lp.{Lp}
+use Rattle.linear_program.specs.declared.lp.Lp.{Lp}
 
 -- each number of the list is that of a variable of the program or, past the last variable, of a row
 abbrev pub NamesColumns : Lp → List ℕ → Type 0

@@ -1,0 +1,14 @@
+//! Whole parts that make up for what is missing.
+
+ghost use Rattle.std.specs.Prelude.{ℕ, ◌*◌, ◌<◌, ◌≤◌};
+
+/// The least number of parts, of `each`, that make up for what is missing.
+pub fn least_cut(missing: u128, each: u128) -> u128
+    ensures enough { 0 < each → missing ≤ result * each }
+    ensures least { (n : ℕ) → missing ≤ n * each → result ≤ n }
+{
+    if each == 0 {
+        return 0;
+    }
+    missing.div_ceil(each)
+}
