@@ -1,12 +1,10 @@
-//! What the cuts of the tree gained, by coordinate: pseudocosts, as in M. Bénichou et al., Experiments in mixed-integer linear
+//! What the cuts of a tree gained, by coordinate: pseudocosts, as in M. Bénichou et al., Experiments in mixed-integer linear
 //! programming, 1971, read from the bounds of the nodes.
 
 use crate::square_root::square_root;
-use blend_network::Network;
-use box_space::coords;
-use box_tree::Tree;
 use lp_sparse::fixed::clamped;
 use lp_sparse::lookup::{at, put};
+use plan_core::Cost;
 use std::alloc::{AllocError, Global};
 
 /// How much of a gain counts: thousandths of money.
@@ -15,10 +13,10 @@ const GAIN_UNIT: i128 = 1_000_000_000;
 /// What a leaf's bound may rise to while there is no plan, above it: 2^60 picos.
 const FAR_ABOVE: i128 = 1_152_921_504_606_846_976;
 
-/// What no bound of a tree needs to pass, in picos: what the best plan costs, rounded down. Where there is no plan it is far above the
+/// What no bound of a tree needs to pass, in picos: what its best plan costs, rounded down. Where there is no plan it is far above the
 /// bound.
-pub fn cutoff(tree: &Tree, bound: i128) -> i128 {
-    match tree.best_cost() {
+pub fn cutoff(best: Option<Cost>, bound: i128) -> i128 {
+    match best {
         None => bound.saturating_add(FAR_ABOVE),
         Some(cost) => cost
             .num
@@ -37,29 +35,26 @@ pub struct Gains {
 }
 
 impl Gains {
-    /// What the cuts of a network's tree gained so far, up to a cutoff.
-    pub fn of_tree(
-        alloc: Global,
-        net: &Network,
-        tree: &Tree,
-        cutoff: i128,
-    ) -> Result<Gains, AllocError> {
-        let count = coords(net) as usize;
-        let mut gains = Gains {
-            sums: vec![in alloc; 0i128; count]?,
-            counts: vec![in alloc; 0i128; count]?,
+    /// No cut, on this many coordinates.
+    pub fn new(alloc: Global, coords: usize) -> Result<Gains, AllocError> {
+        Ok(Gains {
+            sums: vec![in alloc; 0i128; coords]?,
+            counts: vec![in alloc; 0i128; coords]?,
             sum: 0,
             count: 0,
-        };
-        let mut node = 1u32;
-        for split in tree.splits() {
-            let from = tree.node_bound(split.leaf);
-            let left = gain(from, tree.node_bound(node), cutoff);
-            let right = gain(from, tree.node_bound(node.saturating_add(1)), cutoff);
-            gains.add(split.coord, left, right);
-            node = node.saturating_add(2);
-        }
-        Ok(gains)
+        })
+    }
+
+    /// Adds the cut of a node into its halves, by their bounds up to a cutoff. What has no bound holds no plan.
+    pub fn add_cut(
+        &mut self,
+        coord: u32,
+        node: Option<i128>,
+        halves: [Option<i128>; 2],
+        cutoff: i128,
+    ) {
+        let [left, right] = halves;
+        self.add(coord, gain(node, left, cutoff), gain(node, right, cutoff));
     }
 
     /// Adds a cut: the geometric mean of what its halves gained, and a tenth of the greater.

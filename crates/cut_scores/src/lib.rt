@@ -6,14 +6,15 @@
 //! | Call | What it gives |
 //! |---|---|
 //! | [`violations`] | by how much the products of each coordinate are violated at the point of an advice, weighed by what they are worth |
-//! | [`Gains::of_tree`] | what the cuts of each coordinate gained so far, up to the [`cutoff`] |
+//! | [`Gains::add_cut`] | what the cuts of each coordinate gained so far, cut after cut, up to the [`cutoff`] |
 //! | [`misses`] | the score: both together, and how wide the coordinate still is |
 //!
 //! Nobody has to trust any of it: a cut rule may pick any row, and whatever is cut is proved anew. So all that is promised is that
-//! each call returns, for every tree and every advice, of whatever program. Sums and products wrap or keep to their range, and what is
+//! each call returns, for all bounds and every advice, of whatever program. Sums and products wrap or keep to their range, and what is
 //! not there counts as nothing.
 //!
-//! Which coordinate is cut is left to the rules of `branching`, and when anybody asks for a score, to the crates above.
+//! Which coordinate is cut is left to the rules of `branching`; which cuts there are, and when anybody asks for a score, to the crates
+//! above.
 #![tactic(auto)]
 
 mod gains;

@@ -25,6 +25,7 @@
 
 mod bench;
 mod ends;
+mod gains;
 mod halving;
 mod leaf;
 mod looking;

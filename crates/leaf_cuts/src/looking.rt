@@ -9,6 +9,7 @@ ghost use Rattle.leaf_cuts.specs.Halvings.{IsHalvingOf};
 ghost use Rattle.leaf_cuts.specs.Views.{IsViewOf};
 
 use crate::bench::Bench;
+use crate::gains::gains_of;
 use crate::halving::Halving;
 use crate::leaf::Leaf;
 use crate::view::leaf_view;
@@ -16,7 +17,7 @@ use blend_network::Network;
 use box_space::{can_cut, coords};
 use box_tree::Tree;
 use branching::LeafView;
-use cut_scores::{Gains, cutoff, misses, violations};
+use cut_scores::{cutoff, misses, violations};
 use edge_io::Memory;
 use lp_sparse::fixed::clamped;
 use lp_sparse::lookup::put;
@@ -51,7 +52,7 @@ impl Bench {
             → IfOk result (λ l. All (IsHalvingOf (net_of net.now) self.old.form b leaf.now.bound) l.halvings.items) }
     {
         let mut misses = self.misses(alloc, net, tree, leaf, looks)?;
-        let most = cutoff(tree, leaf.bound);
+        let most = cutoff(tree.best_cost(), leaf.bound);
         self.look_by(alloc, net, leaf, misses.as_mut_slice(), looks, most)
     }
 
@@ -71,7 +72,7 @@ impl Bench {
         }
         let form = self.form;
         let violated = violations(alloc, net, form, self.program(), &leaf.advice)?;
-        let gains = Gains::of_tree(alloc, net, tree, cutoff(tree, leaf.bound))?;
+        let gains = gains_of(alloc, net, tree, cutoff(tree.best_cost(), leaf.bound))?;
         misses(alloc, net, form, &leaf.ends, violated.as_slice(), &gains)
     }
 
