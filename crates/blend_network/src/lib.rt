@@ -1,10 +1,10 @@
-//! Networks: built from the rows of a file, and read by number.
+//! Networks: made from the rows of a file, and read by number.
 //!
-//! A [`Network`] is made by [`Network::build`] from [`Parts`], the rows of a file. It is exactly what the rows say, with names
-//! looked up and absent maxima filled in, or the rows are refused. Contracts see a network as the record of lists
+//! A [`Network`] is made by [`Network::assemble`] from [`Parts`], the rows of a file, and their arcs, where these passed the checks
+//! (`network_checks` does both). It is exactly what the rows say, with names looked up and absent maxima filled in. Contracts see a network as the record of lists
 //! `Network` of `pool_model`; its readers speak of `net_of` that record, where everything goes by number.
 //!
-//! The layer above may use, beside `build`, without memory:
+//! The layer above may use, beside `assemble`, without memory:
 //!
 //! - [`Network::sizes`]: how many there are of each kind, and that the network is within its limits, which bounds every number
 //!   that a reader gives; [`Network::counts`], that it was made from rows with no reason to refuse them, besides.

@@ -14,7 +14,7 @@ use network_parts::{Arc, Kind, Path};
 use number_groups::Groups;
 use std::marker::Model;
 
-mod build;
+mod assemble;
 mod index;
 mod keys;
 mod limits;

@@ -13,6 +13,7 @@ ghost use Rattle.json_walk.specs.declared.fault.ReadNet.TheVariants.{NotJson};
 use crate::tables::network;
 use blend_network::{Network, Parts};
 use json_walk::ReadNet;
+use network_checks::build_network;
 use serde_json::Value;
 use std::alloc::Global;
 
@@ -22,13 +23,13 @@ pub const MAX_TEXT: usize = 4_194_304;
 /// The network that the bytes are a file of, or the first reason why they are none.
 ///
 /// A text longer than `MAX_TEXT` and one that is no JSON are refused first, then the first fault in the order of the walk,
-/// and then what `Network::build` refuses.
+/// and then what `build_network` refuses.
 pub fn read_network(alloc: Global, bytes: &[u8]) -> Result<Network, ReadNet>
     ensures read { IfOk result (ReadAs bytes.now) }
     ensures refused { IfErr result (IsRefusal bytes.now) }
 {
     let parts = read_rows(alloc, bytes)?;
-    Ok(Network::build(alloc, parts)?)
+    Ok(build_network(alloc, parts)?)
 }
 
 /// What the file says, or its first fault.

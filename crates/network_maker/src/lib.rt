@@ -18,13 +18,14 @@ use crate::rows::rows;
 use blend_network::{NetFault, Network};
 use edge_io::Memory;
 pub use laws::{generated_law, worked_draws};
+use network_checks::build_network;
 use std::alloc::Global;
 
 /// The network that this number makes.
 pub fn make_network(alloc: Global, seed: u64) -> Result<Network, Memory>
     ensures network { IfOk result (λ n. n ≡ generated seed) }
 {
-    match Network::build(alloc, rows(alloc, seed)?) {
+    match build_network(alloc, rows(alloc, seed)?) {
         Ok(network) => Ok(network),
         Err(fault) => match fault {
             NetFault::Memory => Err(Memory),

@@ -1,9 +1,3 @@
 pub mod Mapped
-pub mod NameTables
 pub mod Lookups
-pub mod Order
-pub mod Refusals
-pub mod ArcRefusals
 pub mod Joined
-pub mod Conditions
-pub mod PathLists

@@ -1,6 +1,5 @@
 pub mod Parts
 pub mod Views
-pub mod Names
 pub mod Nodes
 pub mod Faults
 pub mod FirstFault

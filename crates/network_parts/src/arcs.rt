@@ -1,22 +1,7 @@
-//! The arcs of a file, with the names of their ends looked up.
+//! Arcs and paths by numbers, and the nodes at the ends of an arc.
 
-ghost use Rattle.std.specs.Prelude.{◌≡◌, ◌≢◌, ℕ, ◌<◌, ◌≤◌, map, length, IfOk, OnOk, IfErr, ◌↔◌, IsTrue, Contains};
-ghost use Rattle.std.specs.List.{filter_map};
-ghost use Rattle.network_parts.specs.Parts.{rows_of, arc_ends};
-ghost use Rattle.network_parts.specs.Views.{kept_arc};
-ghost use Rattle.std.specs.Option.{option_map};
-ghost use Rattle.network_parts.specs.Names.{names_in};
-ghost use Rattle.network_parts.specs.Faults.{node_names, IsUnknownName};
-ghost use Rattle.network_parts.specs.Ready.{IsCounted, IsDistinct, AreEndsOf, IsMarked, IsRepeatedEnds, AreArcsOf};
-ghost use Rattle.faults.specs.First.{IsFirstOf};
-ghost use Rattle.network_parts.specs.Nodes.{node_of, both_ends, known, node_by_place, feed_between, out_between, direct_between, is_backward, is_between_pools};
-
-use crate::fault::NetFault;
-use crate::names::find_name;
-use crate::parts::Parts;
-use crate::paths::paths_from;
-use indexmap::IndexSet;
-use std::alloc::{AllocError, Global};
+ghost use Rattle.std.specs.Prelude.{◌≡◌};
+ghost use Rattle.network_parts.specs.Nodes.{is_backward, is_between_pools};
 
 /// An arc, by the numbers of its two ends.
 #[derive(Clone, Copy, Debug)]
@@ -52,7 +37,7 @@ impl Arc {
 
 /// A node, by its number in its kind.
 #[derive(Clone, Copy, PartialEq, Eq)]
-pub(crate) enum Node {
+pub enum Node {
     Source(u32),
     Pool(u32),
     Product(u32),
@@ -60,81 +45,24 @@ pub(crate) enum Node {
 
 /// The nodes at the two ends of an arc.
 #[derive(Clone, Copy, PartialEq, Eq)]
-pub(crate) struct Ends {
-    from: Node,
-    to: Node,
+pub struct Ends {
+    pub from: Node,
+    pub to: Node,
 }
 
 impl Ends {
-    fn is_backward(self) -> bool
+    /// It starts at a product or ends at a source.
+    pub fn is_backward(self) -> bool
         ensures { result ≡ is_backward self }
     {
         matches!(self.from, Node::Product(_)) || matches!(self.to, Node::Source(_))
     }
 
-    fn is_between_pools(self) -> bool
+    /// It goes from a pool to a pool.
+    pub fn is_between_pools(self) -> bool
         ensures { result ≡ is_between_pools self }
     {
         matches!(self.from, Node::Pool(_)) && matches!(self.to, Node::Pool(_))
-    }
-}
-
-/// The ends of each arc. Refuses the first arc with an end that names no node.
-pub(crate) fn ends_of(
-    alloc: Global,
-    parts: &Parts,
-    names: &IndexSet<&str>,
-) -> Result<Vec<Ends>, NetFault>
-    requires counted { IsCounted (rows_of parts.now) }
-    requires names { names_in names.now ≡ node_names (rows_of parts.now) }
-    ensures ends { IfOk result (λ ends. AreEndsOf (rows_of parts.now) ends.items) }
-    ensures first { IfErr result (λ fault. fault ≢ NetFault.Memory → IsFirstOf NetFault.UnknownName (IsUnknownName (rows_of parts.now)) fault) }
-{
-    let mut ends = Vec::new(alloc);
-    for (n, arc) in parts.arcs.iter().enumerate() {
-        let Some(pair) = find_ends(parts, names, arc.0.as_str(), arc.1.as_str()) else {
-            return Err(NetFault::UnknownName(n as u32));
-        };
-        ends.push(pair)?;
-    }
-    Ok(ends)
-}
-
-/// The nodes that have these names, if both have one.
-fn find_ends(parts: &Parts, names: &IndexSet<&str>, from: &str, to: &str) -> Option<Ends>
-    requires names { names_in names.now ≡ node_names (rows_of parts.now) }
-    requires count { length (node_names (rows_of parts.now)) ≤ 256 }
-    ensures { result ≡ both_ends (node_of (rows_of parts.now) from.now) (node_of (rows_of parts.now) to.now) }
-{
-    let from = find_node(parts, names, from)?;
-    let to = find_node(parts, names, to)?;
-    Some(Ends { from, to })
-}
-
-/// The node that has this name.
-fn find_node(parts: &Parts, names: &IndexSet<&str>, name: &str) -> Option<Node>
-    requires names { names_in names.now ≡ node_names (rows_of parts.now) }
-    requires count { length (node_names (rows_of parts.now)) ≤ 256 }
-    ensures { result ≡ node_of (rows_of parts.now) name.now }
-{
-    let n = find_name(names, name)?;
-    Some(node_at(
-        n as u32,
-        parts.sources.len() as u32,
-        parts.pools.len() as u32,
-    ))
-}
-
-/// The node at a place among the sources, then the pools, then the products.
-fn node_at(n: u32, sources: u32, pools: u32) -> Node
-    ensures { result ≡ node_by_place sources pools n }
-{
-    if n < sources {
-        Node::Source(n)
-    } else if n - sources < pools {
-        Node::Pool(n - sources)
-    } else {
-        Node::Product(n - sources - pools)
     }
 }
 
@@ -145,125 +73,4 @@ pub struct Arcs {
     pub outs: Vec<Arc>,
     pub directs: Vec<Arc>,
     pub paths: Vec<Path>,
-}
-
-/// The arcs of the rows, whose ends are these.
-pub(crate) fn arcs_from(alloc: Global, parts: &Parts, ends: &[Ends]) -> Result<Arcs, AllocError>
-    requires counted { IsCounted (rows_of parts.now) }
-    requires distinct { IsDistinct (rows_of parts.now) }
-    requires found { AreEndsOf (rows_of parts.now) ends.now }
-    ensures { IfOk result (AreArcsOf (rows_of parts.now)) }
-{
-    let feeds = feeds_of(alloc, ends)?;
-    let outs = outs_of(alloc, ends)?;
-    let directs = directs_of(alloc, ends)?;
-    let paths = paths_from(alloc, parts.pools.len() as u32, &feeds, &outs)?;
-    Ok(Arcs {
-        feeds,
-        outs,
-        directs,
-        paths,
-    })
-}
-
-/// The feeds among the arcs.
-fn feeds_of(alloc: Global, ends: &[Ends]) -> Result<Vec<Arc>, AllocError>
-    ensures { IfOk result (λ v. v.items ≡ filter_map (λ e. option_map kept_arc (feed_between (known e))) ends.now) }
-{
-    ends.iter()
-        .filter_map(|pair| feed_from(*pair))
-        .collect(alloc)
-}
-
-fn feed_from(ends: Ends) -> Option<Arc>
-    ensures { result ≡ option_map kept_arc (feed_between (known ends)) }
-{
-    match (ends.from, ends.to) {
-        (Node::Source(from), Node::Pool(to)) => Some(Arc { from, to }),
-        _ => None,
-    }
-}
-
-/// The outs among the arcs.
-fn outs_of(alloc: Global, ends: &[Ends]) -> Result<Vec<Arc>, AllocError>
-    ensures { IfOk result (λ v. v.items ≡ filter_map (λ e. option_map kept_arc (out_between (known e))) ends.now) }
-{
-    ends.iter()
-        .filter_map(|pair| out_from(*pair))
-        .collect(alloc)
-}
-
-fn out_from(ends: Ends) -> Option<Arc>
-    ensures { result ≡ option_map kept_arc (out_between (known ends)) }
-{
-    match (ends.from, ends.to) {
-        (Node::Pool(from), Node::Product(to)) => Some(Arc { from, to }),
-        _ => None,
-    }
-}
-
-/// The directs among the arcs.
-fn directs_of(alloc: Global, ends: &[Ends]) -> Result<Vec<Arc>, AllocError>
-    ensures { IfOk result (λ v. v.items ≡ filter_map (λ e. option_map kept_arc (direct_between (known e))) ends.now) }
-{
-    ends.iter()
-        .filter_map(|pair| direct_from(*pair))
-        .collect(alloc)
-}
-
-fn direct_from(ends: Ends) -> Option<Arc>
-    ensures { result ≡ option_map kept_arc (direct_between (known ends)) }
-{
-    match (ends.from, ends.to) {
-        (Node::Source(from), Node::Product(to)) => Some(Arc { from, to }),
-        _ => None,
-    }
-}
-
-/// Refuses the first arc that starts at a product or ends at a source.
-pub(crate) fn check_forward(ends: &[Ends]) -> Result<(), NetFault>
-    requires { length ends.now ≤ 256 }
-    ensures none { OnOk result ((n : ℕ) → ¬ IsMarked is_backward ends.now n) }
-    ensures first { IfErr result (IsFirstOf NetFault.ArcBackwards (IsMarked is_backward ends.now)) }
-{
-    for n in 0..ends.len() {
-        if ends[n].is_backward() {
-            return Err(NetFault::ArcBackwards(n as u32));
-        }
-    }
-    Ok(())
-}
-
-/// Refuses the first arc from a pool to a pool.
-pub(crate) fn check_layers(ends: &[Ends]) -> Result<(), NetFault>
-    requires { length ends.now ≤ 256 }
-    ensures none { OnOk result ((n : ℕ) → ¬ IsMarked is_between_pools ends.now n) }
-    ensures first { IfErr result (IsFirstOf NetFault.PoolToPool (IsMarked is_between_pools ends.now)) }
-{
-    for n in 0..ends.len() {
-        if ends[n].is_between_pools() {
-            return Err(NetFault::PoolToPool(n as u32));
-        }
-    }
-    Ok(())
-}
-
-/// Refuses the first arc with the same two ends as an earlier one.
-pub(crate) fn check_repeats(ends: &[Ends]) -> Result<(), NetFault>
-    requires { length ends.now ≤ 256 }
-    ensures none { OnOk result ((n : ℕ) → ¬ IsRepeatedEnds ends.now n) }
-    ensures first { IfErr result (IsFirstOf NetFault.DuplicateArc (IsRepeatedEnds ends.now)) }
-{
-    for n in 0..ends.len() {
-        if is_among(&ends[..n], ends[n]) {
-            return Err(NetFault::DuplicateArc(n as u32));
-        }
-    }
-    Ok(())
-}
-
-fn is_among(ends: &[Ends], pair: Ends) -> bool
-    ensures { IsTrue result ↔ Contains ends.now pair }
-{
-    ends.contains(&pair)
 }

@@ -1,6 +1,7 @@
 //! Rows that are refused, each for its first fault.
 
-use network_parts::{Kind, NetFault, Parts, PoolRow, ProductRow, SourceRow, checked_arcs};
+use network_checks::checked_arcs;
+use network_parts::{Kind, NetFault, Parts, PoolRow, ProductRow, SourceRow};
 use std::alloc::{AllocError, Global};
 use std::test::Fail;
 

@@ -7,8 +7,8 @@ use Rattle.network_maker.specs.Generated.{generated}
 use Rattle.network_maker.proofs.Faultless.{rectangular, faultless, no_fault, same_network}
 use Rattle.network_maker.proofs.make_network.Goals as goal
 
-pub build-requires : goal.build-requires
-build-requires c = subst IsRectangular (sym c.in_ok-rows.ensures) (rectangular c.args.seed)
+pub build_network-requires : goal.build_network-requires
+build_network-requires c = subst IsRectangular (sym c.in_ok-rows.ensures) (rectangular c.args.seed)
 
 pub unreachable-requires : goal.unreachable-requires
 unreachable-requires c =

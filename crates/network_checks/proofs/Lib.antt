@@ -1,0 +1,6 @@
+mod NameTables
+mod Order
+mod Refusals
+mod ArcRefusals
+mod Conditions
+mod PathLists

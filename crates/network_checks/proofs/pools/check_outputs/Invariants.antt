@@ -1,0 +1,5 @@
+use Rattle.std.proofs.Common.{◌≡◌, ℕ, ◌<◌, All}
+use Rattle.network_checks.proofs.pools.check_outputs.Given as goal
+
+abbrev pub invariant-loop-pool : goal.invariant-loop-pool
+invariant-loop-pool l = (m : ℕ) → m < l.pool → ¬ All (λ a. ¬ a.from ≡ m) l.outs

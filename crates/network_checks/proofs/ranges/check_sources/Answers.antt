@@ -1,0 +1,9 @@
+use Rattle.std.proofs.Common.{below_more, rules}
+use Rattle.network_parts.specs.Parts.{source_row}
+use Rattle.network_parts.specs.Faults.{IsSourceInRange, no_source_row}
+use Rattle.network_parts.proofs.Mapped.{holds_at}
+use Rattle.network_checks.proofs.ranges.check_sources.Goals as goal
+
+pub loop-n-preserved : goal.loop-n-preserved
+loop-n-preserved c =
+    below_more _ _ c.loop-n.invariant (holds_at IsSourceInRange source_row c.args.rows.now c.loop-n.n c.index-rows-n.result no_source_row c.loop-n-test.true c.index-rows-n.is (search rules))

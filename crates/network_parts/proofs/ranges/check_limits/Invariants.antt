@@ -1,7 +1,0 @@
-use Rattle.std.proofs.Common.{ℕ, ◌<◌, map, get_or}
-use Rattle.network_parts.specs.Parts.{product_row}
-use Rattle.network_parts.specs.Faults.{IsOrderly, no_product_row}
-use Rattle.network_parts.proofs.ranges.check_limits.Given as goal
-
-abbrev pub invariant-loop-n : goal.invariant-loop-n
-invariant-loop-n l = (m : ℕ) → m < l.n → IsOrderly (get_or (map product_row l.rows) m no_product_row)
