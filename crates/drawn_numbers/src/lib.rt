@@ -9,6 +9,3 @@
 mod draws;
 
 pub use draws::Draws;
-
-#[cfg(test)]
-mod tests;

@@ -19,6 +19,3 @@ mod weight;
 pub use frac::{Frac, FracFault};
 pub use ratio::compare_ratio;
 pub use weight::{Weight, Wide};
-
-#[cfg(test)]
-mod tests;

@@ -31,6 +31,3 @@ pub fn first_fault_law<F: Ranked>()
     ensures unique { ((one other : F) → F.rank one ≡ F.rank other → one ≡ other)
         → (s : F.Subject) (one other : F) → IsFirst F.rank (F.Holds s) one → IsFirst F.rank (F.Holds s) other → one ≡ other }
 {}
-
-#[cfg(test)]
-mod tests;

@@ -12,8 +12,6 @@
 
 mod leaf;
 mod order;
-#[cfg(test)]
-mod tests;
 
 pub use leaf::OpenLeaf;
 pub use order::LeafOrder;

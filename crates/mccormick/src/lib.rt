@@ -6,8 +6,6 @@
 #![tactic(auto)]
 
 mod sides;
-#[cfg(test)]
-mod tests;
 mod written;
 
 pub use sides::Ends;

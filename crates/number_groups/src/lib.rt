@@ -11,6 +11,3 @@
 mod groups;
 
 pub use groups::Groups;
-
-#[cfg(test)]
-mod tests;

@@ -16,6 +16,3 @@ mod write;
 
 pub use read::quantity_of;
 pub use write::text_of;
-
-#[cfg(test)]
-mod tests;

@@ -11,6 +11,3 @@
 mod text_buffer;
 
 pub use text_buffer::TextBuffer;
-
-#[cfg(test)]
-mod tests;

@@ -1,13 +1,12 @@
 //! The items of certificates that come in pieces, and the fault that ends them.
 
 use super::{FULL, NO_PLAN, TREE};
-use box_space::{Part, Split};
 use cert_format::{ReadCert, read_cert};
-use cert_stream::{CertReader, Item, ItemFault};
+use cert_stream::{CertReader, ItemFault};
 use cert_text::TextFault;
 use edge_io::{MemShelf, Shelf};
 use std::alloc::{AllocError, Global};
-use std::test::*;
+use std::test::Fail;
 
 /// A shelf of one opened file, which it hands out in pieces of so many bytes. The call of the number `failing` fails; call 0 opened it.
 pub(crate) fn shelf_of(
@@ -24,76 +23,87 @@ pub(crate) fn shelf_of(
     Ok(shelf)
 }
 
-/// The items of a text that comes in pieces of so many bytes, and the fault that ends them.
-fn items_of(
+/// Puts the items that a reader gives behind a text, a line each, and returns the fault that ends them.
+fn read_on(
+    alloc: Global,
+    reader: &mut CertReader,
+    shelf: &mut MemShelf,
+    items: &mut String,
+) -> Result<Option<ItemFault>, AllocError> {
+    while !reader.has_ended() {
+        match reader.next_item(shelf) {
+            Ok(item) => items.push_str(&format!(in alloc; "{item:?}\n")?)?,
+            Err(fault) => return Ok(Some(fault)),
+        }
+    }
+    Ok(None)
+}
+
+/// The same of a text that comes in pieces of so many bytes and may have so many.
+fn read_pieces(
     alloc: Global,
     text: &[u8],
     piece: usize,
     most: u64,
-) -> Result<(Vec<Item>, Option<ItemFault>), Fail> {
+    items: &mut String,
+) -> Result<Option<ItemFault>, Fail> {
     let mut shelf = shelf_of(alloc, text, piece, u64::MAX)?;
     let mut reader = CertReader::start(alloc, most.min(1_000_000))
         .ok()
         .ok_or("no memory")?;
-    let mut items = Vec::new(alloc);
-    while !reader.has_ended() {
-        match reader.next_item(&mut shelf) {
-            Ok(item) => items.push(item)?,
-            Err(fault) => return Ok((items, Some(fault))),
-        }
-    }
-    Ok((items, None))
+    Ok(read_on(alloc, &mut reader, &mut shelf, items)?)
 }
+
+/// The items of `TREE`.
+const ITEMS: &str = "\
+Kind(0)
+Shape([2, 1, 1, 1, 2, 1, 0])
+Bases(1, 1)
+Weight(1)
+Weight(0)
+Outflow(0)
+Splits(2)
+Cut(Split { leaf: 0, coord: 0, cut: 524288 })
+Cut(Split { leaf: 1, coord: 1, cut: 262144 })
+Proofs(1)
+ProofHead(3, 0, 1)
+OnePart(Part { row: 11, mult: 1 })
+CostIs(0, 1)
+BoundIs(-300000000000000)
+GapIs(300000000000000, 1)
+End
+";
 
 #[test]
 fn gives_the_items(rt: HostRuntime) -> Result<(), Fail> {
     let alloc = rt.alloc();
-    let expected = [
-        Item::Kind(0),
-        Item::Shape([2, 1, 1, 1, 2, 1, 0]),
-        Item::Bases(1, 1),
-        Item::Weight(1),
-        Item::Weight(0),
-        Item::Outflow(0),
-        Item::Splits(2),
-        Item::Cut(Split {
-            leaf: 0,
-            coord: 0,
-            cut: 524_288,
-        }),
-        Item::Cut(Split {
-            leaf: 1,
-            coord: 1,
-            cut: 262_144,
-        }),
-        Item::Proofs(1),
-        Item::ProofHead(3, 0, 1),
-        Item::OnePart(Part { row: 11, mult: 1 }),
-        Item::CostIs(0, 1),
-        Item::BoundIs(-300_000_000_000_000),
-        Item::GapIs(300_000_000_000_000, 1),
-        Item::End,
-    ];
     for piece in [1, 7, 65_536] {
-        let (items, fault) = items_of(alloc, TREE.as_bytes(), piece, 1_000)?;
-        assert_eq!(rt; items.as_slice(), expected.as_slice());
+        let mut items = String::new(alloc);
+        let fault = read_pieces(alloc, TREE.as_bytes(), piece, 1_000, &mut items)?;
+        assert_eq!(rt; items.as_str(), ITEMS, "in pieces of {piece}");
         assert_eq!(rt; fault, None);
     }
     Ok(())
 }
 
+/// Whether a text's last item is its end where it may have so many bytes as it has, and it is too long where it may have one less.
+fn ends_in_time(alloc: Global, text: &[u8], piece: usize) -> Result<bool, Fail> {
+    let most = text.len() as u64;
+    let mut items = String::new(alloc);
+    let fault = read_pieces(alloc, text, piece, most, &mut items)?;
+    let ends = fault == None && items.as_str().ends_with("\nEnd\n");
+    let longer = read_pieces(alloc, text, piece, most.saturating_sub(1), &mut items)?;
+    Ok(ends && longer == Some(ItemFault::TooLong))
+}
+
 #[test]
 fn ends_where_the_text_does(rt: HostRuntime) -> Result<(), Fail> {
-    let alloc = rt.alloc();
     for piece in [1, 7, 65_536] {
         for text in [FULL, NO_PLAN, TREE] {
-            let text = text.as_bytes();
-            let most = text.len() as u64;
-            let (items, fault) = items_of(alloc, text, piece, most)?;
-            assert_eq!(rt; fault, None);
-            assert_eq!(rt; items.as_slice().last(), Some(&Item::End));
-            let (_items, fault) = items_of(alloc, text, piece, most.saturating_sub(1))?;
-            assert_eq!(rt; fault, Some(ItemFault::TooLong));
+            assert!(rt;
+                ends_in_time(rt.alloc(), text.as_bytes(), piece)?,
+                "{piece} {text}"
+            );
         }
     }
     Ok(())
@@ -106,8 +116,8 @@ fn agrees(alloc: Global, text: &[u8]) -> Result<bool, Fail> {
         Err(ReadCert::Text(fault)) => Some(ItemFault::Text(fault)),
         Err(ReadCert::Memory) => Some(ItemFault::Read),
     };
-    let (_items, fault) = items_of(alloc, text, 7, 1_000)?;
-    Ok(fault == whole)
+    let mut items = String::new(alloc);
+    Ok(read_pieces(alloc, text, 7, 1_000, &mut items)? == whole)
 }
 
 #[test]
@@ -117,22 +127,31 @@ fn names_the_line_that_reading_the_whole_names(rt: HostRuntime) -> Result<(), Fa
     for at in 0..text.len() {
         let mut changed = Vec::from_slice(alloc, text)?;
         changed[at] = if text[at] == b'0' { b'1' } else { b'0' };
-        assert!(rt; agrees(alloc, &changed)?);
-        assert!(rt; agrees(alloc, &text[..at])?);
+        assert!(rt; agrees(alloc, &changed)?, "at {at}");
+        assert!(rt; agrees(alloc, &text[..at])?, "at {at}");
+    }
+    Ok(())
+}
+
+const LONG: &[u8] = b"poolcert 2\nthis is long";
+
+#[test]
+fn a_fault_waits_for_the_end(rt: HostRuntime) -> Result<(), Fail> {
+    let alloc = rt.alloc();
+    let faulty = ItemFault::Text(TextFault { line: 1 });
+    for (most, fault) in [(22, ItemFault::TooLong), (23, faulty)] {
+        let mut items = String::new(alloc);
+        let told = read_pieces(alloc, LONG, 7, most, &mut items)?;
+        assert_eq!(rt; told, Some(fault));
     }
     Ok(())
 }
 
 #[test]
-fn a_fault_waits_for_the_end(rt: HostRuntime) -> Result<(), Fail> {
+fn a_read_that_fails_is_told(rt: HostRuntime) -> Result<(), Fail> {
     let alloc = rt.alloc();
-    let (_items, fault) = items_of(alloc, b"poolcert 2\nthis is long", 7, 22)?;
-    assert_eq!(rt; fault, Some(ItemFault::TooLong));
-    let (_items, fault) = items_of(alloc, b"poolcert 2\nthis is long", 7, 23)?;
-    assert_eq!(rt; fault, Some(ItemFault::Text(TextFault { line: 1 })));
-
     // Call 0 opens the file, so call 3 is the third read.
-    let mut shelf = shelf_of(alloc, b"poolcert 2\nthis is long", 7, 3)?;
+    let mut shelf = shelf_of(alloc, LONG, 7, 3)?;
     let mut reader = CertReader::start(alloc, 1_000).ok().ok_or("no memory")?;
     assert_eq!(rt; reader.next_item(&mut shelf), Err(ItemFault::Read));
     Ok(())

@@ -124,22 +124,14 @@ fn sink_of(alloc: Global, most: usize) -> Counting {
 }
 
 #[test]
-fn writes_a_small_certificate_at_once(rt: HostRuntime) -> Result<(), Fail> {
+fn writes_a_small_certificate_at_once_or_in_small_bites(rt: HostRuntime) -> Result<(), Fail> {
     let alloc = rt.alloc();
-    let mut sink = sink_of(alloc, usize::MAX);
-    assert_eq!(rt; write_one_direct(alloc, &mut sink)?, Ok(()));
-    assert_eq!(rt; sink.bytes.as_slice(), FULL.as_bytes());
-    assert_eq!(rt; sink.calls, 1);
-    Ok(())
-}
-
-#[test]
-fn writes_to_a_sink_of_small_bites(rt: HostRuntime) -> Result<(), Fail> {
-    let alloc = rt.alloc();
-    let mut sink = sink_of(alloc, 3);
-    assert_eq!(rt; write_one_direct(alloc, &mut sink)?, Ok(()));
-    assert_eq!(rt; sink.bytes.as_slice(), FULL.as_bytes());
-    assert_eq!(rt; sink.calls, 54);
+    for (most, calls) in [(usize::MAX, 1), (3, 54)] {
+        let mut sink = sink_of(alloc, most);
+        let written = write_one_direct(alloc, &mut sink)?;
+        assert_eq!(rt; (written, sink.calls), (Ok(()), calls));
+        assert_eq!(rt; sink.bytes.as_slice(), FULL.as_bytes());
+    }
     Ok(())
 }
 

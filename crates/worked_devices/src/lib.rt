@@ -9,6 +9,8 @@ mod parts;
 pub use parts::disk_of;
 
 #[cfg(test)]
+mod buffers;
+#[cfg(test)]
 mod disks;
 #[cfg(test)]
 mod files;

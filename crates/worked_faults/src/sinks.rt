@@ -1,11 +1,12 @@
 //! Runs over a sink that takes so many bytes and no more, for every number of bytes below the text's length.
 
+use disk_model::MemDisk;
 use edge_io::MemSink;
 use std::alloc::Global;
 use std::test::Fail;
 use worked_certificates::FULL;
 use worked_networks::ONE_DIRECT;
-use worked_runs::ended_on;
+use worked_runs::{ended_on, told};
 
 /// The line on the certificate, and what a person reads of it.
 pub(crate) const LINE: &str =
@@ -19,28 +20,37 @@ const REPORT: &str =
 const PROGRAM: &str =
     "program pq\nmin z0 -3000000\nends z0 0 100000000\nrow 0 ge 100000000 z0 -1\nrow 1 ge 100000000 z0 -1\nrow 2 ge 0 z0 1\nrow 4 ge 0\nend\n";
 
+/// How a run ends over a sink with room for so many bytes: its code and, behind a space, what the sink has then.
+fn cut(alloc: Global, asked: &str, room: u64) -> Result<String, Fail> {
+    let mut sink = MemSink::limit(alloc, room)?;
+    let mut disk = MemDisk::new(alloc, Vec::new(alloc));
+    let status = ended_on(alloc, asked, [ONE_DIRECT, FULL], &mut sink, &mut disk)?;
+    Ok(told(alloc, status.code(), &sink)?)
+}
+
 /// Whether a sink that is full before the text's end has exactly the front that it has room for, and one that is full at the end all
 /// of it.
 fn is_cut_at_each_byte(alloc: Global, asked: &str, text: &str) -> Result<bool, Fail> {
-    for room in 0..text.len() {
-        let mut sink = MemSink::limit(alloc, room as u64)?;
-        let code = ended_on(alloc, asked, ONE_DIRECT, FULL.as_bytes(), &mut sink)?.code();
-        if code != 21 || Some(sink.taken()) != text.as_bytes().get(..room) {
+    for room in 0..=text.len() {
+        let told = cut(alloc, asked, room as u64)?;
+        let code = if room < text.len() { "21 " } else { "0 " };
+        if told.as_str().strip_prefix(code) != text.get(..room) {
             return Ok(false);
         }
     }
-    let mut sink = MemSink::limit(alloc, text.len() as u64)?;
-    let code = ended_on(alloc, asked, ONE_DIRECT, FULL.as_bytes(), &mut sink)?.code();
-    Ok(code == 0 && sink.taken() == text.as_bytes())
+    Ok(true)
 }
 
 #[test]
 fn a_sink_that_is_full_has_a_front_of_the_text(rt: HostRuntime) -> Result<(), Fail> {
-    let alloc = rt.alloc();
-    assert!(rt; is_cut_at_each_byte(alloc, "solve net", FULL)?);
-    assert!(rt; is_cut_at_each_byte(alloc, "solve net --journal j", FULL)?);
-    assert!(rt; is_cut_at_each_byte(alloc, "check net cert", LINE)?);
-    assert!(rt; is_cut_at_each_byte(alloc, "report net cert", REPORT)?);
-    assert!(rt; is_cut_at_each_byte(alloc, "formulate net", PROGRAM)?);
+    for (asked, text) in [
+        ("solve net", FULL),
+        ("solve net --journal j", FULL),
+        ("check net cert", LINE),
+        ("report net cert", REPORT),
+        ("formulate net", PROGRAM),
+    ] {
+        assert!(rt; is_cut_at_each_byte(rt.alloc(), asked, text)?, "of {asked}");
+    }
     Ok(())
 }

@@ -82,10 +82,7 @@ fn the_finished_file_has_these_bytes(rt: HostRuntime) -> Result<(), Fail> {
     assert_eq!(rt; record(alloc, &mut disk), Ok(()));
     let image = disk.image(disk.moment(), 0).ok().ok_or("no memory")?;
     assert_eq!(rt; image.len(), 260);
-    let mut whole = Vec::from_slice(alloc, HEAD)?;
-    whole.extend_from_slice(TEXT)?;
-    whole.extend_from_slice(RECORD)?;
-    whole.push(0)?;
+    let whole = [HEAD, TEXT, RECORD, b"\x00"].concat(alloc)?;
     assert_eq!(rt; image.as_slice(), whole.as_slice());
     Ok(())
 }
@@ -111,34 +108,34 @@ fn a_stop_in_any_call_leaves_no_part_of_an_entry(rt: HostRuntime) -> Result<(), 
 }
 
 #[test]
-fn a_file_is_read_as_what_it_is(rt: HostRuntime) -> Result<(), Fail> {
+fn a_file_is_read_as_what_it_is(rt: HostRuntime) {
     let alloc = rt.alloc();
-    let whole = entries_of(alloc, &[HEAD, TEXT, RECORD, RECORD, b"\x00\x01"]);
-    assert_eq!(rt; whole, Ok(2));
-    assert_eq!(rt; entries_of(alloc, &[HEAD, TEXT, RECORD]), Ok(1));
-    assert_eq!(rt; entries_of(alloc, &[b"\x01"]), Ok(0));
-    assert_eq!(rt; entries_of(alloc, &[b"\x02POOLJNL and more"]), Ok(0));
-    let bad = entries_of(
-        alloc,
-        &[HEAD, TEXT, RECORD, RECORD, b"\x01\x00\x00\x00\x01\x09\x00"],
-    );
-    assert_eq!(rt; bad, Err(JournalFault::BadRecord(2)));
-    let other = entries_of(alloc, &[HEAD, TEXT, b"\x00"]);
-    assert_eq!(rt; other, Ok(0));
-    assert_eq!(rt;
+    let unknown = b"\x01\x00\x00\x00\x01\x09\x00".as_slice();
+    let told = [
+        entries_of(alloc, &[HEAD, TEXT, RECORD, RECORD, b"\x00\x01"]),
+        entries_of(alloc, &[HEAD, TEXT, RECORD]),
+        entries_of(alloc, &[b"\x01"]),
+        entries_of(alloc, &[b"\x02POOLJNL and more"]),
+        entries_of(alloc, &[HEAD, TEXT, RECORD, RECORD, unknown]),
+        entries_of(alloc, &[HEAD, TEXT, b"\x00"]),
         entries_of(alloc, &[HEAD, b"{}", TEXT]),
-        Err(JournalFault::OtherNetwork)
-    );
-    assert_eq!(rt;
         entries_of(alloc, &[b"\x01POOLJNL\x07"]),
-        Err(JournalFault::UnknownVersion(7))
-    );
-    assert_eq!(rt;
         entries_of(alloc, &[b"\x01POOLJNL"]),
-        Err(JournalFault::UnknownVersion(0))
-    );
-    assert_eq!(rt; entries_of(alloc, &[TEXT]), Err(JournalFault::NotAJournal));
-    Ok(())
+        entries_of(alloc, &[TEXT]),
+    ];
+    let expected = [
+        Ok(2),
+        Ok(1),
+        Ok(0),
+        Ok(0),
+        Err(JournalFault::BadRecord(2)),
+        Ok(0),
+        Err(JournalFault::OtherNetwork),
+        Err(JournalFault::UnknownVersion(7)),
+        Err(JournalFault::UnknownVersion(0)),
+        Err(JournalFault::NotAJournal),
+    ];
+    assert_eq!(rt; told, expected);
 }
 
 /// 45 rows, two feeds, two outs, two directs.

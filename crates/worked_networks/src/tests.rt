@@ -12,12 +12,13 @@ use blend_network::{Key, Kind, LimitSide, Network};
 use std::alloc::{AllocError, Global};
 use std::test::Fail;
 
-/// The counts, the paths, the limits of either side, and the reach bound in millions of millions of picos.
-fn shape(alloc: Global, net: &Network) -> Result<String, AllocError> {
+/// Tells the counts, the paths, the limits of either side, and the reach bound in millions of millions of picos.
+fn shape(alloc: Global, net: &Network, told: &mut String) -> Result<(), AllocError> {
     let most = net.count_limits(LimitSide::Most);
     let least = net.count_limits(LimitSide::Least);
     let bound = net.reach_bound() / 1_000_000_000_000;
-    format!(in alloc; "{:?} {} {most} {least} {bound}", net.counts(), net.paths())
+    told.push_str(&format!(in alloc; "{:?} {}", net.counts(), net.paths())?)?;
+    told.push_str(&format!(in alloc; " {most} {least} {bound}\n")?)
 }
 
 #[test]
@@ -37,8 +38,7 @@ fn counts_limits_and_bounds(rt: HostRuntime) -> Result<(), Fail> {
         FAR_APART,
         AS_TRIALS,
     ] {
-        shapes.push_str(&shape(alloc, &network(alloc, text)?)?)?;
-        shapes.push('\n')?;
+        shape(alloc, &network(alloc, text)?, &mut shapes)?;
     }
     let expected = "[0, 0, 0, 0, 0, 0, 0] 0 0 0 0
 [1, 0, 1, 1, 0, 0, 1] 0 1 0 -300
@@ -81,73 +81,85 @@ fn product(alloc: Global, net: &Network, j: u32) -> Result<String, AllocError>
     format!(in alloc; "{price} {min} {max} {least:?} {most:?}\n")
 }
 
-/// The arcs and the paths, by their ends.
-fn ends(alloc: Global, net: &Network) -> Result<String, AllocError> {
-    let mut text = String::new(alloc);
+/// Tells the arcs and the paths, by their ends.
+fn ends(alloc: Global, net: &Network, told: &mut String) -> Result<(), AllocError> {
     let counts = net.sizes();
     for e in 0..counts.feeds {
-        text.push_str(&format!(in alloc; "feed {:?}\n", net.feed(e))?)?;
+        told.push_str(&format!(in alloc; "feed {:?}\n", net.feed(e))?)?;
     }
     for o in 0..counts.outs {
-        text.push_str(&format!(in alloc; "out {:?}\n", net.out(o))?)?;
+        told.push_str(&format!(in alloc; "out {:?}\n", net.out(o))?)?;
     }
     for e in 0..counts.directs {
-        text.push_str(&format!(in alloc; "direct {:?}\n", net.direct(e))?)?;
+        told.push_str(&format!(in alloc; "direct {:?}\n", net.direct(e))?)?;
     }
     for p in 0..counts.paths {
-        let arcs = net.path(p);
-        text.push_str(&format!(in alloc; "path {arcs:?} {:?}\n", net.path_ends(p))?)?;
+        told.push_str(&format!(in alloc; "path {:?} {:?}\n", net.path(p), net.path_ends(p))?)?;
     }
-    Ok(text)
+    Ok(())
 }
 
-/// The arcs or paths that have each of this many nodes.
-fn numbers(alloc: Global, net: &Network, key: Key, nodes: u32) -> Result<String, AllocError>
+/// Tells the arcs or paths that have each of this many nodes.
+fn numbers(
+    alloc: Global,
+    net: &Network,
+    key: Key,
+    nodes: u32,
+    told: &mut String,
+) -> Result<(), AllocError>
     requires { nodes ≤ nodes_of (net_of net.now) key }
 {
-    let mut text = String::new(alloc);
     for node in 0..nodes {
-        text.push_str(&format!(in alloc; " {:?}", net.numbers_at(key, node))?)?;
+        told.push_str(&format!(in alloc; " {:?}", net.numbers_at(key, node))?)?;
     }
-    Ok(text)
+    Ok(())
 }
 
-/// The same of every node of every key.
-fn all_numbers(alloc: Global, net: &Network) -> Result<String, AllocError> {
+/// Tells the same of every node of every key.
+fn all_numbers(alloc: Global, net: &Network, told: &mut String) -> Result<(), AllocError> {
     let counts = net.sizes();
-    let mut text = String::new(alloc);
-    text.push_str(&numbers(alloc, net, Key::FeedsFrom, counts.sources)?)?;
-    text.push_str(&numbers(alloc, net, Key::FeedsInto, counts.pools)?)?;
-    text.push_str(&numbers(alloc, net, Key::OutsFrom, counts.pools)?)?;
-    text.push_str(&numbers(alloc, net, Key::OutsInto, counts.products)?)?;
-    text.push_str(&numbers(alloc, net, Key::DirectsFrom, counts.sources)?)?;
-    text.push_str(&numbers(alloc, net, Key::DirectsInto, counts.products)?)?;
-    text.push_str(&numbers(alloc, net, Key::PathsFrom, counts.feeds)?)?;
-    text.push_str(&numbers(alloc, net, Key::PathsAlong, counts.outs)?)?;
-    text.push_str(&numbers(alloc, net, Key::PathsInto, counts.products)?)?;
-    Ok(text)
+    numbers(alloc, net, Key::FeedsFrom, counts.sources, told)?;
+    numbers(alloc, net, Key::FeedsInto, counts.pools, told)?;
+    numbers(alloc, net, Key::OutsFrom, counts.pools, told)?;
+    numbers(alloc, net, Key::OutsInto, counts.products, told)?;
+    numbers(alloc, net, Key::DirectsFrom, counts.sources, told)?;
+    numbers(alloc, net, Key::DirectsInto, counts.products, told)?;
+    numbers(alloc, net, Key::PathsFrom, counts.feeds, told)?;
+    numbers(alloc, net, Key::PathsAlong, counts.outs, told)?;
+    numbers(alloc, net, Key::PathsInto, counts.products, told)
 }
 
-/// The limits of a side.
-fn limits(alloc: Global, net: &Network, side: LimitSide) -> Result<String, AllocError> {
-    let mut text = String::new(alloc);
+/// Tells the limits of a side, each behind a word for it.
+fn limits(
+    alloc: Global,
+    net: &Network,
+    side: LimitSide,
+    word: &str,
+    told: &mut String,
+) -> Result<(), AllocError> {
     for n in 0..net.count_limits(side) {
         let limit = net.limit_at(side, n);
-        text.push_str(&format!(in alloc;
-            "{} {} {}\n",
+        told.push_str(&format!(in alloc;
+            "{word} {} {} {}\n",
             limit.product, limit.quality, limit.limit
         )?)?;
     }
-    Ok(text)
+    Ok(())
+}
+
+/// Tells all of that of a network.
+fn read_back(alloc: Global, net: &Network, told: &mut String) -> Result<(), AllocError> {
+    ends(alloc, net, told)?;
+    limits(alloc, net, LimitSide::Most, "most", told)?;
+    limits(alloc, net, LimitSide::Least, "least", told)?;
+    all_numbers(alloc, net, told)
 }
 
 #[test]
 fn two_pools_are_read_back(rt: HostRuntime) -> Result<(), Fail> {
-    let alloc = rt.alloc();
-    let net = network(alloc, TWO_POOLS)?;
-    assert_eq!(rt;
-        ends(alloc, &net)?.as_str(),
-        "feed (0, 0)
+    let mut told = String::new(rt.alloc());
+    read_back(rt.alloc(), &network(rt.alloc(), TWO_POOLS)?, &mut told)?;
+    let expected = "feed (0, 0)
 feed (1, 1)
 feed (1, 0)
 out (0, 0)
@@ -160,26 +172,12 @@ path (0, 2) (0, 1)
 path (2, 0) (1, 0)
 path (2, 2) (1, 1)
 path (1, 1) (1, 1)
-"
-    );
-    assert_eq!(rt;
-        limits(alloc, &net, LimitSide::Most)?.as_str(),
-        "0 0 2500000\n1 1 800000\n"
-    );
-    assert_eq!(rt;
-        limits(alloc, &net, LimitSide::Least)?.as_str(),
-        "0 0 1500000\n0 1 600000\n"
-    );
-    Ok(())
-}
-
-#[test]
-fn what_meets_each_node(rt: HostRuntime) -> Result<(), Fail> {
-    let alloc = rt.alloc();
-    let net = network(alloc, TWO_POOLS)?;
-    let expected =
-        " [0] [1, 2] [0, 2] [1] [0, 2] [1] [0] [1, 2] [0] [1] [1] [0] [0, 1] [4] [2, 3] [0, 2] [4] [1, 3] [0, 2] [1, 3, 4]";
-    assert_eq!(rt; all_numbers(alloc, &net)?.as_str(), expected);
+most 0 0 2500000
+most 1 1 800000
+least 0 0 1500000
+least 0 1 600000
+ [0] [1, 2] [0, 2] [1] [0, 2] [1] [0] [1, 2] [0] [1] [1] [0] [0, 1] [4] [2, 3] [0, 2] [4] [1, 3] [0, 2] [1, 3, 4]";
+    assert_eq!(rt; told.as_str(), expected);
     Ok(())
 }
 

@@ -9,10 +9,8 @@ mod plans;
 #[cfg(test)]
 mod points;
 #[cfg(test)]
-mod proportions;
-#[cfg(test)]
-mod qualities;
-#[cfg(test)]
 mod reports;
 #[cfg(test)]
 mod trials;
+#[cfg(test)]
+mod ways_back;

@@ -3,6 +3,8 @@
 #![tactic(auto)]
 
 #[cfg(test)]
+mod envelopes;
+#[cfg(test)]
 mod expected_programs;
 #[cfg(test)]
 mod expected_rows;

@@ -1,10 +1,10 @@
-//! What the tests of runs share: runs of the words of a line, and shelves.
+//! What the tests of runs share: shelves, and runs of the words of a line.
 
 ghost use Rattle.std.specs.Prelude.{IsTrue};
 
 use disk_model::{Disk, MemDisk};
 use edge_io::{MemShelf, MemSink};
-use pool_cli::{Status, run};
+use pool_cli::{Status, run, write_message};
 use std::alloc::{AllocError, Global};
 
 /// Words, parted at each space.
@@ -30,29 +30,61 @@ pub fn ended<D: Disk>(
     Ok(run(alloc, &words, shelf, sink, disk))
 }
 
-/// How a run of the words of this line ends, over a network under `net`, a certificate under `cert` and an empty disk.
-pub fn ended_on(
-    alloc: Global,
-    line: &str,
-    network: &str,
-    certificate: &[u8],
-    sink: &mut MemSink,
-) -> Result<Status, AllocError> {
-    let mut shelf = shelf_of(alloc, network, certificate)?;
-    let mut disk = MemDisk::new(alloc, Vec::new(alloc));
-    ended(alloc, line, &mut shelf, sink, &mut disk)
+/// A shelf with a network under `net` and a certificate under `cert`, whose call of the number `failing` fails.
+pub fn shelf_of(alloc: Global, files: [&str; 2], failing: u64) -> Result<MemShelf, AllocError> {
+    let mut held = Vec::new(alloc);
+    for (name, text) in ["net", "cert"].iter().zip(files.iter()) {
+        let name = String::from_str(alloc, name)?;
+        held.push((name, Vec::from_slice(alloc, text.as_bytes())?))?;
+    }
+    Ok(MemShelf::new(held, vec![in alloc; failing]?))
 }
 
-/// A shelf with a network, and a certificate where there is one.
-pub fn shelf_of(alloc: Global, network: &str, certificate: &[u8]) -> Result<MemShelf, AllocError> {
-    let mut files = Vec::new(alloc);
-    files.push((
-        String::from_str(alloc, "net")?,
-        Vec::from_slice(alloc, network.as_bytes())?,
-    ))?;
-    files.push((
-        String::from_str(alloc, "cert")?,
-        Vec::from_slice(alloc, certificate)?,
-    ))?;
-    Ok(MemShelf::new(files, Vec::new(alloc)))
+/// How a run of the words of this line ends over a network and a certificate.
+pub fn ended_on<D: Disk>(
+    alloc: Global,
+    line: &str,
+    files: [&str; 2],
+    sink: &mut MemSink,
+    disk: &mut D,
+) -> Result<Status, AllocError>
+    requires { (name : _) → IsTrue (D.admits disk.old name) }
+{
+    let mut shelf = shelf_of(alloc, files, u64::MAX)?;
+    ended(alloc, line, &mut shelf, sink, disk)
+}
+
+/// The code of such a run and, behind a space, what it printed.
+pub fn answered<D: Disk>(
+    alloc: Global,
+    line: &str,
+    files: [&str; 2],
+    disk: &mut D,
+) -> Result<String, AllocError>
+    requires { (name : _) → IsTrue (D.admits disk.old name) }
+{
+    let mut sink = MemSink::new(alloc, Vec::new(alloc));
+    let code = ended_on(alloc, line, files, &mut sink, disk)?.code();
+    told(alloc, code, &sink)
+}
+
+/// The same over an empty disk.
+pub fn answer(alloc: Global, line: &str, files: [&str; 2]) -> Result<String, AllocError> {
+    let mut disk = MemDisk::new(alloc, Vec::new(alloc));
+    answered(alloc, line, files, &mut disk)
+}
+
+/// A code and, behind a space, what stands in a sink.
+pub fn told(alloc: Global, code: u8, sink: &MemSink) -> Result<String, AllocError> {
+    let printed = str::from_utf8(sink.taken()).unwrap_or("no text");
+    format!(in alloc; "{code} {printed}")
+}
+
+/// A code and, behind a space, the line on standard error, which is written as one piece: a second write would fail.
+pub fn explained(alloc: Global, status: &Status) -> Result<String, AllocError> {
+    let mut err = MemSink::new(alloc, vec![in alloc; 1]?);
+    match write_message(status, &mut err) {
+        Ok(()) => told(alloc, status.code(), &err),
+        Err(_) => String::from_str(alloc, "no line"),
+    }
 }

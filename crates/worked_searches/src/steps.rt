@@ -21,12 +21,10 @@ use worked_networks::{
 /// The picos of one unit of money.
 const MONEY: i128 = 1_000_000_000_000;
 
-/// How a search ended, how many splits its tree has, and its bound and its plan's cost in thousandths, rounded down.
-#[derive(Clone, Copy, Debug, PartialEq, Eq)]
+/// How a search ended, and its plan's cost in thousandths, rounded down.
+#[derive(Clone, Copy)]
 struct End {
     how: &'static str,
-    splits: usize,
-    bound: Option<i128>,
     cost: Option<i128>,
 }
 
@@ -45,12 +43,9 @@ fn run(alloc: Global, net: &Network, search: &mut Search, rule: &CutRule) -> Res
 }
 
 fn end_after(search: &Search, how: &'static str) -> End {
-    let tree = search.tree();
     End {
         how,
-        splits: tree.splits().len(),
-        bound: tree.bound().map(|bound| bound.div_euclid(MONEY / 1_000)),
-        cost: tree.best_cost().map(thousandths),
+        cost: search.tree().best_cost().map(thousandths),
     }
 }
 

@@ -116,28 +116,42 @@ fn a_box_ends_at_the_cuts_above_it(rt: HostRuntime) -> Result<(), Fail> {
     Ok(())
 }
 
-/// The open leaves, up to 9 and up to 1, and the counts of splits.
-fn lists_of(alloc: Global, tree: &Tree) -> Result<[Vec<u32>; 3], Memory> {
-    Ok([
-        tree.open_leaves(9)?,
-        tree.open_leaves(1)?,
-        Vec::from_slice(alloc, tree.cuts())?,
-    ])
+/// Puts the open leaves, up to 9 and up to 1, and the counts of splits behind what was told before, a line each.
+fn tell_lists(alloc: Global, tree: &Tree, told: &mut String) -> Result<(), Memory> {
+    for most in [9, 1] {
+        told.push_str(&format!(in alloc; "{:?}\n", tree.open_leaves(most)?)?)?;
+    }
+    told.push_str(&format!(in alloc; "{:?}\n", tree.cuts())?)?;
+    Ok(())
 }
 
-fn lists(alloc: Global) -> Result<[Vec<u32>; 3], Fail> {
+fn lists(alloc: Global, told: &mut String) -> Result<(), Fail> {
     let net = network(alloc, TWO_FEEDS)?;
     let tree = twice_cut(alloc, &net)?;
-    Ok(lists_of(alloc, &tree)?)
+    Ok(tell_lists(alloc, &tree, told)?)
 }
 
 #[test]
 fn open_leaves_come_by_bound_and_splits_are_counted(rt: HostRuntime) -> Result<(), Fail> {
-    let [nine, one, cuts] = lists(rt.alloc())?;
-    assert_eq!(rt; nine.as_slice(), [2, 4].as_slice());
-    assert_eq!(rt; one.as_slice(), [2].as_slice());
-    assert_eq!(rt; cuts.as_slice(), [1, 1, 0, 0].as_slice());
+    let mut told = String::new(rt.alloc());
+    lists(rt.alloc(), &mut told)?;
+    assert_eq!(rt; told.as_str(), "[2, 4]\n[2]\n[1, 1, 0, 0]\n");
     Ok(())
+}
+
+/// Puts what comes of an entry behind what was told before.
+fn tell(
+    alloc: Global,
+    net: &Network,
+    tree: &mut Tree,
+    entry: Entry,
+    told: &mut String,
+) -> Result<(), AllocError>
+    requires { IsOf (net_of net.now) tree.old }
+    ensures { IsOf (net_of net.now) tree.new }
+{
+    let answer = tree.apply(net, entry);
+    told.push_str(&format!(in alloc; "{answer:?}\n")?)
 }
 
 /// What comes of a leaf that is cut, a cut on the end, a number past the coordinates, a late proof of the root, and the same plan again.
@@ -145,41 +159,37 @@ fn out_of_order(
     alloc: Global,
     net: &Network,
     tree: &mut Tree,
-) -> Result<[Result<(), EntryFault>; 5], Memory>
+    told: &mut String,
+) -> Result<(), Fail>
     requires { IsOf (net_of net.now) tree.old }
-    ensures { IsOf (net_of net.now) tree.new }
 {
+    tell(alloc, net, tree, split(0, 1, 262_144), told)?;
+    tell(alloc, net, tree, split(3, 0, 524_288), told)?;
+    tell(alloc, net, tree, split(3, 4, 1), told)?;
     let nothing = Proof {
         scale: 1,
         parts: Vec::new(alloc),
     };
+    tell(alloc, net, tree, Entry::Root(nothing), told)?;
     let again = Entry::Improve(zero_plan(alloc, net)?);
-    Ok([
-        tree.apply(net, split(0, 1, 262_144)),
-        tree.apply(net, split(3, 0, 524_288)),
-        tree.apply(net, split(3, 4, 1)),
-        tree.apply(net, Entry::Root(nothing)),
-        tree.apply(net, again),
-    ])
+    Ok(tell(alloc, net, tree, again, told)?)
 }
 
 /// What comes of them on a tree that is cut twice, and how many splits there are after them.
-fn refused(alloc: Global) -> Result<([Result<(), EntryFault>; 5], usize), Fail> {
+fn refused(alloc: Global, told: &mut String) -> Result<usize, Fail> {
     let net = network(alloc, TWO_FEEDS)?;
     let mut tree = twice_cut(alloc, &net)?;
-    let answers = out_of_order(alloc, &net, &mut tree)?;
-    Ok((answers, tree.splits().len()))
+    out_of_order(alloc, &net, &mut tree, told)?;
+    Ok(tree.splits().len())
 }
 
 #[test]
 fn an_entry_out_of_order_is_refused(rt: HostRuntime) -> Result<(), Fail> {
-    let ([cut, on_the_end, no_coordinate, late, same], splits) = refused(rt.alloc())?;
-    assert_eq!(rt; cut, Err(EntryFault::NotALeaf));
-    assert_eq!(rt; on_the_end, Err(EntryFault::CutOutside));
-    assert_eq!(rt; no_coordinate, Err(EntryFault::BadCoord));
-    assert_eq!(rt; late, Err(EntryFault::RootLate));
-    assert_eq!(rt; same, Err(EntryFault::PlanNotBetter));
-    assert_eq!(rt; splits, 2);
+    let mut told = String::new(rt.alloc());
+    let splits = refused(rt.alloc(), &mut told)?;
+    let expected =
+        "Err(NotALeaf)\nErr(CutOutside)\nErr(BadCoord)\nErr(RootLate)\nErr(PlanNotBetter)\n";
+    assert_eq!(rt; (told.as_str(), splits), (expected, 2));
     Ok(())
 }
 

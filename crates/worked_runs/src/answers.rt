@@ -1,14 +1,16 @@
-//! What small runs answer: which words are served, what `solve` prints where no search is needed, what `check` says of certificates
-//! and of each with a line changed, and which side failed. The cases are tables of text, a case a line.
+//! What small runs answer: which words are served, how `solve` ends and what it prints where no search is needed, what `check` says of
+//! certificates and of each with a line changed, and which side failed. The cases are tables of text, a case a line.
 
+use super::runs::{answer, ended, ended_on, explained, shelf_of, told};
 use disk_model::MemDisk;
-use edge_io::{MemShelf, MemSink};
-use pool_cli::{Status, write_message};
+use edge_io::MemSink;
 use std::alloc::{AllocError, Global};
 use std::test::Fail;
 use worked_certificates::{FULL, certificate_under, changed, name_in};
-use worked_networks::{EMPTY, HAVERLY_1, IDLE, ONE_DIRECT, TOO_SOUR, TWO_FEEDS, TWO_PRODUCTS};
-use worked_runs::ended;
+use worked_networks::{
+    EMPTY, HAVERLY_1, IDLE, ONE_DIRECT, ONE_IN_A_PRIME, SOUR_DIRECT, TOO_SOUR, TORN, TWO_FEEDS,
+    TWO_PRODUCTS,
+};
 
 // ---- certificates beside those of `worked_certificates`, by the names of the tables
 
@@ -45,7 +47,10 @@ fn text_under(name: &str) -> &'static str {
         "empty" => EMPTY,
         "feeds" => TWO_FEEDS,
         "haverly" => HAVERLY_1,
+        "prime" => ONE_IN_A_PRIME,
         "sour" => TOO_SOUR,
+        "sour-direct" => SOUR_DIRECT,
+        "torn" => TORN,
         "two" => TWO_PRODUCTS,
         "over-two" => OVER_TWO,
         "nothing-flows" => NOTHING_FLOWS,
@@ -57,71 +62,46 @@ fn text_under(name: &str) -> &'static str {
     }
 }
 
-// ---- shelves
+// ---- codes
 
-/// A shelf with these files, whose call of the number `failing` fails.
-fn shelf_failing(
-    alloc: Global,
-    files: &[(&str, &str)],
-    failing: u64,
-) -> Result<MemShelf, AllocError> {
-    let mut held = Vec::new(alloc);
-    for (name, text) in files {
-        held.push((
-            String::from_str(alloc, name)?,
-            Vec::from_slice(alloc, text.as_bytes())?,
-        ))?;
-    }
-    let mut calls = Vec::new(alloc);
-    calls.push(failing)?;
-    Ok(MemShelf::new(held, calls))
-}
-
-/// How a run of this line ends over a shelf and an empty disk.
-fn ended_over(
-    alloc: Global,
-    line: &str,
-    shelf: &mut MemShelf,
-    sink: &mut MemSink,
-) -> Result<Status, AllocError> {
-    let mut disk = MemDisk::new(alloc, Vec::new(alloc));
-    ended(alloc, line, shelf, sink, &mut disk)
-}
-
-// ---- words
-
-/// Words, and the code that they end with over a shelf with the network `net`.
-const WORDS: &str = "\
-solve net = 0
-solve --nodes=1000 net --form pq --rule widest --gap 0.01 = 0
-solve net --form p --rule violated --nodes 0 --gap 0 = 0
-solve net --nodes 20000 --rule first = 0
-solve net --nodes=20001 = 4
-solve other --nodes 20001 = 20
-solve net --journal j = 0
-report net other = 20
-report other net = 20
-formulate net = 0
-formulate net --form p = 0
-formulate other = 20
-make 7 = 0
-make 18446744073709551616 = 2
-trial 18446744073709551616 = 2
-help = 2
-solve other = 20
-check net other = 20
-check other net = 20
+/// Networks with the words of a run, and the code that it ends with. The last five are a search that is stopped, one that is stuck, one
+/// that is infeasible, which the root shows or only its halves, and one that is undecided.
+const CODES: &str = "\
+one solve net = 0
+one solve --nodes=1000 net --form pq --rule widest --gap 0.01 = 0
+one solve net --form p --rule violated --nodes 0 --gap 0 = 0
+one solve net --nodes 20000 --rule first = 0
+one solve net --nodes=20001 = 4
+one solve other --nodes 20001 = 20
+one solve net --journal j = 0
+one report net other = 20
+one report other net = 20
+one formulate net = 0
+one formulate net --form p = 0
+one formulate other = 20
+one make 7 = 0
+one make 18446744073709551616 = 2
+one trial 18446744073709551616 = 2
+one help = 2
+one solve other = 20
+one check net other = 20
+one check other net = 20
+haverly solve net --nodes 0 --gap 0 = 10
+prime solve net --gap 0 = 11
+sour-direct solve net --nodes 0 = 12
+torn solve net --nodes 9 = 12
+torn solve net --nodes 0 = 13
 ";
 
 #[test]
-fn serves_what_it_can(rt: HostRuntime) -> Result<(), Fail> {
+fn ends_by_what_was_asked_and_found(rt: HostRuntime) -> Result<(), Fail> {
     let alloc = rt.alloc();
-    for line in WORDS.lines() {
+    for line in CODES.lines() {
         let (asked, code) = line.split_once(" = ").ok_or("a code")?;
-        let mut shelf = shelf_failing(alloc, &[("net", ONE_DIRECT)], 9)?;
-        let mut sink = MemSink::new(alloc, Vec::new(alloc));
-        let ended = ended_over(alloc, asked, &mut shelf, &mut sink)?.code();
-        assert_eq!(rt; format!(in alloc; "{ended}")?.as_str(), code);
+        let (network, words) = asked.split_once(' ').ok_or("words")?;
+        let told = answer(alloc, words, [text_under(network), ""])?;
+        let ended = told.as_str().split_once(' ').map(|(ended, _)| ended);
+        assert_eq!(rt; ended, Some(code), "of {asked}");
     }
     Ok(())
 }
@@ -142,15 +122,17 @@ const REFUSED: &str = r#"no network = 3 pool: network refused: 2
 {"version":1,"sources":[],"products":[{"name":"X","price":2,"min":2,"max":1}],"arcs":[]} = 3 pool: network refused: 9 12
 "#;
 
-/// The status of `solve net` over one file of the name `net`, where the shelf's call of the number `failing` fails.
-fn solved(
-    alloc: Global,
-    file: &str,
-    failing: u64,
-    sink: &mut MemSink,
-) -> Result<Status, AllocError> {
-    let mut shelf = shelf_failing(alloc, &[("net", file)], failing)?;
-    ended_over(alloc, "solve net", &mut shelf, sink)
+/// What `solve net` tells over one file: its code and what it printed, or the line on standard error where it printed nothing. A second
+/// write to either would fail.
+fn solved(alloc: Global, file: &str) -> Result<String, AllocError> {
+    let mut sink = MemSink::new(alloc, vec![in alloc; 1]?);
+    let mut disk = MemDisk::new(alloc, Vec::new(alloc));
+    let status = ended_on(alloc, "solve net", [file, ""], &mut sink, &mut disk)?;
+    if sink.taken().is_empty() {
+        explained(alloc, &status)
+    } else {
+        told(alloc, status.code(), &sink)
+    }
 }
 
 #[test]
@@ -158,11 +140,9 @@ fn prints_the_cheapest_start(rt: HostRuntime) -> Result<(), Fail> {
     let alloc = rt.alloc();
     for line in PRINTED.lines() {
         let (network, certificate) = line.split_once(' ').ok_or("a certificate")?;
-        // A second write would fail.
-        let mut sink = MemSink::new(alloc, [1].to_vec(alloc)?);
-        let status = solved(alloc, text_under(network), 1, &mut sink)?;
-        assert_eq!(rt; status.code(), 0);
-        assert_eq!(rt; sink.taken(), text_under(certificate).as_bytes());
+        let told = solved(alloc, text_under(network))?;
+        let printed = told.as_str().strip_prefix("0 ");
+        assert_eq!(rt; printed, Some(text_under(certificate)), "of {network}");
     }
     Ok(())
 }
@@ -172,34 +152,9 @@ fn writes_one_line_for_a_refusal(rt: HostRuntime) -> Result<(), Fail> {
     let alloc = rt.alloc();
     for line in REFUSED.lines() {
         let (file, told) = line.split_once(" = ").ok_or("an answer")?;
-        let mut sink = MemSink::new(alloc, Vec::new(alloc));
-        let status = solved(alloc, file, 1, &mut sink)?;
-        assert_eq!(rt; sink.taken(), b"".as_slice());
-        // A second write would fail.
-        let mut err = MemSink::new(alloc, [1].to_vec(alloc)?);
-        assert!(rt; write_message(&status, &mut err).is_ok());
-        let message = str::from_utf8(err.taken())?;
-        let answer = format!(in alloc; "{} {message}", status.code())?;
-        assert_eq!(rt; answer.as_str().strip_suffix('\n'), Some(told));
+        let answer = solved(alloc, file)?;
+        assert_eq!(rt; answer.as_str().strip_suffix('\n'), Some(told), "of {file}");
     }
-    Ok(())
-}
-
-#[test]
-fn says_which_side_failed(rt: HostRuntime) -> Result<(), Fail> {
-    let alloc = rt.alloc();
-    let mut sink = MemSink::new(alloc, Vec::new(alloc));
-    let status = solved(alloc, ONE_DIRECT, 0, &mut sink)?;
-    assert_eq!(rt; status.code(), 20);
-    assert_eq!(rt; sink.taken(), b"".as_slice());
-
-    let mut small = MemSink::limit(alloc, 40)?;
-    let status = solved(alloc, ONE_DIRECT, 1, &mut small)?;
-    assert_eq!(rt; status.code(), 21);
-    assert_eq!(rt;
-        small.taken(),
-        b"poolcert 1\nkind gap\nshape 1 0 1 1 0 0 1\n".as_slice()
-    );
     Ok(())
 }
 
@@ -246,21 +201,30 @@ feeds tree, proof 3 0 1 11 1 to proof 5 0 1 11 1 = refused place 0
 two both-full = accepted gap cost -50000000000000 base 1 bound -50000000000000 gap 0
 ";
 
-/// What `check net cert` answers over these two files, the certificate in pieces of so many bytes: its code and, behind a space,
-/// what it writes. The shelf's call of the number `failing` fails, and so does a second write.
-fn checked(
+/// What a run of this line answers over these two files, the certificate in pieces of so many bytes: its code and, behind a space, what it
+/// writes. The shelf's call of the number `failing` fails, and so does a second write.
+fn over_pieces(
     alloc: Global,
-    network: &str,
-    certificate: &str,
+    asked: &str,
+    files: [&str; 2],
     piece: usize,
     failing: u64,
 ) -> Result<String, AllocError> {
-    let mut shelf = shelf_failing(alloc, &[("net", network), ("cert", certificate)], failing)?;
+    let mut shelf = shelf_of(alloc, files, failing)?;
     shelf.pieces(piece.max(1));
-    let mut sink = MemSink::new(alloc, [1].to_vec(alloc)?);
-    let code = ended_over(alloc, "check net cert", &mut shelf, &mut sink)?.code();
-    let written = str::from_utf8(sink.taken()).unwrap_or("no text");
-    format!(in alloc; "{code} {written}")
+    let mut sink = MemSink::new(alloc, vec![in alloc; 1]?);
+    let mut disk = MemDisk::new(alloc, Vec::new(alloc));
+    let code = ended(alloc, asked, &mut shelf, &mut sink, &mut disk)?.code();
+    told(alloc, code, &sink)
+}
+
+/// What `check` answers on a certificate at once and byte by byte. At once the calls are: the network, to open the certificate, all of
+/// it, and its end. A fifth call would fail.
+fn checked_twice(alloc: Global, files: [&str; 2]) -> Result<String, AllocError> {
+    let asked = "check net cert";
+    let mut told = over_pieces(alloc, asked, files, 65_536, 4)?;
+    told.push_str(&over_pieces(alloc, asked, files, 1, u64::MAX)?)?;
+    Ok(told)
 }
 
 #[test]
@@ -269,34 +233,24 @@ fn accepts_or_names_the_first_cause(rt: HostRuntime) -> Result<(), Fail> {
     for line in CHECKED.lines() {
         let (asked, told) = line.split_once(" = ").ok_or("an answer")?;
         let (network, certificate) = asked.split_once(' ').ok_or("a certificate")?;
-        let network = text_under(network);
         let certificate = changed(alloc, text_under(name_in(certificate)), certificate)?;
-        // The calls are: the network, to open the certificate, all of it, and its end. A fifth call would fail.
-        let at_once = checked(alloc, network, certificate.as_str(), 65_536, 4)?;
-        let by_bytes = checked(alloc, network, certificate.as_str(), 1, u64::MAX)?;
         let code = u8::from(told.starts_with("refused"));
         let expected = format!(in alloc; "{code} {told}\n{code} {told}\n")?;
-        let told = format!(in alloc; "{at_once}{by_bytes}")?;
-        assert_eq!(rt; told.as_str(), expected.as_str());
+        let told = checked_twice(alloc, [text_under(network), certificate.as_str()])?;
+        assert_eq!(rt; told.as_str(), expected.as_str(), "of {asked}");
     }
     Ok(())
 }
 
-#[test]
-fn a_certificate_that_is_not_opened_is_a_read_fault(rt: HostRuntime) -> Result<(), Fail> {
-    let alloc = rt.alloc();
-    assert_eq!(rt; checked(alloc, ONE_DIRECT, "", 7, 1)?.as_str(), "20 ");
-    // Where the network is refused, the certificate is not asked for.
-    assert_eq!(rt; checked(alloc, "no network", "", 7, 1)?.as_str(), "3 ");
-    Ok(())
-}
+// ---- faults of the shelf and the sink
 
 /// What is answered on a certificate of 160 bytes in pieces of 7, where each call fails in its turn: the network, the opening, 23
 /// pieces and the end are 26 calls.
 fn failing_calls(alloc: Global, certificate: &str) -> Result<String, AllocError> {
     let mut told = String::new(alloc);
     for failing in 0..26 {
-        told.push_str(checked(alloc, ONE_DIRECT, certificate, 7, failing)?.as_str())?;
+        let files = [ONE_DIRECT, certificate];
+        told.push_str(&over_pieces(alloc, "check net cert", files, 7, failing)?)?;
     }
     Ok(told)
 }
@@ -305,17 +259,39 @@ fn failing_calls(alloc: Global, certificate: &str) -> Result<String, AllocError>
 #[test]
 fn a_read_that_fails_before_the_end_is_a_read_fault(rt: HostRuntime) -> Result<(), Fail> {
     let alloc = rt.alloc();
-    let shapeless = changed(
-        alloc,
-        FULL,
-        "full, shape 1 0 1 1 0 0 1 to shape 1 0 1 2 0 0 1",
-    )?;
-    let failed = "20 ".repeat(alloc, 26)?;
     assert_eq!(rt; FULL.len(), 160);
-    assert_eq!(rt; failing_calls(alloc, FULL)?.as_str(), failed.as_str());
-    assert_eq!(rt;
-        failing_calls(alloc, shapeless.as_str())?.as_str(),
-        failed.as_str()
-    );
+    for change in ["full", "full, shape 1 0 1 1 0 0 1 to shape 1 0 1 2 0 0 1"] {
+        let certificate = changed(alloc, FULL, change)?;
+        let told = failing_calls(alloc, certificate.as_str())?;
+        let failed = "20 ".repeat(alloc, 26)?;
+        assert_eq!(rt; told.as_str(), failed.as_str(), "of {change}");
+    }
+    Ok(())
+}
+
+/// A network that is not read, and a certificate that is not opened.
+#[test]
+fn says_which_side_failed(rt: HostRuntime) -> Result<(), Fail> {
+    let alloc = rt.alloc();
+    let (check, refused) = ("check net cert", "no network");
+    let unread = over_pieces(alloc, "solve net", [ONE_DIRECT, ""], 7, 0)?;
+    assert_eq!(rt; unread.as_str(), "20 ");
+    let unopened = over_pieces(alloc, check, [ONE_DIRECT, ""], 7, 1)?;
+    assert_eq!(rt; unopened.as_str(), "20 ");
+    // Where the network is refused, the certificate is not asked for.
+    let unasked = over_pieces(alloc, check, [refused, ""], 7, 1)?;
+    assert_eq!(rt; unasked.as_str(), "3 ");
+    Ok(())
+}
+
+#[test]
+fn a_sink_of_forty_bytes_has_a_front(rt: HostRuntime) -> Result<(), Fail> {
+    let alloc = rt.alloc();
+    let mut small = MemSink::limit(alloc, 40)?;
+    let mut disk = MemDisk::new(alloc, Vec::new(alloc));
+    let status = ended_on(alloc, "solve net", [ONE_DIRECT, ""], &mut small, &mut disk)?;
+    let told = told(alloc, status.code(), &small)?;
+    let front = "21 poolcert 1\nkind gap\nshape 1 0 1 1 0 0 1\n";
+    assert_eq!(rt; told.as_str(), front);
     Ok(())
 }

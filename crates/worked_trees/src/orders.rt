@@ -1,6 +1,6 @@
-//! Leaves put in and taken out.
+//! Leaves put into their order and taken out.
 
-use super::{LeafOrder, OpenLeaf};
+use leaf_order::{LeafOrder, OpenLeaf};
 use std::alloc::{AllocError, Global};
 use std::test::Fail;
 
@@ -21,15 +21,27 @@ fn grown(alloc: Global) -> Result<LeafOrder, AllocError> {
     Ok(order)
 }
 
+/// Puts the numbers of the first leaves, up to so many, behind what was told before.
+fn tell(
+    alloc: Global,
+    order: &LeafOrder,
+    most: usize,
+    told: &mut String,
+) -> Result<(), AllocError> {
+    told.push_str(&format!(in alloc; "{:?}\n", order.nodes(most)?)?)
+}
+
 #[test]
 fn leaves_come_by_bound_and_then_by_number(rt: HostRuntime) -> Result<(), Fail> {
     let alloc = rt.alloc();
-    assert_eq!(rt; LeafOrder::new(alloc).first(), None);
+    let none = LeafOrder::new(alloc).first();
     let order = grown(alloc)?;
-    assert_eq!(rt; order.first(), leaf(-4, 4));
-    assert_eq!(rt; order.nodes(0)?.len(), 0);
-    assert_eq!(rt; order.nodes(2)?.as_slice(), [4, 3].as_slice());
-    assert_eq!(rt; order.nodes(9)?.as_slice(), [4, 3, 6].as_slice());
+    assert_eq!(rt; (none, order.first()), (None, leaf(-4, 4)));
+    let mut told = String::new(alloc);
+    for most in [0, 2, 9] {
+        tell(alloc, &order, most, &mut told)?;
+    }
+    assert_eq!(rt; told.as_str(), "[]\n[4, 3]\n[4, 3, 6]\n");
     Ok(())
 }
 
@@ -37,19 +49,22 @@ fn leaves_come_by_bound_and_then_by_number(rt: HostRuntime) -> Result<(), Fail> 
 fn a_leaf_is_in_the_set_once(rt: HostRuntime) -> Result<(), Fail> {
     let alloc = rt.alloc();
     let mut order = grown(alloc)?;
+    let mut told = String::new(alloc);
     order.put(leaf(-4, 4), leaf(-3, 3))?;
-    assert_eq!(rt; order.nodes(9)?.as_slice(), [4, 3, 6].as_slice());
+    tell(alloc, &order, 9, &mut told)?;
     // another bound is another leaf
     order.take_out(leaf(-3, 4));
-    assert_eq!(rt; order.nodes(9)?.as_slice(), [4, 3, 6].as_slice());
+    tell(alloc, &order, 9, &mut told)?;
     order.replace(leaf(-4, 4), leaf(-4, 4))?;
-    assert_eq!(rt; order.nodes(9)?.as_slice(), [4, 3, 6].as_slice());
+    tell(alloc, &order, 9, &mut told)?;
     order.replace(leaf(-3, 6), leaf(-5, 6))?;
-    assert_eq!(rt; order.nodes(9)?.as_slice(), [6, 4, 3].as_slice());
+    tell(alloc, &order, 9, &mut told)?;
     order.replace(leaf(-5, 6), None)?;
-    assert_eq!(rt; order.nodes(9)?.as_slice(), [4, 3].as_slice());
+    tell(alloc, &order, 9, &mut told)?;
     order.take_out(leaf(-4, 4));
     order.take_out(None);
-    assert_eq!(rt; order.nodes(9)?.as_slice(), [3].as_slice());
+    tell(alloc, &order, 9, &mut told)?;
+    let expected = "[4, 3, 6]\n[4, 3, 6]\n[4, 3, 6]\n[6, 4, 3]\n[4, 3]\n[3]\n";
+    assert_eq!(rt; told.as_str(), expected);
     Ok(())
 }

@@ -1,8 +1,8 @@
-//! The law at one type.
+//! The law of first faults at one type.
 
 ghost use Rattle.std.specs.Prelude.{[], ◌∷◌, ◌≤◌, ℕ};
 
-use crate::{Ranked, first_fault_law};
+use faults::{Ranked, first_fault_law};
 
 struct Numbered(u32);
 

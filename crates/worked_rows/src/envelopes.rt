@@ -1,7 +1,7 @@
 //! Two sides of the envelope of a proportion times a flow.
 
-use super::{Ends, envelope};
 use box_space::{LinRow, Term};
+use mccormick::{Ends, envelope};
 use std::test::Fail;
 
 const ENDS: Ends = Ends {
