@@ -7,9 +7,9 @@ use Rattle.std.proofs.lemmas.Nat.Gcd.{dvd_refl, dvd_trans, le_of_dvd}
 use Rattle.std.proofs.lemmas.List.{get_or-map, length-map}
 use Rattle.pool_model.specs.Network.{Net, IsLimited}
 use Rattle.pool_model.specs.Plan.{Written, Carries}
-use Rattle.program_plans.specs.LeastBases.{IsLeastFlowBase}
-use Rattle.program_plans.specs.Plans.{HasFlowsOf}
-use Rattle.program_plans.proofs.Bounds.{carries-bounded}
+use Rattle.program_model.specs.LeastBases.{IsLeastFlowBase}
+use Rattle.program_model.specs.Plans.{HasFlowsOf}
+use Rattle.program_model.proofs.Bounds.{carries-bounded}
 use Rattle.plan_bases.specs.Divisors.{IsDivisorOf, IsFlowDivisor}
 use Rattle.plan_bases.proofs.CommonDivisors.{least-flow_base}
 use Rattle.flow_checks.specs.Flows.{flows_plan}

@@ -9,8 +9,8 @@ use Rattle.program_model.proofs.SameFlows.{cost-same}
 use Rattle.program_points.specs.Held.{IsHeldOfQ}
 use Rattle.program_points.specs.Views.{shown_prop}
 use Rattle.program_points.specs.declared.points.PropPoint.{PropPoint}
-use Rattle.program_plans.specs.Plans.{IsPlanOfProportions}
-use Rattle.program_plans.proofs.PlanFlows.{plan-same, plan-obeys, proportions-parts, proportions-written}
+use Rattle.program_model.specs.Plans.{IsPlanOfProportions}
+use Rattle.program_model.proofs.PlanFlows.{plan-same, plan-obeys, proportions-parts, proportions-written}
 use Rattle.plan_bases.specs.Divisors.{IsFlowDivisor}
 use Rattle.flow_checks.specs.Flows.{flows_plan}
 use Rattle.point_checks.specs.Slices.{point_over, seen}

@@ -11,9 +11,9 @@ use Rattle.program_model.proofs.SameFlows.{cost-same}
 use Rattle.program_points.specs.Held.{IsHeldOfP}
 use Rattle.program_points.specs.Views.{shown_qual}
 use Rattle.program_points.specs.declared.points.QualPoint.{QualPoint}
-use Rattle.program_plans.specs.LeastBases.{AreWholeParts, IsLeastPartBase}
-use Rattle.program_plans.specs.Plans.{IsPlanOfQualities}
-use Rattle.program_plans.proofs.PlanFlows.{plan-same, plan-obeys, qualities-parts, qualities-written}
+use Rattle.program_model.specs.LeastBases.{AreWholeParts, IsLeastPartBase}
+use Rattle.program_model.specs.Plans.{IsPlanOfQualities}
+use Rattle.program_model.proofs.PlanFlows.{plan-same, plan-obeys, qualities-parts, qualities-written}
 use Rattle.plan_bases.specs.Divisors.{IsFlowDivisor}
 use Rattle.flow_checks.specs.Flows.{AreFlows, flows_plan}
 use Rattle.quality_checks.specs.Slices.{point_over, seen}

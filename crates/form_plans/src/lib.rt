@@ -8,7 +8,7 @@
 //! where a least base passes the limit of written plans.
 //!
 //! `point_checks` and `quality_checks` say what the tests look at, part by part, `plan_parts` what the parts of feeds are, and
-//! `program_plans` what the plan of a point is.
+//! `program_model` what the plan of a point is.
 #![tactic(auto)]
 
 mod fault;

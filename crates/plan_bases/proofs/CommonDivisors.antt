@@ -7,7 +7,7 @@ use Rattle.integers.proofs.Divides.{positive-gcd}
 use Rattle.integers.proofs.Twos.{IsGcd-scaled}
 use Rattle.pool_model.specs.Network.{Net}
 use Rattle.pool_model.specs.Plan.{Plan}
-use Rattle.program_plans.specs.LeastBases.{IsLeastFlowBase}
+use Rattle.program_model.specs.LeastBases.{IsLeastFlowBase}
 use Rattle.plan_bases.specs.Divisors.{IsDivisorOf}
 
 pub divisor-none : (start : ℕ) (parts : ℕ → ℕ) → IsDivisorOf start parts 0 start

@@ -12,7 +12,7 @@ use Rattle.pool_model.specs.Network.{Net, IsLimited}
 use Rattle.pool_model.specs.Plan.{Plan, Carries, outflow}
 use Rattle.pool_model.specs.Starting.{feeds_before}
 use Rattle.row_model.proofs.Shares.{feed-le, no_feed}
-use Rattle.program_plans.specs.LeastBases.{AreWholeParts, IsLeastPartBase}
+use Rattle.program_model.specs.LeastBases.{AreWholeParts, IsLeastPartBase}
 use Rattle.plan_bases.specs.Divisors.{IsDivisorOf, IsLcm}
 use Rattle.plan_parts.specs.Parts.{AreWholeAt, IsPart, IsPoolBase, AreTooFineParts}
 

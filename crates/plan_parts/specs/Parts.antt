@@ -4,7 +4,7 @@ use Rattle.std.specs.Int.{◌∣◌}
 use Rattle.pool_model.specs.Network.{Net}
 use Rattle.pool_model.specs.Plan.{Plan, outflow}
 use Rattle.pool_model.specs.Starting.{first_weight}
-use Rattle.program_plans.specs.LeastBases.{AreWholeParts}
+use Rattle.program_model.specs.LeastBases.{AreWholeParts}
 
 -- over this base the parts of one pool's feeds are whole numbers
 abbrev pub AreWholeAt : Net → Plan → ℕ → ℕ → Type 0

@@ -4,7 +4,7 @@ ghost use Rattle.std.specs.Prelude.{◌≡◌, ℕ, ◌*◌, ◌<◌, ◌≤◌,
 ghost use Rattle.integers.specs.Numbers.{numbers_at};
 ghost use Rattle.pool_model.specs.Network.{IsLimited, net_of};
 ghost use Rattle.pool_model.specs.Plan.{Carries};
-ghost use Rattle.program_plans.specs.LeastBases.{IsLeastPartBase};
+ghost use Rattle.program_model.specs.LeastBases.{IsLeastPartBase};
 ghost use Rattle.plan_bases.specs.Divisors.{IsDivisorOf};
 ghost use Rattle.flow_checks.specs.Flows.{AreFlows, flows_plan};
 ghost use Rattle.plan_parts.specs.Parts.{AreTooFineParts, IsPoolBase};

@@ -3,7 +3,7 @@
 ghost use Rattle.std.specs.Prelude.{◌<◌, ◌≤◌, IfOk};
 ghost use Rattle.pool_model.specs.Network.{IsLimited, net_of};
 ghost use Rattle.pool_model.specs.Plan.{Carries};
-ghost use Rattle.program_plans.specs.LeastBases.{AreWholeParts};
+ghost use Rattle.program_model.specs.LeastBases.{AreWholeParts};
 ghost use Rattle.flow_checks.specs.Flows.{AreFlows, flows_plan};
 ghost use Rattle.plan_parts.specs.Parts.{AreParts, IsPart};
 

@@ -9,7 +9,7 @@ use Rattle.pool_model.specs.Network.{Net, IsLimited, IsWithin}
 use Rattle.pool_model.specs.Plan.{Plan, Carries, pool_inflow}
 use Rattle.row_model.specs.Boxes.{qual, root_low, root_high}
 use Rattle.program_model.specs.Points.{quality_flows}
-use Rattle.program_plans.proofs.Bounds.{carries-bounded}
+use Rattle.program_model.proofs.Bounds.{carries-bounded}
 use Rattle.flow_checks.specs.Sizes.{FlowsFit}
 use Rattle.quality_checks.specs.Slices.{seen}
 use Rattle.quality_checks.specs.QualityTests.{HasQualShape, IsQualPoint, AreSmallQuals, LiesBetween, HasQuality, KeepsQuality, KeepsLimits}

@@ -4,7 +4,7 @@ use Rattle.pool_model.specs.Network.{Net}
 use Rattle.pool_model.specs.Plan.{Plan, Written, weight, written_out, written_direct, outflow}
 use Rattle.pool_model.specs.Starting.{first_weight}
 use Rattle.program_model.specs.Points.{ProportionPoint, QualityPoint, proportion_flows, quality_flows}
-use Rattle.program_plans.specs.LeastBases.{IsLeastFlowBase, IsLeastPartBase}
+use Rattle.program_model.specs.LeastBases.{IsLeastFlowBase, IsLeastPartBase}
 
 -- a number for each arc, and the flows of outs and directs over the least base that makes them whole
 pub record HasFlowsOf (n : Net) (p : Plan) (w : Written) : Type 0 where

@@ -1,6 +1,6 @@
 use Rattle.program_model.specs.Points.{proportion_flows, quality_flows}
-use Rattle.program_plans.proofs.Least.{written-whole_flows, written-whole_parts}
-use Rattle.program_plans.proofs.laws.least_law.Goals as goal
+use Rattle.program_model.proofs.Least.{written-whole_flows, written-whole_parts}
+use Rattle.program_model.proofs.plan_laws.least_law.Goals as goal
 
 pub returns : goal.returns
 returns c = record {

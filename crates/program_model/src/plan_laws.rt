@@ -1,4 +1,4 @@
-//! What follows from the definitions, for the proofs of the crates above. There is no code here.
+//! What follows from the definitions of the written plan of a point, for the proofs of the crates above. There is no code here.
 
 ghost use Rattle.std.specs.Prelude.{ℕ, ◌<◌, ◌≤◌};
 ghost use Rattle.std.specs.Int.{◌∣◌};
@@ -7,8 +7,8 @@ ghost use Rattle.pool_model.specs.Plan.{Carries, IsWritten, Obeys, Plan, Written
 ghost use Rattle.program_model.specs.Points.{ProportionPoint, QualityPoint, SameCost, SameFlows, proportion_flows, quality_flows};
 ghost use Rattle.program_model.specs.Programs.{IsPointOfP, IsPointOfQ};
 ghost use Rattle.row_model.specs.Variables.{path_count, path_out};
-ghost use Rattle.program_plans.specs.Bounds.{IsBounded};
-ghost use Rattle.program_plans.specs.Plans.{IsPlanOfProportions, IsPlanOfQualities};
+ghost use Rattle.program_model.specs.Bounds.{IsBounded};
+ghost use Rattle.program_model.specs.Plans.{IsPlanOfProportions, IsPlanOfQualities};
 
 /// The plan of a point has the point's flows and its cost, and obeys; where its bases are within the limits, it is well written.
 /// A point of Pq is one of Q.

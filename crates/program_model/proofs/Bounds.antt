@@ -8,7 +8,7 @@ use Rattle.row_model.specs.Variables.{path_count, path_feed, path_out}
 use Rattle.row_model.proofs.PathSums.{path_feed-below}
 use Rattle.program_model.specs.Points.{ProportionPoint}
 use Rattle.program_model.specs.Programs.{IsPointOfQ}
-use Rattle.program_plans.specs.Bounds.{IsBounded}
+use Rattle.program_model.specs.Bounds.{IsBounded}
 
 inflow-bounded : (n : Net) (p : Plan) (j : ℕ) → IsLimited n → Carries n p → j < n.products → product_inflow n p j ≤ p.base * 10 ^ 12
 inflow-bounded n p j lim carries lt = omega (arith, carries.at_most j lt, mul-le-mul_left p.base (lim.product_maxima j lt))

@@ -9,7 +9,7 @@ use Rattle.integers.proofs.ByNode.{sum_at-same}
 use Rattle.pool_model.specs.Network.{Net}
 use Rattle.pool_model.specs.Plan.{Plan, Written, weight, written_out, written_direct, written_outflow, IsWritten, plan_of, outflow}
 use Rattle.program_model.specs.Points.{SameFlows}
-use Rattle.program_plans.specs.LeastBases.{AreWholeFlows, AreWholeParts}
+use Rattle.program_model.specs.LeastBases.{AreWholeFlows, AreWholeParts}
 
 cancel : (m a b : ℕ) → 1 ≤ m → m * a ≡ m * b → a ≡ b
 cancel m a b h e = same_pos a b (same-cancel (pos m) (pos a) (pos b) (omega (arith, linear)) (ap pos e))

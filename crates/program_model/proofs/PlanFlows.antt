@@ -14,7 +14,7 @@ use Rattle.program_model.specs.Points.{ProportionPoint, QualityPoint, proportion
 use Rattle.program_model.specs.Programs.{IsPointOfP, IsPointOfQ}
 use Rattle.program_model.proofs.FormQ.{feed-of_q}
 use Rattle.program_model.proofs.SameFlows.{obeys-same}
-use Rattle.program_plans.specs.Plans.{HasFlowsOf, IsPlanOfProportions, IsPlanOfQualities}
+use Rattle.program_model.specs.Plans.{HasFlowsOf, IsPlanOfProportions, IsPlanOfQualities}
 
 -- ---- flows
 

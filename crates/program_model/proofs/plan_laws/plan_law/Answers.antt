@@ -4,8 +4,8 @@ use Rattle.program_model.specs.Points.{proportion_flows, quality_flows}
 use Rattle.program_model.proofs.FormP.{point_of_p-obeys}
 use Rattle.program_model.proofs.FormQ.{point_of_q-obeys}
 use Rattle.program_model.proofs.SameFlows.{cost-same}
-use Rattle.program_plans.proofs.PlanFlows.{plan-same, plan-obeys, proportions-parts, proportions-written, qualities-parts, qualities-written}
-use Rattle.program_plans.proofs.laws.plan_law.Goals as goal
+use Rattle.program_model.proofs.PlanFlows.{plan-same, plan-obeys, proportions-parts, proportions-written, qualities-parts, qualities-written}
+use Rattle.program_model.proofs.plan_laws.plan_law.Goals as goal
 
 pub returns : goal.returns
 returns c = record {
