@@ -12,9 +12,9 @@ use Rattle.program_model.specs.Plans.{HasFlowsOf}
 use Rattle.program_model.proofs.Bounds.{carries-bounded}
 use Rattle.plan_bases.specs.Divisors.{IsDivisorOf, IsFlowDivisor}
 use Rattle.plan_bases.proofs.CommonDivisors.{least-flow_base}
-use Rattle.flow_checks.specs.Flows.{flows_plan}
-use Rattle.flow_checks.specs.Sizes.{AreAtMost}
-use Rattle.flow_checks.specs.declared.flows.Flows.{Flows}
+use Rattle.point_checks.specs.Flows.{flows_plan}
+use Rattle.point_checks.specs.Sizes.{AreAtMost}
+use Rattle.point_checks.specs.declared.flows.Flows.{Flows}
 use Rattle.form_plans.specs.Made.{IsMade}
 use Rattle.form_plans.specs.Faults.{AreTooFine}
 

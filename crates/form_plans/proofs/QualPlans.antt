@@ -15,11 +15,11 @@ use Rattle.program_model.specs.LeastBases.{AreWholeParts, IsLeastPartBase}
 use Rattle.program_model.specs.Plans.{IsPlanOfQualities}
 use Rattle.program_model.proofs.PlanFlows.{plan-same, plan-obeys, qualities-parts, qualities-written}
 use Rattle.plan_bases.specs.Divisors.{IsFlowDivisor}
-use Rattle.flow_checks.specs.Flows.{AreFlows, flows_plan}
-use Rattle.quality_checks.specs.Slices.{point_over, seen}
-use Rattle.quality_checks.specs.QualityTests.{IsQualPoint}
-use Rattle.quality_checks.specs.declared.slices.QualSlices.{QualSlices}
-use Rattle.quality_checks.proofs.QualPoints.{point-fits}
+use Rattle.point_checks.specs.Flows.{AreFlows, flows_plan}
+use Rattle.point_checks.specs.QualSlices.{point_over, seen}
+use Rattle.point_checks.specs.QualityTests.{IsQualPoint}
+use Rattle.point_checks.specs.declared.qual_slices.QualSlices.{QualSlices}
+use Rattle.point_checks.proofs.QualPoints.{point-fits}
 use Rattle.plan_parts.specs.Parts.{AreParts, AreTooFineParts}
 use Rattle.form_plans.specs.Faults.{AreTooFine}
 use Rattle.form_plans.specs.Made.{IsMade}

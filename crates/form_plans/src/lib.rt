@@ -7,7 +7,7 @@
 //! [`FormFault::NotAPoint`] exactly where it is none of the program within the limits, and then [`FormFault::TooFine`] exactly
 //! where a least base passes the limit of written plans.
 //!
-//! `point_checks` and `quality_checks` say what the tests look at, part by part, `plan_parts` what the parts of feeds are, and
+//! `point_checks` says what the tests look at, part by part, `plan_parts` what the parts of feeds are, and
 //! `program_model` what the plan of a point is.
 #![tactic(auto)]
 
@@ -19,4 +19,4 @@ pub mod q;
 mod slices;
 
 pub use fault::FormFault;
-pub use flow_checks::flows_fit;
+pub use point_checks::flows_fit;

@@ -18,8 +18,8 @@ use blend_network::Network;
 use plan_bases::flow_divisor;
 use plan_core::WrittenPlan;
 use plan_parts::{part_base, weights};
+use point_checks::is_qual_point;
 use program_points::QualPoint;
-use quality_checks::is_qual_point;
 use std::alloc::Global;
 
 /// The written plan of a point: each feed's part of what its pool sends as its weight, over the least base that makes all parts

@@ -6,12 +6,12 @@ ghost use Rattle.pool_model.specs.Network.{IsLimited, net_of};
 ghost use Rattle.pool_model.specs.Plan.{Carries};
 ghost use Rattle.program_model.specs.LeastBases.{IsLeastPartBase};
 ghost use Rattle.plan_bases.specs.Divisors.{IsDivisorOf};
-ghost use Rattle.flow_checks.specs.Flows.{AreFlows, flows_plan};
+ghost use Rattle.point_checks.specs.Flows.{AreFlows, flows_plan};
 ghost use Rattle.plan_parts.specs.Parts.{AreTooFineParts, IsPoolBase};
 
 use blend_network::{Key, Network};
-use flow_checks::{Flows, sum_at_node};
 use plan_bases::{gcd, lcm};
+use point_checks::{Flows, sum_at_node};
 
 /// The greatest base of a written plan.
 const MAX_BASE: u128 = 1_048_576;

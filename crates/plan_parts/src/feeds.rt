@@ -4,12 +4,12 @@ ghost use Rattle.std.specs.Prelude.{◌<◌, ◌≤◌, IfOk};
 ghost use Rattle.pool_model.specs.Network.{IsLimited, net_of};
 ghost use Rattle.pool_model.specs.Plan.{Carries};
 ghost use Rattle.program_model.specs.LeastBases.{AreWholeParts};
-ghost use Rattle.flow_checks.specs.Flows.{AreFlows, flows_plan};
+ghost use Rattle.point_checks.specs.Flows.{AreFlows, flows_plan};
 ghost use Rattle.plan_parts.specs.Parts.{AreParts, IsPart};
 
 use blend_network::{Key, Network};
 use edge_io::Memory;
-use flow_checks::{Flows, sum_at_node};
+use point_checks::{Flows, sum_at_node};
 use start_ways::is_first_feed;
 use std::alloc::Global;
 

@@ -1,6 +1,6 @@
 use Rattle.std.proofs.Common.{arith}
 use Rattle.pool_model.specs.Network.{net_of}
-use Rattle.flow_checks.specs.Flows.{flows_plan}
+use Rattle.point_checks.specs.Flows.{flows_plan}
 use Rattle.plan_parts.proofs.Parts.{base-none, base-more, base-all, base-too_fine, product-fits}
 use Rattle.plan_parts.proofs.bases.part_base.Goals as goal
 

@@ -3,7 +3,7 @@ use Rattle.integers.specs.Numbers.{numbers_at}
 use Rattle.pool_model.specs.Network.{net_of}
 use Rattle.pool_model.specs.Plan.{outflow}
 use Rattle.plan_bases.specs.Divisors.{IsDivisorOf}
-use Rattle.flow_checks.specs.Flows.{flows_plan}
+use Rattle.point_checks.specs.Flows.{flows_plan}
 use Rattle.plan_parts.specs.Parts.{IsPoolBase}
 use Rattle.plan_parts.proofs.Parts.{empty-base, full-base, quotient-le}
 use Rattle.plan_parts.proofs.bases.pool_base.Goals as goal

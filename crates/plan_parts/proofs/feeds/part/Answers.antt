@@ -1,7 +1,7 @@
 use Rattle.std.proofs.Common.{◌≡◌, arith, ap, ◌∙◌}
 use Rattle.pool_model.specs.Network.{net_of}
 use Rattle.pool_model.specs.Plan.{outflow}
-use Rattle.flow_checks.specs.Flows.{flows_plan}
+use Rattle.point_checks.specs.Flows.{flows_plan}
 use Rattle.plan_parts.proofs.Parts.{part-computed, part-within}
 use Rattle.plan_parts.proofs.feeds.part.Goals as goal
 

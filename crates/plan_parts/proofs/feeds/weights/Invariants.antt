@@ -1,6 +1,6 @@
 use Rattle.std.proofs.Common.{◌≡◌, ℕ, ◌<◌, length, get_or}
 use Rattle.pool_model.specs.Network.{net_of}
-use Rattle.flow_checks.specs.Flows.{flows_plan}
+use Rattle.point_checks.specs.Flows.{flows_plan}
 use Rattle.plan_parts.specs.Parts.{IsPart}
 use Rattle.plan_parts.proofs.feeds.weights.Given as goal
 
