@@ -10,8 +10,8 @@ use Rattle.pool_model.specs.Plan.{Written, Carries}
 use Rattle.program_model.specs.LeastBases.{IsLeastFlowBase}
 use Rattle.program_model.specs.Plans.{HasFlowsOf}
 use Rattle.program_model.proofs.Bounds.{carries-bounded}
-use Rattle.plan_bases.specs.Divisors.{IsDivisorOf, IsFlowDivisor}
-use Rattle.plan_bases.proofs.CommonDivisors.{least-flow_base}
+use Rattle.form_plans.specs.Divisors.{IsDivisorOf, IsFlowDivisor}
+use Rattle.form_plans.proofs.CommonDivisors.{least-flow_base}
 use Rattle.point_checks.specs.Flows.{flows_plan}
 use Rattle.point_checks.specs.Sizes.{AreAtMost}
 use Rattle.point_checks.specs.declared.flows.Flows.{Flows}

@@ -11,7 +11,7 @@ use Rattle.program_points.specs.Views.{shown_prop}
 use Rattle.program_points.specs.declared.points.PropPoint.{PropPoint}
 use Rattle.program_model.specs.Plans.{IsPlanOfProportions}
 use Rattle.program_model.proofs.PlanFlows.{plan-same, plan-obeys, proportions-parts, proportions-written}
-use Rattle.plan_bases.specs.Divisors.{IsFlowDivisor}
+use Rattle.form_plans.specs.Divisors.{IsFlowDivisor}
 use Rattle.point_checks.specs.Flows.{flows_plan}
 use Rattle.point_checks.specs.PropSlices.{point_over, seen}
 use Rattle.point_checks.specs.ProportionTests.{IsPropPoint}

@@ -6,7 +6,7 @@ ghost use Rattle.point_checks.specs.Sizes.{AreAtMost};
 ghost use Rattle.form_plans.specs.Made.{IsMade};
 
 use crate::fault::FormFault;
-use plan_bases::divided;
+use crate::flow_divisors::divided;
 use plan_core::WrittenPlan;
 use point_checks::Flows;
 use std::alloc::Global;

@@ -12,12 +12,13 @@ ghost use Rattle.plan_core.specs.Views.{shown_plan};
 ghost use Rattle.form_plans.specs.Taken.{HasPlanOfP, IsFaultOfP, IsQualPlan};
 
 use crate::fault::FormFault;
+use crate::feeds::weights;
+use crate::flow_divisors::flow_divisor;
 use crate::made::{is_fine, made};
+use crate::part_bases::part_base;
 use crate::slices::qual_slices;
 use blend_network::Network;
-use plan_bases::flow_divisor;
 use plan_core::WrittenPlan;
-use plan_parts::{part_base, weights};
 use point_checks::is_qual_point;
 use program_points::QualPoint;
 use std::alloc::Global;
