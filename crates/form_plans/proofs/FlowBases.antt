@@ -7,14 +7,14 @@ use Rattle.std.proofs.lemmas.Nat.Gcd.{dvd_refl, dvd_trans, le_of_dvd}
 use Rattle.std.proofs.lemmas.List.{get_or-map, length-map}
 use Rattle.pool_model.specs.Network.{Net, IsLimited}
 use Rattle.pool_model.specs.Plan.{Written, Carries}
-use Rattle.program_plans.specs.LeastBases.{IsLeastFlowBase}
-use Rattle.program_plans.specs.Plans.{HasFlowsOf}
-use Rattle.program_plans.proofs.Bounds.{carries-bounded}
-use Rattle.plan_bases.specs.Divisors.{IsDivisorOf, IsFlowDivisor}
-use Rattle.plan_bases.proofs.CommonDivisors.{least-flow_base}
-use Rattle.flow_checks.specs.Flows.{flows_plan}
-use Rattle.flow_checks.specs.Sizes.{AreAtMost}
-use Rattle.flow_checks.specs.declared.flows.Flows.{Flows}
+use Rattle.program_model.specs.LeastBases.{IsLeastFlowBase}
+use Rattle.program_model.specs.Plans.{HasFlowsOf}
+use Rattle.program_model.proofs.Bounds.{carries-bounded}
+use Rattle.form_plans.specs.Divisors.{IsDivisorOf, IsFlowDivisor}
+use Rattle.form_plans.proofs.CommonDivisors.{least-flow_base}
+use Rattle.point_checks.specs.Flows.{flows_plan}
+use Rattle.point_checks.specs.Sizes.{AreAtMost}
+use Rattle.point_checks.specs.declared.flows.Flows.{Flows}
 use Rattle.form_plans.specs.Made.{IsMade}
 use Rattle.form_plans.specs.Faults.{AreTooFine}
 

@@ -9,13 +9,13 @@ use Rattle.program_model.proofs.SameFlows.{cost-same}
 use Rattle.program_points.specs.Held.{IsHeldOfQ}
 use Rattle.program_points.specs.Views.{shown_prop}
 use Rattle.program_points.specs.declared.points.PropPoint.{PropPoint}
-use Rattle.program_plans.specs.Plans.{IsPlanOfProportions}
-use Rattle.program_plans.proofs.PlanFlows.{plan-same, plan-obeys, proportions-parts, proportions-written}
-use Rattle.plan_bases.specs.Divisors.{IsFlowDivisor}
-use Rattle.flow_checks.specs.Flows.{flows_plan}
-use Rattle.point_checks.specs.Slices.{point_over, seen}
+use Rattle.program_model.specs.Plans.{IsPlanOfProportions}
+use Rattle.program_model.proofs.PlanFlows.{plan-same, plan-obeys, proportions-parts, proportions-written}
+use Rattle.form_plans.specs.Divisors.{IsFlowDivisor}
+use Rattle.point_checks.specs.Flows.{flows_plan}
+use Rattle.point_checks.specs.PropSlices.{point_over, seen}
 use Rattle.point_checks.specs.ProportionTests.{IsPropPoint}
-use Rattle.point_checks.specs.declared.slices.PropSlices.{PropSlices}
+use Rattle.point_checks.specs.declared.prop_slices.PropSlices.{PropSlices}
 use Rattle.form_plans.specs.Faults.{AreTooFine}
 use Rattle.form_plans.specs.Made.{IsMade}
 use Rattle.form_plans.specs.Slices.{AreSlicesOf}

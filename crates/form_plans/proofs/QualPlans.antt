@@ -11,16 +11,16 @@ use Rattle.program_model.proofs.SameFlows.{cost-same}
 use Rattle.program_points.specs.Held.{IsHeldOfP}
 use Rattle.program_points.specs.Views.{shown_qual}
 use Rattle.program_points.specs.declared.points.QualPoint.{QualPoint}
-use Rattle.program_plans.specs.LeastBases.{AreWholeParts, IsLeastPartBase}
-use Rattle.program_plans.specs.Plans.{IsPlanOfQualities}
-use Rattle.program_plans.proofs.PlanFlows.{plan-same, plan-obeys, qualities-parts, qualities-written}
-use Rattle.plan_bases.specs.Divisors.{IsFlowDivisor}
-use Rattle.flow_checks.specs.Flows.{AreFlows, flows_plan}
-use Rattle.quality_checks.specs.Slices.{point_over, seen}
-use Rattle.quality_checks.specs.QualityTests.{IsQualPoint}
-use Rattle.quality_checks.specs.declared.slices.QualSlices.{QualSlices}
-use Rattle.quality_checks.proofs.QualPoints.{point-fits}
-use Rattle.plan_parts.specs.Parts.{AreParts, AreTooFineParts}
+use Rattle.program_model.specs.LeastBases.{AreWholeParts, IsLeastPartBase}
+use Rattle.program_model.specs.Plans.{IsPlanOfQualities}
+use Rattle.program_model.proofs.PlanFlows.{plan-same, plan-obeys, qualities-parts, qualities-written}
+use Rattle.form_plans.specs.Divisors.{IsFlowDivisor}
+use Rattle.point_checks.specs.Flows.{AreFlows, flows_plan}
+use Rattle.point_checks.specs.QualSlices.{point_over, seen}
+use Rattle.point_checks.specs.QualityTests.{IsQualPoint}
+use Rattle.point_checks.specs.declared.qual_slices.QualSlices.{QualSlices}
+use Rattle.point_checks.proofs.QualPoints.{point-fits}
+use Rattle.form_plans.specs.Parts.{AreParts, AreTooFineParts}
 use Rattle.form_plans.specs.Faults.{AreTooFine}
 use Rattle.form_plans.specs.Made.{IsMade}
 use Rattle.form_plans.specs.Slices.{AreQualSlicesOf}

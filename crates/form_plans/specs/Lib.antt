@@ -1,3 +1,5 @@
+pub mod Divisors
+pub mod Parts
 pub mod Made
 pub mod Slices
 pub mod Faults

@@ -1,7 +1,7 @@
 -- The plan that is made of flows and weights.
 use Rattle.std.specs.Prelude.{◌≡◌, ℕ, ◌/◌, List, map}
 use Rattle.pool_model.specs.Plan.{Written}
-use Rattle.flow_checks.specs.declared.flows.Flows.{Flows}
+use Rattle.point_checks.specs.declared.flows.Flows.{Flows}
 
 -- the lists of a written plan: weights over a base, and flows over a divisor
 pub record IsMade (f : Flows) (g parts : ℕ) (weights : List ℕ) (w : Written) : Type 0 where

@@ -2,8 +2,8 @@
 use Rattle.std.specs.Prelude.{◌≡◌}
 use Rattle.program_points.specs.declared.points.PropPoint.{PropPoint}
 use Rattle.program_points.specs.declared.points.QualPoint.{QualPoint}
-use Rattle.point_checks.specs.declared.slices.PropSlices.{PropSlices}
-use Rattle.quality_checks.specs.declared.slices.QualSlices.{QualSlices}
+use Rattle.point_checks.specs.declared.prop_slices.PropSlices.{PropSlices}
+use Rattle.point_checks.specs.declared.qual_slices.QualSlices.{QualSlices}
 
 -- the lists are those of a point of Q
 pub record AreSlicesOf (q : PropPoint) (s : PropSlices) : Type 0 where

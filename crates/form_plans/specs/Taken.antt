@@ -7,8 +7,8 @@ use Rattle.program_points.specs.Held.{IsHeldOfP, IsHeldOfQ, IsHeldOfPq}
 use Rattle.program_points.specs.Views.{shown_prop, shown_qual}
 use Rattle.program_points.specs.declared.points.PropPoint.{PropPoint}
 use Rattle.program_points.specs.declared.points.QualPoint.{QualPoint}
-use Rattle.program_plans.specs.Plans.{IsPlanOfProportions, IsPlanOfQualities}
-use Rattle.plan_parts.specs.Parts.{AreTooFineParts}
+use Rattle.program_model.specs.Plans.{IsPlanOfProportions, IsPlanOfQualities}
+use Rattle.form_plans.specs.Parts.{AreTooFineParts}
 use Rattle.form_plans.specs.Faults.{AreTooFine}
 use Rattle.form_plans.specs.declared.fault.FormFault.{FormFault}
 use Rattle.form_plans.specs.declared.fault.FormFault.TheVariants.{NotAPoint, TooFine, Memory}

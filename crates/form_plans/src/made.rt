@@ -2,13 +2,13 @@
 
 ghost use Rattle.std.specs.Prelude.{◌≡◌, ◌*◌, ◌/◌, ◌<◌, ◌≤◌, ◌^◌, ◌↔◌, IfErr, IfOk, IsTrue};
 ghost use Rattle.plan_core.specs.Views.{shown_plan};
-ghost use Rattle.flow_checks.specs.Sizes.{AreAtMost};
+ghost use Rattle.point_checks.specs.Sizes.{AreAtMost};
 ghost use Rattle.form_plans.specs.Made.{IsMade};
 
 use crate::fault::FormFault;
-use flow_checks::Flows;
-use plan_bases::divided;
+use crate::flow_divisors::divided;
 use plan_core::WrittenPlan;
+use point_checks::Flows;
 use std::alloc::Global;
 
 /// The greatest flow base of a written plan.

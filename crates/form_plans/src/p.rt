@@ -12,14 +12,15 @@ ghost use Rattle.plan_core.specs.Views.{shown_plan};
 ghost use Rattle.form_plans.specs.Taken.{HasPlanOfP, IsFaultOfP, IsQualPlan};
 
 use crate::fault::FormFault;
+use crate::feeds::weights;
+use crate::flow_divisors::flow_divisor;
 use crate::made::{is_fine, made};
+use crate::part_bases::part_base;
 use crate::slices::qual_slices;
 use blend_network::Network;
-use plan_bases::flow_divisor;
 use plan_core::WrittenPlan;
-use plan_parts::{part_base, weights};
+use point_checks::is_qual_point;
 use program_points::QualPoint;
-use quality_checks::is_qual_point;
 use std::alloc::Global;
 
 /// The written plan of a point: each feed's part of what its pool sends as its weight, over the least base that makes all parts

@@ -6,10 +6,10 @@ ghost use Rattle.plan_core.specs.Views.{shown_plan};
 ghost use Rattle.form_plans.specs.Taken.{HasPlanOfQ, IsFaultOfQ, IsPropPlan};
 
 use crate::fault::FormFault;
+use crate::flow_divisors::flow_divisor;
 use crate::made::{is_fine, made};
 use crate::slices::prop_slices;
 use blend_network::Network;
-use plan_bases::flow_divisor;
 use plan_core::WrittenPlan;
 use point_checks::is_prop_point;
 use program_points::PropPoint;

@@ -2,10 +2,8 @@
 
 ghost use Rattle.form_plans.specs.Slices.{AreQualSlicesOf, AreSlicesOf};
 
-use flow_checks::Flows;
-use point_checks::PropSlices;
+use point_checks::{Flows, PropSlices, QualSlices};
 use program_points::{PropPoint, QualPoint};
-use quality_checks::QualSlices;
 
 /// The lists of a point of form Q.
 pub(crate) fn prop_slices(point: &PropPoint) -> PropSlices<'_>

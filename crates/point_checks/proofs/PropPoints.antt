@@ -5,10 +5,10 @@ use Rattle.pool_model.specs.Plan.{Carries}
 use Rattle.row_model.specs.Variables.{path_count, path_feed, path_out}
 use Rattle.row_model.proofs.PathSums.{path_feed-below, path_out-below}
 use Rattle.program_model.specs.Points.{proportion_flows}
-use Rattle.program_plans.proofs.Bounds.{carries-bounded, part-le, path-le, proportion-le}
-use Rattle.point_checks.specs.Slices.{seen}
+use Rattle.program_model.proofs.Bounds.{carries-bounded, part-le, path-le, proportion-le}
+use Rattle.point_checks.specs.PropSlices.{seen}
 use Rattle.point_checks.specs.ProportionTests.{HasPropShape, IsPropPoint, FitsProps, AreSmallProps, SumsToOne, ComesFrom, IsProduct, KeepsLimits}
-use Rattle.point_checks.specs.declared.slices.PropSlices.{PropSlices}
+use Rattle.point_checks.specs.declared.prop_slices.PropSlices.{PropSlices}
 
 -- the sizes of a point hold by themselves
 pub point-fits : (n : Net) (s : PropSlices) → IsLimited n → IsPropPoint n s → FitsProps s

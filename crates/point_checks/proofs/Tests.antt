@@ -5,7 +5,7 @@ use Rattle.std.proofs.lemmas.Int.{ints}
 use mir.Syntax.{w128}
 use mir.Val.{to_z, of_z}
 use Rattle.pool_model.specs.Network.{Net}
-use Rattle.flow_checks.specs.Qualities.{MeetsLimits}
+use Rattle.point_checks.specs.Qualities.{MeetsLimits}
 
 -- where the fact fails at a number, it doesn't hold at each
 pub never_every : (P : ℕ → Type 0) (i m : ℕ) → i < m → (P i → IsTrue false) → (IsTrue false → (k : ℕ) → k < m → P k) × (((k : ℕ) → k < m → P k) → IsTrue false)

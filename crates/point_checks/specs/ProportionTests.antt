@@ -6,10 +6,10 @@ use Rattle.pool_model.specs.Plan.{product_inflow}
 use Rattle.row_model.specs.Variables.{path_count, path_feed, path_out}
 use Rattle.program_model.specs.Points.{ProportionPoint, proportion_flows}
 use Rattle.program_model.specs.Programs.{IsPointOfQ, path_inflow}
-use Rattle.flow_checks.specs.Sizes.{AreAtMost, FlowsFit}
-use Rattle.flow_checks.specs.Qualities.{MeetsLimits}
-use Rattle.point_checks.specs.Slices.{seen}
-use Rattle.point_checks.specs.declared.slices.PropSlices.{PropSlices}
+use Rattle.point_checks.specs.Sizes.{AreAtMost, FlowsFit}
+use Rattle.point_checks.specs.Qualities.{MeetsLimits}
+use Rattle.point_checks.specs.PropSlices.{seen}
+use Rattle.point_checks.specs.declared.prop_slices.PropSlices.{PropSlices}
 
 -- both bases of a point are above 0 and within their limits
 pub record AreBases (first other : ℕ) : Type 0 where

@@ -4,12 +4,14 @@ ghost use Rattle.std.specs.Prelude.{◌≡◌, ℕ, ◌*◌, ◌<◌, ◌≤◌,
 ghost use Rattle.integers.specs.Sums.{sum_at};
 ghost use Rattle.pool_model.specs.Network.{IsLimited, net_of};
 ghost use Rattle.row_model.specs.Variables.{path_count};
-ghost use Rattle.point_checks.specs.Slices.{seen};
+ghost use Rattle.point_checks.specs.PropSlices.{seen};
 ghost use Rattle.point_checks.specs.ProportionTests.{AreBases, ComesFrom, FitsProps, HasPropShape, IsProduct, SumsToOne};
 
-use crate::slices::PropSlices;
+use crate::fits::{are_at_most, are_proportions, flows_fit, most_flow};
+use crate::flows::Flows;
+use crate::prop_slices::PropSlices;
+use crate::sums::sum_at_node;
 use blend_network::{Key, Network};
-use flow_checks::{Flows, are_at_most, are_proportions, flows_fit, most_flow, sum_at_node};
 
 /// The greatest base of a point.
 const MAX_BASE: u64 = 68_719_476_736;

@@ -5,12 +5,15 @@ ghost use Rattle.pool_model.specs.Network.{IsLimited, net_of};
 ghost use Rattle.pool_model.specs.Plan.{Carries};
 ghost use Rattle.program_model.specs.Points.{proportion_flows};
 ghost use Rattle.point_checks.specs.ProportionTests.{AreSmallProps, FitsProps, HasPropShape, IsPropPoint, KeepsLimits};
-ghost use Rattle.point_checks.specs.Slices.{seen};
+ghost use Rattle.point_checks.specs.PropSlices.{seen};
 
+use crate::carried::carry;
+use crate::carriers::Carrier;
 use crate::prop_checks::{are_products, come_from_feeds, fits, has_shape, sum_to_one};
-use crate::slices::PropSlices;
+use crate::prop_slices::PropSlices;
+use crate::qualities::{is_within_limits, quality_into};
+use crate::sums::sum_at_node;
 use blend_network::{Key, Network};
-use flow_checks::{Carrier, carry, is_within_limits, quality_into, sum_at_node};
 
 /// Whether the point is one of form Q within the limits.
 pub fn is_prop_point(net: &Network, point: &PropSlices) -> bool

@@ -12,3 +12,6 @@ pub mod MixedRows
 pub mod ExactRows
 pub mod LimitLists
 pub mod RowsBack
+pub mod PlanFlows
+pub mod Least
+pub mod Bounds

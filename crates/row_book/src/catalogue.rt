@@ -11,6 +11,7 @@ ghost use Rattle.row_book.specs.PartRows.{kind_at, IsRow};
 use crate::network_rows;
 use blend_network::Network;
 use box_space::{BoxView, Form, LinRow, RowKind};
+use formulations::{p, pq, q};
 
 /// The groups of rows, in the order of their numbers.
 #[derive(Clone, Copy, Debug)]
@@ -31,7 +32,7 @@ pub fn rows(net: &Network) -> u32
     ensures few { result ≤ 13424 }
     ensures limited { IsLimited (net_of net.now) }
 {
-    network_rows::count(net) + (p_form::count(net) + (q_form::count(net) + pq_form::count(net)))
+    network_rows::count(net) + (p::count(net) + (q::count(net) + pq::count(net)))
 }
 
 /// The group of a row, and its number there.
@@ -45,12 +46,12 @@ fn place_of(net: &Network, id: u32) -> (Group, u32)
         return (Group::Network, id);
     }
     let id = id - network;
-    let by_quality = p_form::count(net);
+    let by_quality = p::count(net);
     if id < by_quality {
         return (Group::P, id);
     }
     let id = id - by_quality;
-    let by_proportion = q_form::count(net);
+    let by_proportion = q::count(net);
     if id < by_proportion {
         return (Group::Q, id);
     }
@@ -97,8 +98,8 @@ fn written(net: &Network, v: &BoxView, id: u32, row: &mut LinRow) -> RowKind
     let (group, n) = place_of(net, id);
     match group {
         Group::Network => row.write(net, &network_rows::table_at(net, n)),
-        Group::P => p_form::row(net, n, v, row),
-        Group::Q => q_form::row(net, n, v, row),
-        Group::Further => pq_form::row(net, n, v, row),
+        Group::P => p::row(net, n, v, row),
+        Group::Q => q::row(net, n, v, row),
+        Group::Further => pq::row(net, n, v, row),
     }
 }

@@ -8,6 +8,7 @@ ghost use Rattle.row_book.specs.Exact.{first_of, exact_count};
 use crate::catalogue::Group;
 use crate::network_rows;
 use blend_network::Network;
+use formulations::{p, pq, q};
 
 /// Rows of the catalogue, one after another.
 #[derive(Clone, Copy, Debug)]
@@ -58,7 +59,7 @@ fn of_p(net: &Network) -> RowRange
 {
     RowRange {
         first: network_rows::count(net),
-        count: p_form::exact_rows(net),
+        count: p::exact_rows(net),
     }
 }
 
@@ -71,8 +72,8 @@ fn of_q(net: &Network) -> RowRange
     ensures limited { IsLimited (net_of net.now) }
 {
     RowRange {
-        first: network_rows::count(net) + p_form::count(net),
-        count: q_form::exact_rows(net),
+        first: network_rows::count(net) + p::count(net),
+        count: q::exact_rows(net),
     }
 }
 
@@ -85,7 +86,7 @@ fn further(net: &Network) -> RowRange
     ensures limited { IsLimited (net_of net.now) }
 {
     RowRange {
-        first: network_rows::count(net) + p_form::count(net) + q_form::count(net),
-        count: pq_form::count(net),
+        first: network_rows::count(net) + p::count(net) + q::count(net),
+        count: pq::count(net),
     }
 }

@@ -1,6 +1,6 @@
 use Rattle.std.proofs.Common.{ℕ, ◌<◌, arith, below_more, refl}
 use Rattle.pool_model.specs.Network.{net_of}
-use Rattle.point_checks.specs.Slices.{seen}
+use Rattle.point_checks.specs.PropSlices.{seen}
 use Rattle.point_checks.specs.ProportionTests.{KeepsLimits}
 use Rattle.point_checks.proofs.Tests.{every, never_every}
 use Rattle.point_checks.proofs.prop_limits.keep_limits.Goals as goal

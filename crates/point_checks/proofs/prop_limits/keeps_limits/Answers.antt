@@ -5,7 +5,7 @@ use Rattle.pool_model.specs.Plan.{product_inflow}
 use Rattle.row_model.specs.Variables.{path_count, path_feed, path_out}
 use Rattle.program_model.specs.Points.{proportion_flows}
 use Rattle.program_model.specs.Programs.{direct_mix}
-use Rattle.point_checks.specs.Slices.{seen}
+use Rattle.point_checks.specs.PropSlices.{seen}
 use Rattle.point_checks.specs.ProportionTests.{KeepsLimits}
 use Rattle.point_checks.proofs.Tests.{same-test, meets-same, wide_sum}
 use Rattle.point_checks.proofs.prop_limits.keeps_limits.Goals as goal

@@ -1,2 +1,0 @@
--- Lemmas on sums over the numbers of a key.
-pub mod Parts

@@ -1,0 +1,5 @@
+pub mod FamiliesOfP
+pub mod FamiliesOfPq
+pub mod FamiliesOfQ
+pub mod ProportionEnvelopes
+pub mod QualityEnvelopes

@@ -1,3 +1,0 @@
--- Lemmas on divisors and multiples.
-pub mod CommonDivisors
-pub mod Multiples

@@ -1,6 +1,0 @@
-use Rattle.std.proofs.Common.{get_or}
-use Rattle.plan_bases.specs.Divisors.{IsDivisorOf}
-use Rattle.plan_bases.proofs.bases.common_divisor.Given as goal
-
-abbrev pub invariant-loop-part : goal.invariant-loop-part
-invariant-loop-part l = IsDivisorOf l.start (λ i. get_or l.parts i 0) l.part-index l.divisor

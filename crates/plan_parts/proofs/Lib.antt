@@ -1,2 +1,0 @@
--- Lemmas on parts.
-pub mod Parts

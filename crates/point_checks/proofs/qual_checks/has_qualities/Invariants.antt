@@ -1,0 +1,8 @@
+use Rattle.std.proofs.Common.{ℕ, ◌<◌}
+use Rattle.pool_model.specs.Network.{net_of}
+use Rattle.point_checks.specs.QualityTests.{HasQuality}
+use Rattle.point_checks.specs.QualSlices.{seen}
+use Rattle.point_checks.proofs.qual_checks.has_qualities.Given as goal
+
+abbrev pub invariant-loop-quality : goal.invariant-loop-quality
+invariant-loop-quality l = (k : ℕ) → k < l.quality → HasQuality (net_of l.net) (seen (net_of l.net) l.point) l.out k

@@ -1,0 +1,15 @@
+use Rattle.std.proofs.Common.{arith, below_more, refl}
+use Rattle.pool_model.specs.Network.{net_of}
+use Rattle.point_checks.proofs.Tests.{never_every}
+use Rattle.point_checks.specs.QualSlices.{seen}
+use Rattle.point_checks.specs.QualityTests.{KeepsQuality}
+use Rattle.point_checks.proofs.qual_checks.keeps_qualities.Goals as goal
+
+pub returns-then-not-keeps_quality : goal.returns-then-not-keeps_quality
+returns-then-not-keeps_quality c =
+    let n = net_of c.args.net.now in
+    never_every (KeepsQuality n (seen n c.args.point.now) c.args.pool) c.loop-quality.quality n.qualities
+    (omega (arith, c.loop-quality-test.true, c.sizes-counts.ensures.counts.qualities)) c.if-not-keeps_quality.ensures.1
+
+pub loop-quality-preserved : goal.loop-quality-preserved
+loop-quality-preserved c = below_more _ _ c.loop-quality.invariant (c.if-not-keeps_quality.ensures.0 refl)

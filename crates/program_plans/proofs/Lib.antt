@@ -1,4 +1,0 @@
--- Lemmas behind the laws.
-pub mod PlanFlows
-pub mod Least
-pub mod Bounds

@@ -1,3 +1,0 @@
-pub mod LeastBases
-pub mod Plans
-pub mod Bounds

@@ -1,4 +1,0 @@
--- Lemmas on points of form P.
-pub mod RootEnds
-pub mod QualPoints
-pub mod Signed

@@ -1,8 +1,0 @@
-use Rattle.std.proofs.Common.{ℕ, ◌<◌}
-use Rattle.pool_model.specs.Network.{net_of}
-use Rattle.quality_checks.specs.QualityTests.{KeepsQuality}
-use Rattle.quality_checks.specs.Slices.{seen}
-use Rattle.quality_checks.proofs.checks.keep_qualities.Given as goal
-
-abbrev pub invariant-loop-pool : goal.invariant-loop-pool
-invariant-loop-pool l = (i : ℕ) → i < l.pool → (k : ℕ) → k < (net_of l.net).qualities → KeepsQuality (net_of l.net) (seen (net_of l.net) l.point) i k

@@ -1,8 +1,0 @@
-use Rattle.std.proofs.Common.{ℕ, ◌<◌}
-use Rattle.pool_model.specs.Network.{net_of}
-use Rattle.quality_checks.specs.QualityTests.{KeepsLimits}
-use Rattle.quality_checks.specs.Slices.{seen}
-use Rattle.quality_checks.proofs.limits.keep_limits.Given as goal
-
-abbrev pub invariant-loop-product : goal.invariant-loop-product
-invariant-loop-product l = (j : ℕ) → j < l.product → (k : ℕ) → k < (net_of l.net).qualities → KeepsLimits (net_of l.net) (seen (net_of l.net) l.point) j k
