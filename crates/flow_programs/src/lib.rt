@@ -1,10 +1,11 @@
-//! The flows of least cost at given proportions, and their mending.
+//! The flows of least cost at given proportions, their mending, and steps to other proportions.
 //!
 //! Where the proportions of a network's pools are fixed, its plans are the points of a small linear program in the outflows
 //! and the directs. [`flow_program`] puts it together from an [`Outline`], the network's numbers as plain lists, and a
 //! [`Blend`], what the pools mix; [`SmallProgram::lp`] is what advice is asked on. [`flows_of`] reads the flows off the point
 //! of an advice, [`rounded`] brings proportions to their base, and [`Flows::mend`] lowers flows that were rounded until they
-//! keep each limit again.
+//! keep each limit again. [`step_program`] moves proportions and flows together, and [`stepped`] reads off where its point
+//! leads; [`vertex_of`] has the flows of an advice exactly.
 //!
 //! Nobody has to trust any of it: whoever makes a plan of these flows has it checked. So every call is safe and returns for
 //! every value of its arguments, and that is all that is promised. Sums and products wrap, what is kept is brought into its
@@ -20,6 +21,8 @@ mod mending;
 mod outline;
 mod program;
 mod rounding;
+mod steps;
+mod vertex;
 
 pub use blend::Blend;
 pub use flows::{Layout, flow_program, flows_of};
@@ -28,3 +31,5 @@ pub use mending::Flows;
 pub use outline::{Arc, Arcs, GRAIN, Limit, Meetings, Nodes, Outline, Product, Qualities, Source};
 pub use program::SmallProgram;
 pub use rounding::rounded;
+pub use steps::{Place, Reach, Stepped, step_program, stepped};
+pub use vertex::{Vertex, vertex_of};

@@ -9,16 +9,12 @@
 //! |---|---|
 //! | `reading` | the network's numbers as the programs take them |
 //! | `tries` | the order in which plans are tried, and the cheapest of them |
-//! | `steps` | successive programs, in which proportions and flows move together |
 //! | `solving` | the simplex method of `lp_simplex` on one program after the other |
-//! | `vertex` | the vertex of a flow program, exactly |
 #![tactic(auto)]
 
 mod reading;
 mod solving;
-mod steps;
 mod tries;
-mod vertex;
 
 use blend_network::Network;
 use edge_io::Memory;

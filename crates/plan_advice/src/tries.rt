@@ -9,10 +9,11 @@
 //! before the steps from a plan: where the first step's program takes no plan near the point to be cheaper.
 
 use crate::solving::solve;
-use crate::steps::{Place, Reach, step};
-use crate::vertex::{Vertex, vertex_of};
 use blend_network::Network;
-use flow_programs::{Blend, Flows, GRAIN, Layout, Outline, flow_program, flows_of, rounded};
+use flow_programs::{
+    Blend, Flows, GRAIN, Layout, Outline, Place, Reach, Stepped, Vertex, flow_program, flows_of,
+    rounded, step_program, stepped, vertex_of,
+};
 use lp_sparse::lookup::{at, put};
 use plan_core::{Cost, WrittenPlan, check_plan, compare_cost};
 use std::alloc::{AllocError, Global};
@@ -200,11 +201,29 @@ impl<'a> Search<'a> {
             parts: &start.parts,
             outflows: &start.outflows,
         };
-        match step(alloc, self.outline, place, reach, &mut self.bases.steps)? {
+        match self.step(alloc, place, reach)? {
             None => Ok(()),
             Some(stepped) => {
                 self.outlook = self.outlook.or(Some(stepped.cost));
                 self.at_parts(alloc, stepped.parts)
+            }
+        }
+    }
+
+    /// Where a step leads; none where its program seems to have no point.
+    fn step(
+        &mut self,
+        alloc: Global,
+        place: Place<'_>,
+        reach: Reach,
+    ) -> Result<Option<Stepped>, AllocError> {
+        let mut program = step_program(alloc, self.outline, place, reach)?;
+        match solve(alloc, &mut program, &mut self.bases.steps)? {
+            None => Ok(None),
+            Some(advice) => {
+                let point = advice.point.as_slice();
+                let stepped = stepped(alloc, self.outline, place, &program, point)?;
+                Ok(Some(stepped))
             }
         }
     }

@@ -4,9 +4,9 @@
 //! the other flows stand at their ends. They are solved by Gauss and Jordan in exact fractions. Where a fraction leaves 128
 //! bits, or the flows need a greater base than a plan may have, there is no vertex.
 
+use crate::program::SmallProgram;
 use exact_num::Frac;
-use flow_programs::SmallProgram;
-use lp_simplex::Advice;
+use linear_program::Advice;
 use lp_sparse::lookup::{at, put};
 use std::alloc::{AllocError, Global};
 

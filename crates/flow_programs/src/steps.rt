@@ -6,8 +6,11 @@
 //! optimization of continuous processing systems, 1961; on pooling C. A. Haverly, Studies of the behavior of recursion for
 //! the pooling problem, 1978). Changes are at most a radius, and sum to 0 in each pool.
 
-use crate::solving::solve;
-use flow_programs::{Blend, GRAIN, Layout, Limit, Outline, SmallProgram, flow_program, rounded};
+use crate::blend::Blend;
+use crate::flows::{Layout, flow_program};
+use crate::outline::{GRAIN, Limit, Outline};
+use crate::program::SmallProgram;
+use crate::rounding::rounded;
 use lp_sparse::lookup::at;
 use std::alloc::{AllocError, Global};
 
@@ -33,24 +36,19 @@ pub struct Stepped {
     pub cost: i128,
 }
 
-/// Where a step leads; none where its program seems to have no point.
-pub fn step(
+/// Where a step leads, by a point of its program.
+pub fn stepped(
     alloc: Global,
     outline: &Outline,
     place: Place<'_>,
-    reach: Reach,
-    basis: &mut Vec<u32>,
-) -> Result<Option<Stepped>, AllocError> {
-    let mut program = step_program(alloc, outline, place, reach)?;
-    match solve(alloc, &mut program, basis)? {
-        None => Ok(None),
-        Some(advice) => {
-            let cost = program.cost(&advice.point);
-            let numbers = moved(alloc, outline, place.parts, &advice.point)?;
-            let parts = rounded(alloc, outline, &numbers)?;
-            Ok(Some(Stepped { parts, cost }))
-        }
-    }
+    program: &SmallProgram,
+    point: &[i128],
+) -> Result<Stepped, AllocError> {
+    let numbers = moved(alloc, outline, place.parts, point)?;
+    Ok(Stepped {
+        parts: rounded(alloc, outline, &numbers)?,
+        cost: program.cost(point),
+    })
 }
 
 /// The proportions with what the program changes of them, in units of 2^-32 of the grain's parts.
@@ -70,7 +68,8 @@ fn moved(
     Ok(numbers)
 }
 
-fn step_program(
+/// The program of a step.
+pub fn step_program(
     alloc: Global,
     outline: &Outline,
     place: Place<'_>,
