@@ -22,7 +22,7 @@ from pathlib import Path
 sys.dont_write_bytecode = True
 TOP = Path(__file__).resolve().parent.parent
 checker = SourceFileLoader("second_checker", str(TOP / "tools" / "second_checker.py")).load_module()
-PAGES = [TOP / "README.md", TOP / "examples" / "README.md", *sorted((TOP / "docs").glob("*.md"))]
+PAGES = [TOP / "README.md", TOP / "examples" / "README.md", *sorted((TOP / "docs").rglob("*.md"))]
 LINK = re.compile(r"\]\(([^)\s]+)\)")
 CRATES = TOP / "crates"
 CITED = re.compile(r"\buse Rattle\.(\w+)\.proofs\.(\w+)")

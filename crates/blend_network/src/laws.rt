@@ -12,5 +12,6 @@ ghost use Rattle.blend_network.specs.Canonical.{canonical_rows};
 pub fn canonical_law()
     ensures network { (n : Network) → IsMade n → network_of (canonical_rows n) ≡ n }
     ensures rectangular { (n : Network) → IsMade n → IsRectangular (canonical_rows n) }
+    // Promise: The rows of the canonical text give no reason to refuse them
     ensures faultless { (n : Network) → IsMade n → IsLimited (net_of n) → IsFaultless (canonical_rows n) }
 {}

@@ -136,6 +136,7 @@ impl Network {
     /// What a unit from the source costs, in millionths of money.
     pub fn source_cost(&self, n: u32) -> i64
         requires { n < (net_of self.now).sources }
+        // Promise: Each reader gives the network's number
         ensures value { result ≡ (net_of self.now).source_cost n }
         ensures size { unsigned_abs result ≤ 10 ^ 12 }
     {
@@ -145,6 +146,7 @@ impl Network {
     /// How much the source can send, in millionths.
     pub fn source_max(&self, n: u32) -> i64
         requires { n < (net_of self.now).sources }
+        // Promise: Each reader gives the network's number
         ensures { result ≡ pos ((net_of self.now).source_max n) }
     {
         self.sources[n as usize].max as i64
@@ -154,6 +156,7 @@ impl Network {
     pub fn source_quality(&self, i: u32, k: u32) -> i64
         requires source { i < (net_of self.now).sources }
         requires quality { k < (net_of self.now).qualities }
+        // Promise: Each reader gives the network's number
         ensures value { result ≡ (net_of self.now).source_quality i k }
         ensures size { unsigned_abs result ≤ 10 ^ 11 }
     {
@@ -163,6 +166,7 @@ impl Network {
     /// How much can flow through the pool, in millionths.
     pub fn pool_max(&self, n: u32) -> i64
         requires { n < (net_of self.now).pools }
+        // Promise: Each reader gives the network's number
         ensures { result ≡ pos ((net_of self.now).pool_max n) }
     {
         self.pools[n as usize].max as i64
@@ -171,6 +175,7 @@ impl Network {
     /// What a unit of the product brings, in millionths of money.
     pub fn product_price(&self, n: u32) -> i64
         requires { n < (net_of self.now).products }
+        // Promise: Each reader gives the network's number
         ensures value { result ≡ (net_of self.now).price n }
         ensures size { unsigned_abs result ≤ 10 ^ 12 }
     {
@@ -180,6 +185,7 @@ impl Network {
     /// How much must flow into the product, in millionths.
     pub fn product_min(&self, n: u32) -> i64
         requires { n < (net_of self.now).products }
+        // Promise: Each reader gives the network's number
         ensures { result ≡ pos ((net_of self.now).product_min n) }
     {
         self.products[n as usize].min as i64
@@ -188,6 +194,7 @@ impl Network {
     /// How much can flow into the product, in millionths.
     pub fn product_max(&self, n: u32) -> i64
         requires { n < (net_of self.now).products }
+        // Promise: Each reader gives the network's number
         ensures value { result ≡ pos ((net_of self.now).product_max n) }
         ensures size { (net_of self.now).product_max n ≤ 10 ^ 12 }
     {
@@ -198,6 +205,7 @@ impl Network {
     pub fn product_least(&self, j: u32, k: u32) -> Option<i64>
         requires product { j < (net_of self.now).products }
         requires quality { k < (net_of self.now).qualities }
+        // Promise: Each reader gives the network's number
         ensures value { result ≡ (net_of self.now).least j k }
         ensures size { IfSome result (IsWithin (10 ^ 11)) }
     {
@@ -208,6 +216,7 @@ impl Network {
     pub fn product_most(&self, j: u32, k: u32) -> Option<i64>
         requires product { j < (net_of self.now).products }
         requires quality { k < (net_of self.now).qualities }
+        // Promise: Each reader gives the network's number
         ensures value { result ≡ (net_of self.now).most j k }
         ensures size { IfSome result (IsWithin (10 ^ 11)) }
     {
@@ -219,7 +228,9 @@ impl Network {
         requires { n < (net_of self.now).feeds }
         ensures source { result.0 ≡ (net_of self.now).feed_source n }
         ensures pool { result.1 ≡ (net_of self.now).feed_pool n }
+        // Promise: An end of an arc is a node that is there
         ensures known_source { result.0 < (net_of self.now).sources }
+        // Promise: An end of an arc is a node that is there
         ensures known_pool { result.1 < (net_of self.now).pools }
     {
         self.feeds[n as usize].ends()
@@ -230,7 +241,9 @@ impl Network {
         requires { n < (net_of self.now).outs }
         ensures pool { result.0 ≡ (net_of self.now).out_pool n }
         ensures product { result.1 ≡ (net_of self.now).out_product n }
+        // Promise: An end of an arc is a node that is there
         ensures known_pool { result.0 < (net_of self.now).pools }
+        // Promise: An end of an arc is a node that is there
         ensures known_product { result.1 < (net_of self.now).products }
     {
         self.outs[n as usize].ends()
@@ -241,7 +254,9 @@ impl Network {
         requires { n < (net_of self.now).directs }
         ensures source { result.0 ≡ (net_of self.now).direct_source n }
         ensures product { result.1 ≡ (net_of self.now).direct_product n }
+        // Promise: An end of an arc is a node that is there
         ensures known_source { result.0 < (net_of self.now).sources }
+        // Promise: An end of an arc is a node that is there
         ensures known_product { result.1 < (net_of self.now).products }
     {
         self.directs[n as usize].ends()

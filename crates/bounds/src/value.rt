@@ -23,7 +23,9 @@ pub fn value_in(
     requires ends { AreEnds (net_of net.now) ends.now }
     requires fits { Fits (net_of net.now) scratch.old }
     ensures in_order { (b : Box) → AreEndsOf (net_of net.now) b ends.now → IfOk result (λ _. IsInOrder (net_of net.now) b (shown_proof proof.now)) }
+    // Promise: What a proof shows of a box that is held, or its first fault
     ensures shown { (b : Box) → AreEndsOf (net_of net.now) b ends.now → IfOk result (λ s. shown_value s ≡ shown_by (net_of net.now) b (shown_proof proof.now)) }
+    // Promise: What a proof shows of a box that is held, or its first fault
     ensures fault { (b : Box) → AreEndsOf (net_of net.now) b ends.now → IfErr result (IsFirstFault (net_of net.now) b (shown_proof proof.now)) }
     ensures fits { Fits (net_of net.now) scratch.new }
 {

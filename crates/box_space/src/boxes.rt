@@ -75,8 +75,11 @@ pub fn halves(
     requires low { coord < length b.now.low.items }
     requires high { coord < length b.now.high.items }
     requires inside { (get_or b.now.low.items coord (pos 0) <ℤ cut) × (cut <ℤ get_or b.now.high.items coord (pos 0)) }
+    // Promise: The halves of a box are those of the definition
     ensures cut { IfOk result (λ h. AreHalves b.now h.0 h.1 coord cut) }
+    // Promise: Both halves of a box are boxes of the network
     ensures proper { IfOk result (λ h. (n : Net) → AreEnds n b.now → AreEnds n h.0 × AreEnds n h.1) }
+    // Promise: A plan in a box lies in one of its halves
     ensures covers { IfOk result (λ h. (n : Net) (p : Plan) → LiesIn n p (shown_box_ends b.now) → LiesIn n p (shown_box_ends h.0) ⊎ LiesIn n p (shown_box_ends h.1)) }
 {
     cut_at(alloc, b, coord, cut)

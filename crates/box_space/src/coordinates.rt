@@ -41,6 +41,7 @@ pub struct Split {
 
 /// How many coordinates there are: proportions by feed, then qualities by pool, then flows by out.
 pub fn coords(net: &Network) -> u32
+    // Promise: Coordinates, the root box, ends and costs of variables are the definitions'
     ensures count { result ≡ boxes.coords (net_of net.now) }
     ensures small { result ≤ 640 }
     ensures limited { IsLimited (net_of net.now) }
@@ -52,6 +53,7 @@ pub fn coords(net: &Network) -> u32
 /// The coordinate of a number.
 pub fn coord_at(net: &Network, n: u32) -> Coord
     requires { n < boxes.coords (net_of net.now) }
+    // Promise: Coordinates, the root box, ends and costs of variables are the definitions'
     ensures among { IsCoord (net_of net.now) result }
     ensures coordinate { shown_coord result ≡ boxes.coord_at (net_of net.now) n }
 {

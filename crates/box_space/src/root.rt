@@ -19,6 +19,7 @@ const GRAIN: i64 = 1_048_576;
 
 /// The box of all plans that obey.
 pub fn root_box(alloc: Global, net: &Network) -> Result<BoxEnds, Memory>
+    // Promise: Coordinates, the root box, ends and costs of variables are the definitions'
     ensures root { IfOk result (λ b. AreRoot (net_of net.now) b) }
     ensures proper { IfOk result (λ b. AreEnds (net_of net.now) b) }
     ensures limited { IsLimited (net_of net.now) }

@@ -82,6 +82,7 @@ pub fn variable_at(net: &Network, var: u32) -> Variable
 /// What a unit of a variable costs, in picos a millionth.
 pub fn var_cost(net: &Network, var: u32) -> i64
     requires { var < variables (net_of net.now) }
+    // Promise: Coordinates, the root box, ends and costs of variables are the definitions'
     ensures small { unsigned_abs result ≤ 2 * 10 ^ 12 }
     ensures cost { result ≡ by_number (net_of net.now) (costs (net_of net.now)) var }
 {
@@ -123,6 +124,7 @@ fn margin(cost: i64, price: i64) -> i64
 pub fn var_ends(net: &Network, v: &BoxView, var: u32) -> (i128, i128)
     requires view { IsView (net_of net.now) v.now }
     requires var { var < variables (net_of net.now) }
+    // Promise: Coordinates, the root box, ends and costs of variables are the definitions'
     ensures low { result.0 ≡ by_number (net_of net.now) (lows (net_of net.now) (shown_box v.now)) var }
     ensures high { result.1 ≡ by_number (net_of net.now) (highs (net_of net.now) (shown_box v.now)) var }
 {

@@ -39,5 +39,6 @@ open_leaf node None = None
 open_leaf node (Some bound) = Some (record { bound = bound; node = node })
 
 -- the set has one pair for each leaf that may hold a plan, with its bound, and no other
+-- Promise: The set that the tree keeps has a pair for each leaf that may hold a plan, with its bound, and no other
 pub record AreIndexed (splits : List Split) (bounds : List (Option ℤ)) (leaves : List OpenLeaf) : Type 0 where
   pub members : (leaf : OpenLeaf) → Contains leaves leaf ↔ (bound_at splits bounds leaf.node ≡ Some leaf.bound)

@@ -32,10 +32,14 @@ impl Tree {
     /// root, and values the proof there.
     pub fn apply(&mut self, net: &Network, entry: Entry) -> Result<(), EntryFault>
         requires { IsOf (net_of net.now) self.old }
+        // Promise: An entry that is taken makes of the tree what the definition says
         ensures ok { IfOk result (λ _. searched_of self.new.kept ≡ after (searched_of self.old.kept) (shown_entry entry)) }
+        // Promise: An entry is taken only where it is in order
         ensures in_order { IfOk result (λ _. IsEntryInOrder (net_of net.now) (searched_of self.old.kept) (shown_entry entry)) }
+        // Promise: Of an entry that is not taken the first fault is answered
         ensures fault { IfErr result (λ f. f ≢ EntryFault.Memory → IsFirstFault (net_of net.now) (searched_of self.old.kept) (shown_entry entry) f) }
         ensures refused { IfErr result (λ f. f ≢ EntryFault.Memory → ¬ IsEntryInOrder (net_of net.now) (searched_of self.old.kept) (shown_entry entry)) }
+        // Promise: A tree that doesn't take an entry is unchanged, want of memory included
         ensures unchanged { IfErr result (λ _. self.new.kept ≡ self.old.kept) }
         ensures tree { IsOf (net_of net.now) self.new }
     {

@@ -36,7 +36,9 @@ impl Tree {
     /// The least bound of a leaf, in picos: every plan that obeys costs at least that. None exactly where every leaf holds no plan,
     /// and then no plan obeys.
     pub fn bound(&self) -> Option<i128>
+        // Promise: The tree's bound is the definition's
         ensures bound { (n : Net) → IsOf n self.now → result ≡ tree_bound n (searched_of self.now.kept).tree }
+        // Promise: Every plan that obeys costs at least the tree's bound
         ensures costs { (n : Net) → IsLimited n → IsOf n self.now → MatchOption result (HasNoPlan n) (IsBound n) }
         ensures kept { result ≡ least_below (kept_leaf_bound self.now.kept) (length self.now.kept.bounds) }
     {
@@ -48,6 +50,7 @@ impl Tree {
 
     /// The leaf of the least bound, of the lowest number at a tie. None exactly where every leaf holds no plan.
     pub fn least_leaf(&self) -> Option<u32>
+        // Promise: The bounds of nodes, the least leaf and the box of a node are the definitions'
         ensures { (n : Net) → IsOf n self.now → MatchOption result (tree_bound n (searched_of self.now.kept).tree ≡ None) (IsLeastLeaf n (searched_of self.now.kept).tree) }
     {
         match self.order.first() {
@@ -58,6 +61,7 @@ impl Tree {
 
     /// The first so many leaves that may hold a plan, by bound and then by number.
     pub fn open_leaves(&self, most: u32) -> Result<Vec<u32>, Memory>
+        // Promise: The first so many leaves that may hold a plan, by bound and then by number
         ensures { (n : Net) → IsOf n self.now → IfOk result (λ v. open_leaves.AreFirstOpen n (searched_of self.now.kept).tree most v.items) }
     {
         Ok(self.order.nodes(most as usize)?)

@@ -129,6 +129,7 @@ impl Tree {
 
     /// For each coordinate the number of splits on it.
     pub fn cuts(&self) -> &[u32]
+        // Promise: For each coordinate the number of splits on it
         ensures counts { (n : Net) → IsOf n self.now → AreCounts n self.now.kept.splits.list result.now }
         ensures kept { result.now ≡ self.now.kept.cuts }
     {
@@ -139,6 +140,7 @@ impl Tree {
     pub fn box_of(&self, net: &Network, node: u32) -> Result<BoxEnds, Memory>
         requires tree { IsOf (net_of net.now) self.now }
         requires there { node < trees.nodes self.now.kept.splits.list }
+        // Promise: The bounds of nodes, the least leaf and the box of a node are the definitions'
         ensures { IfOk result (AreEndsOf (net_of net.now) (trees.box_of (net_of net.now) self.now.kept.splits.list node)) }
     {
         self.splits.box_of(net, node)
@@ -157,6 +159,7 @@ impl Tree {
     /// The bound of a node, in picos: no plan in its box costs less. None where the box holds no plan, and for a node that is none
     /// of the tree.
     pub fn node_bound(&self, node: u32) -> Option<i128>
+        // Promise: The bounds of nodes, the least leaf and the box of a node are the definitions'
         ensures bound { (n : Net) → IsOf n self.now → node < trees.nodes self.now.kept.splits.list → result ≡ trees.node_bound n (searched_of self.now.kept).tree node }
         ensures kept { result ≡ get_or self.now.kept.bounds node None }
     {

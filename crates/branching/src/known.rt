@@ -9,6 +9,8 @@ use crate::view::{CoordRow, LeafView};
 /// The first open row.
 pub fn first_open(view: &LeafView) -> usize
     requires { HasOpen view.now.rows }
+    // Promise: The four known rules pick the first open, the first of the widest, the first of the most missed row, and the first of those
+    //   with the fewest splits on their coordinate
     ensures { IsFirstOpen view.now.rows result }
 {
     let rows = view.rows();
@@ -23,6 +25,8 @@ pub fn first_open(view: &LeafView) -> usize
 /// The open row that is the widest, measured by its width in the root box: the first of the widest.
 pub fn widest(view: &LeafView) -> usize
     requires { HasOpen view.now.rows }
+    // Promise: The four known rules pick the first open, the first of the widest, the first of the most missed row, and the first of those
+    //   with the fewest splits on their coordinate
     ensures { IsFirstGreatest IsNarrower view.now.rows result }
 {
     let rows = view.rows();
@@ -47,6 +51,8 @@ fn is_narrower(row: &CoordRow, other: &CoordRow) -> bool
 /// The open row of the greatest `miss`: the first of the greatest.
 pub fn most_violated(view: &LeafView) -> usize
     requires { HasOpen view.now.rows }
+    // Promise: The four known rules pick the first open, the first of the widest, the first of the most missed row, and the first of those
+    //   with the fewest splits on their coordinate
     ensures { IsFirstGreatest IsLessMissed view.now.rows result }
 {
     let rows = view.rows();
@@ -63,6 +69,8 @@ pub fn most_violated(view: &LeafView) -> usize
 /// coordinate, and a coordinate past its end has none.
 pub fn fewest(view: &LeafView, cuts: &[u32]) -> usize
     requires { HasOpen view.now.rows }
+    // Promise: The four known rules pick the first open, the first of the widest, the first of the most missed row, and the first of those
+    //   with the fewest splits on their coordinate
     ensures { IsFirstGreatest (IsMoreCut cuts.now) view.now.rows result }
 {
     let rows = view.rows();

@@ -12,6 +12,7 @@ impl CutRule {
     /// The rule of a closure. It takes no memory.
     pub fn new(closure: RuleClosure) -> CutRule
         requires { PicksOpen (RuleClosure.pre closure) (RuleClosure.post closure) }
+        // Promise: A cut rule that is kept answers an open row on every view that has one, so its pick is a split strictly inside
         ensures { result.closure ≡ closure }
     {
         CutRule { closure }
@@ -20,6 +21,7 @@ impl CutRule {
     /// The split of the view's node in the middle of the row that the closure answers. It takes no memory.
     pub fn pick(&self, view: &LeafView) -> Split
         requires { HasOpen view.now.rows }
+        // Promise: A cut rule that is kept answers an open row on every view that has one, so its pick is a split strictly inside
         ensures { IsPick (RuleClosure.post self.now.closure) view.now result }
     {
         let rows = view.rows();

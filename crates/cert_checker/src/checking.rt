@@ -20,12 +20,16 @@ use std::alloc::Global;
 /// the proof's node up to the root, for the node's box, and over the terms of the proof's rows and the network's variables.
 pub fn check(alloc: Global, net: &Network, bytes: &[u8]) -> Result<Verdict, Refusal>
     // The text is that of a valid certificate, with these numbers.
+    // Promise: A text is accepted only where some certificate has it and is valid for the network, and with its numbers
     ensures accepted { IfOk result (IsAccepted (net_of net.now) bytes.now) }
     // What the certificate of this text claims follows for every plan.
+    // Promise: What an accepted certificate claims follows for every plan
     ensures follows { IfOk result (λ _. (c : Cert) → Spells bytes.now c → Follows (net_of net.now) c.claim) }
     // A refusal is the first that there is.
+    // Promise: Where a certificate is refused, the first cause that there is is told, in a fixed order
     ensures refused { IfErr result (IsRefused (net_of net.now) bytes.now) }
     // The text of a valid certificate is accepted, unless memory runs out.
+    // Promise: The text of a valid certificate is accepted, or memory ran out
     ensures valid { (c : Cert) → Spells bytes.now c → IsValid (net_of net.now) c → IsTakenAs c.claim result }
 {
     let mut shelf = SliceShelf::new(bytes);

@@ -7,5 +7,6 @@ ghost use Rattle.cert_format.specs.Valid.{IsValid};
 
 /// What a valid certificate claims follows for every plan, over any denominator.
 pub fn valid_law()
+    // Promise: What a valid certificate claims follows
     ensures { (n : Net) (c : Cert) → IsLimited n → IsValid n c → Follows n c.claim }
 {}

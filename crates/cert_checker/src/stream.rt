@@ -37,11 +37,18 @@ pub fn check_stream<S: Shelf>(
     requires { most < 2 ^ 63 }
     // Some bytes, which are the rest of the file where it is told, are accepted or refused as a text is and are at most so many; or
     // they are more. What the certificate of these bytes claims follows for every plan.
+    // Promise: `check` of a file is `check` of its bytes: a file that comes in pieces is accepted or refused as its text is, with what it
+    //   claims, once it is read to its end; else it has more bytes than it may have, the shelf failed, or memory ran out
     ensures checked { IsStreamAnswer (net_of net.now) (S.rest shelf.old) most result }
     // The text of a valid certificate that is not too long is accepted, unless a read fails or memory runs out.
+    // Promise: `check` of a file is `check` of its bytes: a file that comes in pieces is accepted or refused as its text is, with what it
+    //   claims, once it is read to its end; else it has more bytes than it may have, the shelf failed, or memory ran out
     ensures valid { (bytes : List ℕ) (c : Cert) → S.rest shelf.old ≡ Some bytes → length bytes ≤ most → Spells bytes c → IsValid (net_of net.now) c → IsStreamedAs c.claim result }
     // Of a file that is too long more was taken than it may have; a read failed only where the count of faults rose.
+    // Promise: Of a file that is called too long more bytes were taken than it may have
     ensures too_long { result ≡ Err streams.TooLong → TookMore most (S.taken shelf.old) (S.taken shelf.new) }
+    // Promise: `check` of a file is `check` of its bytes: a file that comes in pieces is accepted or refused as its text is, with what it
+    //   claims, once it is read to its end; else it has more bytes than it may have, the shelf failed, or memory ran out
     ensures read { result ≡ Err streams.Read → Rose (S.faults shelf.old) (S.faults shelf.new) }
     ensures no_memory_refusal { result ≢ Err (streams.Refused refusals.Memory) }
     ensures same_files { S.files shelf.new ≡ S.files shelf.old }

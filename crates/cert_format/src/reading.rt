@@ -368,10 +368,13 @@ fn all(alloc: Global, bytes: &[u8]) -> Result<Certificate, ReadCert>
 /// of what is read.
 pub fn read_cert(alloc: Global, bytes: &[u8]) -> Result<Certificate, ReadCert>
     // What is read has this text.
+    // Promise: What is read of a text is the certificate that has it
     ensures found { IfOk result (λ c. IsCert (shown_cert c) × (bytes.now ≡ text_of (shown_cert c))) }
     // What is the text of a certificate is read as that certificate, unless memory runs out.
+    // Promise: The text of a certificate is read as that certificate, or memory ran out
     ensures only { (c : Cert) → IsCert c → bytes.now ≡ text_of c → IsReadAs c result }
     // A fault is that of the first faulty line.
+    // Promise: A text that no certificate has is refused at its first faulty line
     ensures fault { IfErr result (IsTextFault bytes.now) }
 {
     all(alloc, bytes)

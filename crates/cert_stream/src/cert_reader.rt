@@ -70,10 +70,17 @@ impl CertReader {
     pub fn next_item<S: Shelf>(&mut self, shelf: &mut S) -> Result<Item, ItemFault>
         requires going { self.old.state ≢ states.Ended }
         requires used_up { IsTrue self.old.ended → IsUsedUp (S.rest shelf.old) }
+        // Promise: The items of a certificate that comes in pieces are those of its text: none of them more, in order, and at the end the
+        //   file spells exactly their certificate
+        // Promise: `TooLong` comes exactly where the file has more bytes than it may have
         ensures item { IfOk result (GivesItem self.old (S.rest shelf.old) self.new (S.rest shelf.new)) }
         ensures counted { OnOk result (RoseBy (self.old.left - self.new.left) (S.taken shelf.old) (S.taken shelf.new)) }
+        // Promise: A fault is at the same line as in the text read whole; the file is read to its end before it is told, so that a file
+        //   that is too long and a failed read go before it
+        // Promise: `TooLong` comes exactly where the file has more bytes than it may have
         ensures text { (f : AFault) → result ≡ Err (faults.Text f) →
             GivesFault self.old (S.rest shelf.old) self.new (S.rest shelf.new) f }
+        // Promise: `TooLong` comes exactly where the file has more bytes than it may have
         ensures too_long { result ≡ Err faults.TooLong → IsMore self.old.left (S.rest shelf.old) }
         ensures took_more { result ≡ Err faults.TooLong → TookMore self.old.left (S.taken shelf.old) (S.taken shelf.new) }
         ensures read { result ≡ Err faults.Read → Rose (S.faults shelf.old) (S.faults shelf.new) }

@@ -21,10 +21,16 @@ pub fn run_law()
     ensures goes_on { (r : Reader) (rest : Option (List ℕ)) (s : Reader) (now : Option (List ℕ)) (items : List Field)
         (t : Reader) (later : Option (List ℕ)) (item : AnItem) →
         Ran r rest s now items → s.state ≢ states.Ended → GivesItem s now t later item → Ran r rest t later (items ++ shown_item item ∷ []) }
+    // Promise: The items of a certificate that comes in pieces are those of its text: none of them more, in order, and at the end the file
+    //   spells exactly their certificate
     ensures ends { (most : ℕ) (rest : Option (List ℕ)) (s : Reader) (now : Option (List ℕ)) (items : List Field) →
         (ran : Ran (fresh most) rest s now items) → s.state ≡ states.Ended → IsAtEnd s → IsTextOf most rest ran.took.taken items }
+    // Promise: The items of a certificate that comes in pieces are those of its text: none of them more, in order, and at the end the file
+    //   spells exactly their certificate
     ensures begins { (most : ℕ) (s : Reader) (now : Option (List ℕ)) (items : List Field) (c : Cert) →
         IsCert c → Ran (fresh most) (Some (text_of c)) s now items → (more : List Field) × (items_of c ≡ items ++ more) }
+    // Promise: A fault is at the same line as in the text read whole; the file is read to its end before it is told, so that a file that is
+    //   too long and a failed read go before it
     ensures fails { (most : ℕ) (rest : Option (List ℕ)) (s : Reader) (now : Option (List ℕ)) (items : List Field)
         (t : Reader) (later : Option (List ℕ)) (fault : TextFault) →
         (ran : Ran (fresh most) rest s now items) → (found : GivesFault s now t later fault) →

@@ -38,6 +38,7 @@ impl Ends {
 
 /// This word, or the fault of its line.
 pub fn word<S: Source>(src: &mut S, word: &[u8]) -> Result<(), Stop>
+    // Promise: A word, and a number in its range and in its one spelling, is read exactly where it stands there; else its line is told
     ensures { Gives (λ x. x) result (S.at src.new) (S.broken src.new) (word_at word.now (S.at src.old)) }
 {
     let line = src.line();
@@ -86,6 +87,7 @@ fn digits<S: Source>(src: &mut S, most: u128, ends: Ends, n: u128) -> Result<u12
 /// A number up to a most, and the byte behind it.
 pub fn number<S: Source>(src: &mut S, most: u128, ends: Ends) -> Result<u128, Stop>
     requires { 9 ≤ most }
+    // Promise: A word, and a number in its range and in its one spelling, is read exactly where it stands there; else its line is told
     ensures read { Gives (λ x. x) result (S.at src.new) (S.broken src.new) (number_at most (end_of ends) (S.at src.old)) }
     ensures within { IfOk result (λ x. x ≤ most) }
 {
@@ -116,6 +118,7 @@ fn int<S: Source>(src: &mut S, most: u128, ends: Ends) -> Result<i128, Stop>
 
 /// This very number, and the byte behind it.
 pub fn same<S: Source>(src: &mut S, n: u64, ends: Ends) -> Result<(), Stop>
+    // Promise: A word, and a number in its range and in its one spelling, is read exactly where it stands there; else its line is told
     ensures { Gives (λ _. n) result (S.at src.new) (S.broken src.new) (same_at (2 ^ 64 - 1) (end_of ends) n (S.at src.old)) }
 {
     let line = src.line();
@@ -128,6 +131,7 @@ pub fn same<S: Source>(src: &mut S, n: u64, ends: Ends) -> Result<(), Stop>
 
 /// A number of 32 bits, and the byte behind it.
 pub fn u32_then<S: Source>(src: &mut S, ends: Ends) -> Result<u32, Stop>
+    // Promise: A word, and a number in its range and in its one spelling, is read exactly where it stands there; else its line is told
     ensures { Gives (λ x. x) result (S.at src.new) (S.broken src.new) (u32_at ends (S.at src.old)) }
 {
     Ok(number(src, u128::from(u32::MAX), ends)? as u32)
@@ -149,6 +153,7 @@ pub fn i64_then<S: Source>(src: &mut S, ends: Ends) -> Result<i64, Stop>
 
 /// A signed number of 128 bits, and the byte behind it.
 pub fn i128_then<S: Source>(src: &mut S, ends: Ends) -> Result<i128, Stop>
+    // Promise: A word, and a number in its range and in its one spelling, is read exactly where it stands there; else its line is told
     ensures { Gives (λ x. x) result (S.at src.new) (S.broken src.new) (i128_at ends (S.at src.old)) }
 {
     int(src, i128::MAX as u128, ends)

@@ -15,6 +15,7 @@ use plan_core::WrittenPlan;
 /// is read as this certificate and as no other.
 pub fn cert_law(cert: &Certificate)
     requires { IsShaped (shown_cert cert.now) }
+    // Promise: A certificate that the program holds, with lists of the lengths that it says, has a text
     ensures { IsCert (shown_cert cert.now) }
 {
     numbers(&cert.shape);

@@ -437,6 +437,7 @@ fn write_rest<K: Sink>(out: &mut K, cert: &Certificate) -> Result<(), WriteFault
 /// `WriteFault` comes only where the sink's count of faults rose; the sink has taken a front of the text then.
 pub fn write_cert<K: Sink>(cert: &Certificate, out: &mut K) -> Result<(), WriteFault>
     requires { IsShaped (shown_cert cert.now) }
+    // Promise: A certificate is written as its text, or a front of it where the sink fails
     ensures wrote { Wrote result (K.taken out.old) (text_of (shown_cert cert.now)) (K.taken out.new) }
     ensures failed { OnErr result (Rose (K.faults out.old) (K.faults out.new)) }
     ensures faults_grow { Grows (K.faults out.old) (K.faults out.new) }

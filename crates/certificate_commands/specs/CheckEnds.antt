@@ -34,6 +34,8 @@ check_status outcomes.WriteFault = statuses.WriteFault
 -- ---- what is printed
 
 -- the line of a verdict on the bytes: they are a valid certificate of the network, and what they claim follows
+-- Promise: The line `accepted ..` is that of a certificate that is valid for the network of NET, with its numbers, and all that it claims
+--   follows for every plan
 pub record Accepts (n : Net) (bytes : List ℕ) (text : List ℕ) : Type 0 where
   pub verdict : Verdict
   pub accepted : IsAccepted n bytes verdict
@@ -41,6 +43,7 @@ pub record Accepts (n : Net) (bytes : List ℕ) (text : List ℕ) : Type 0 where
   pub spelled : text ≡ accepted_line verdict
 
 -- the line of the first cause to refuse the bytes
+-- Promise: The line `refused ..` is that of the first cause to refuse the text
 pub record Refuses (n : Net) (bytes : List ℕ) (refusal : Refusal) (text : List ℕ) : Type 0 where
   pub refused : IsRefused n bytes refusal
   pub own : refusal ≢ refusals.Memory
@@ -86,6 +89,11 @@ pub record LongUnder (files : Option Files) (net cert : List ℕ) (before after 
   pub more : IsTooLong files cert most_bytes before after
 
 -- Each status comes only where its line holds of the files of these names; no other comes. The counts are of the bytes taken.
+-- Promise: Each other status comes only where it says so of the files: 3 where no network is read from NET, with its first cause; 4 where
+--   `--nodes` is above 20,000, or twice `--nodes` and one, times the rows of the network, is above 32,000,000; 0, 10 and 11 of `solve`
+--   where a network is read and it is not so, 12 where no plan obeys it, 13 where no starting plan does; 0 of `check` where CERT is the
+--   text of a valid certificate, and 1 where it is not; 5 where CERT has more than 1,073,741,824 bytes; 30 to 33 of `solve` where a network
+--   is read, what is asked is within the budget and a journal is named
 abbrev pub CheckEnds : Option Files → (net cert : List ℕ) → (before after : ℕ) → Status → Type 0
 CheckEnds files net cert before after statuses.Accepted = JudgedUnder files net cert statuses.Accepted
 CheckEnds files net cert before after (statuses.Refused refusal) = JudgedUnder files net cert (statuses.Refused refusal)
@@ -126,7 +134,11 @@ IsDenial status = ⊥
 
 -- which status comes, by what the told files say, where the run isn't cut short
 pub record CheckDecided (told : Files) (net cert : List ℕ) (status : Status) : Type 0 where
+  -- Promise: Where no network is read from NET, the status is 3, or shelf or memory failed
   pub no_network : ReadsNone told net → IsNetworkRefused status ⊎ IsCutShort status
+  -- Promise: Of a CERT that is too long the status is 5, or shelf or memory failed
   pub too_long : (before after : ℕ) → LongUnder (Some told) net cert before after → (status ≡ statuses.CertTooLong) ⊎ IsCutShort status
+  -- Promise: The text of a valid certificate is accepted, or shelf, sink or memory failed
   pub valid : ValidUnder told net cert → IsAcceptance status ⊎ IsCutShort status
+  -- Promise: A text of CERT that is of no valid certificate is refused, or shelf, sink or memory failed
   pub invalid : InvalidUnder told net cert → IsDenial status ⊎ IsCutShort status

@@ -54,6 +54,8 @@ ReportOn network bytes (statuses.Refused refusal) text = Refuses (net_of network
 ReportOn network bytes status text = ⊥
 
 -- the texts that answer on the certificate under the second name, for the network under the first, by the status
+-- Promise: What `report` prints is the report of a certificate that is valid for the network of NET, rounded as the definition says, or the
+--   line of the first cause to refuse the text
 abbrev pub ReportsAs : Option Files → (net cert : List ℕ) → Status → List ℕ → Type 0
 ReportsAs files net cert status text = (network : Network) × ((bytes : List ℕ) × AreRead files net cert network bytes × ReportOn network bytes status text)
 
@@ -66,6 +68,11 @@ as_check statuses.Accepted = statuses.Done
 as_check status = status
 
 -- Each status comes only where that of `check` does.
+-- Promise: Each other status comes only where it says so of the files: 3 where no network is read from NET, with its first cause; 4 where
+--   `--nodes` is above 20,000, or twice `--nodes` and one, times the rows of the network, is above 32,000,000; 0, 10 and 11 of `solve`
+--   where a network is read and it is not so, 12 where no plan obeys it, 13 where no starting plan does; 0 of `check` where CERT is the
+--   text of a valid certificate, and 1 where it is not; 5 where CERT has more than 1,073,741,824 bytes; 30 to 33 of `solve` where a network
+--   is read, what is asked is within the budget and a journal is named
 abbrev pub ReportEnds : Option Files → (net cert : List ℕ) → (before after : ℕ) → Status → Type 0
 ReportEnds files net cert before after status = CheckEnds files net cert before after (as_check status)
 

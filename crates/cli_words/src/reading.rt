@@ -17,8 +17,11 @@ use std::alloc::Global;
 ///
 /// `Usage` exactly where the words ask none; memory aside, every other list of words is answered.
 pub fn read_words(alloc: Global, words: &[String]) -> Result<Request, WordsFault>
+    // Promise: The request that is read is one that the words of the command line ask
     ensures asks { IfOk result (λ request. Asks (map string_bytes words.now) (shown_request request)) }
+    // Promise: The words of the command line ask one request at most
     ensures only { IfOk result (λ request. (asked : Asked) → Asks (map string_bytes words.now) asked → asked ≡ shown_request request) }
+    // Promise: Usage is answered only where the words ask no request
     ensures usage { result ≡ Err WordsFault.Usage → (asked : Asked) → ¬ Asks (map string_bytes words.now) asked }
 {
     match has_form(alloc, words) {

@@ -12,6 +12,7 @@ use std::alloc::{AllocError, Global};
 /// What `clap` makes of the words. Of words of the form it fails only for want of memory.
 pub fn matches_of<'a>(alloc: Global, words: &'a [String]) -> Result<ArgMatches<'a>, Error>
     ensures rows { IfOk result (λ m. subcommand_rows_of m ≡ subcommand_of program_app (map string_bytes words.entry.now)) }
+    // Promise: Of words of the form only want of memory can fail in `clap`
     ensures memory { has_form (map string_bytes words.entry.now) ≡ true → IfErr result (λ e. kind_of e ≡ ErrorKind.OutOfMemory) }
 {
     let program = program(alloc)?;

@@ -15,6 +15,7 @@ const FAR_ABOVE: i128 = 1_152_921_504_606_846_976;
 
 /// What no bound of a tree needs to pass, in picos: what its best plan costs, rounded down. Where there is no plan it is far above the
 /// bound.
+// Promise: By how much a coordinate is missed is counted for all bounds of cuts and every advice, of whatever program
 pub fn cutoff(best: Option<Cost>, bound: i128) -> i128 {
     match best {
         None => bound.saturating_add(FAR_ABOVE),
@@ -46,6 +47,7 @@ impl Gains {
     }
 
     /// Adds the cut of a node into its halves, by their bounds up to a cutoff. What has no bound holds no plan.
+    // Promise: By how much a coordinate is missed is counted for all bounds of cuts and every advice, of whatever program
     pub fn add_cut(
         &mut self,
         coord: u32,

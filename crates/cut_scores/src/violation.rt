@@ -34,6 +34,7 @@ fn add(sums: &mut Vec<i128>, place: u32, number: i128) {
 }
 
 /// By how much the products of each coordinate are violated at the point of an advice on a program of the form, by number.
+// Promise: By how much a coordinate is missed is counted for all bounds of cuts and every advice, of whatever program
 pub fn violations(
     alloc: Global,
     net: &Network,

@@ -12,9 +12,11 @@ pub fn append_byte<D: Disk>(disk: &mut D, byte: u8) -> Result<(), DiskFailed>
     requires { IsTrue (D.tells disk.old) → Reaches (D.reads disk.old) 0 }
     ensures added { OnOk result ((file : List ℕ) → D.reads disk.old ≡ Some file →
         D.reads disk.new ≡ Some (file ++ byte ∷ [])) }
+    // Promise: After a byte is appended and synced, the file with it is all that a crash can leave
     ensures durable { OnOk result ((file : List ℕ) → D.reads disk.old ≡ Some file →
         Only (file ++ byte ∷ []) (D.may_leave disk.new)) }
 
+    // Promise: A crash on the way leaves the file, or the file with one byte more
     ensures any_moment { (file : List ℕ) → D.reads disk.old ≡ Some file → Only file (D.may_leave disk.old) →
         LeavesOnly D.moment D.left_since disk.old disk.new (IsSameOrLonger file) }
 

@@ -69,6 +69,7 @@ pub trait Disk {
     /// Reads the bytes from that place on, as many as there is room for.
     fn read_at(&mut self, at: u64, into: &mut [u8]) -> Result<(), DiskFailed>
         requires { IsTrue (tells self.old) → Reaches (reads self.old) (at + length into.old) }
+        // Promise: What a read gives and which images a crash may leave, now or since an earlier moment
         ensures bytes { OnOk result (IfSome (reads self.old) (λ file. into.new ≡ take (length into.old) (drop at file))) }
         ensures same { OnOk result (reads self.new ≡ reads self.old) }
         ensures crash { Among (may_leave self.old) (left_since self.new (moment self.old)) }
@@ -82,6 +83,7 @@ pub trait Disk {
     /// Writes the bytes from that place on, over what is there and past the end. Their end is at most `2^62`.
     fn write_at(&mut self, at: u64, bytes: &[u8]) -> Result<(), DiskFailed>
         requires { IsTrue (tells self.old) → Reaches (reads self.old) at }
+        // Promise: What a read gives and which images a crash may leave, now or since an earlier moment
         ensures written { OnOk result (reads self.new ≡ option_map (λ file. written file at bytes.now) (reads self.old)) }
         ensures short { OnOk result (at + length bytes.now ≤ 2 ^ 62) }
         ensures crash { Follows (Torn at (length bytes.now)) (may_leave self.old) (left_since self.new (moment self.old)) }
@@ -95,6 +97,7 @@ pub trait Disk {
     /// Cuts the file to a length.
     fn cut(&mut self, to: u64) -> Result<(), DiskFailed>
         requires { IsTrue (tells self.old) → Reaches (reads self.old) to }
+        // Promise: What a read gives and which images a crash may leave, now or since an earlier moment
         ensures cut { OnOk result (reads self.new ≡ option_map (λ file. take to file) (reads self.old)) }
         ensures crash { Follows (Shortened to) (may_leave self.old) (left_since self.new (moment self.old)) }
         ensures time { Elapses (moment self.old) (moment self.new) (left_since self.old) (left_since self.new) }
@@ -106,6 +109,7 @@ pub trait Disk {
 
     /// Puts the file on the disk: a crash now leaves what a read gives.
     fn sync(&mut self) -> Result<(), DiskFailed>
+        // Promise: What a read gives and which images a crash may leave, now or since an earlier moment
         ensures durable { OnOk result (IfSome (reads self.old) (λ file. Only file (may_leave self.new))) }
         ensures same { OnOk result (reads self.new ≡ reads self.old) }
         ensures crash { Among (may_leave self.old) (left_since self.new (moment self.old)) }

@@ -27,6 +27,7 @@ impl FailDisk {
         ensures unknown { reads_of result.disk ≡ None }
         ensures first { moment_of result.disk ≡ 0 }
         ensures sound { faults_of result.disk ≡ 0 }
+        // Promise: A disk that is told to fail fails there
         ensures told { failing_of result.disk ≡ failing.items }
         ensures no_call { calls_of result.disk ≡ 0 }
     {

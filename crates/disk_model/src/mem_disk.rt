@@ -36,6 +36,7 @@ impl MemDisk {
         ensures unknown { reads_of result ≡ None }
         ensures first { moment_of result ≡ 0 }
         ensures sound { faults_of result ≡ 0 }
+        // Promise: A disk that is told to fail fails there
         ensures told { failing_of result ≡ [] }
     {
         MemDisk::failing(alloc, bytes, Vec::new(alloc))

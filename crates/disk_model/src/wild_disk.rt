@@ -47,6 +47,8 @@ impl WildDisk {
 
     /// Fails where the file would be longer than the longest.
     fn reach(&mut self, end: u64) -> Result<(), DiskFailed>
+        // Promise: A disk that tells nothing and keeps nothing has 300 bytes, which read as those that its number gives; it fails only past
+        //   its end, or past the longest length
         ensures within { end ≤ 2 ^ 62 → IsOk result }
         ensures short { OnOk result (end ≤ 2 ^ 62) }
         ensures failed { OnErr result (Rose (faults_of self.old) (faults_of self.new)) }
@@ -91,6 +93,8 @@ impl Disk for WildDisk {
     }
 
     fn len(&mut self) -> Result<u64, DiskFailed>
+        // Promise: A disk that tells nothing and keeps nothing has 300 bytes, which read as those that its number gives; it fails only past
+        //   its end, or past the longest length
         ensures length { result ≡ Ok 300 }
         ensures same { self.new ≡ self.old }
     {
@@ -103,9 +107,15 @@ impl Disk for WildDisk {
         ensures faults_grow { Grows (faults_of self.old) (faults_of self.new) }
 
         // What this one gives, and when it fails.
+        // Promise: A disk that tells nothing and keeps nothing has 300 bytes, which read as those that its number gives; it fails only past
+        //   its end, or past the longest length
         ensures bytes { OnOk result (into.new ≡ draws (state_of self.old) 256 (length into.old)) }
         ensures next { OnOk result (state_of self.new ≡ state_after (state_of self.old) (length into.old)) }
+        // Promise: A disk that tells nothing and keeps nothing has 300 bytes, which read as those that its number gives; it fails only past
+        //   its end, or past the longest length
         ensures within { at + length into.old ≤ 300 → IsOk result }
+        // Promise: A disk that tells nothing and keeps nothing has 300 bytes, which read as those that its number gives; it fails only past
+        //   its end, or past the longest length
         ensures past { 300 < at + length into.old → IsErr result }
     {
         if at.saturating_add(into.len() as u64) > LENGTH {
@@ -123,6 +133,8 @@ impl Disk for WildDisk {
         ensures faults_grow { Grows (faults_of self.old) (faults_of self.new) }
 
         // When this one fails, and what stays.
+        // Promise: A disk that tells nothing and keeps nothing has 300 bytes, which read as those that its number gives; it fails only past
+        //   its end, or past the longest length
         ensures within { at + length bytes.now ≤ 2 ^ 62 → IsOk result }
         ensures same { state_of self.new ≡ state_of self.old }
     {
@@ -136,7 +148,11 @@ impl Disk for WildDisk {
         ensures faults_grow { Grows (faults_of self.old) (faults_of self.new) }
 
         // When this one fails, and what stays.
+        // Promise: A disk that tells nothing and keeps nothing has 300 bytes, which read as those that its number gives; it fails only past
+        //   its end, or past the longest length
         ensures within { to ≤ 2 ^ 62 → IsOk result }
+        // Promise: A disk that tells nothing and keeps nothing has 300 bytes, which read as those that its number gives; it fails only past
+        //   its end, or past the longest length
         ensures past { 2 ^ 62 < to → IsErr result }
         ensures same { state_of self.new ≡ state_of self.old }
     {

@@ -20,6 +20,7 @@ impl Draws {
     pub fn below(&mut self, m: u64) -> u64
         requires { 0 < m }
         ensures state { self.new.state ≡ next self.old.state }
+        // Promise: The numbers that a seed gives are the generator's, one after another, below any number or as bytes
         ensures drawn { result ≡ drawn self.new.state m }
         ensures below { result < m }
     {
@@ -29,6 +30,7 @@ impl Draws {
 
     /// Fills a slice with bytes, each the next number below 256.
     pub fn fill(&mut self, into: &mut [u8])
+        // Promise: The numbers that a seed gives are the generator's, one after another, below any number or as bytes
         ensures bytes { into.new ≡ draws self.old.state 256 (length into.old) }
         ensures state { self.new.state ≡ state_after self.old.state (length into.old) }
     {

@@ -11,6 +11,7 @@ ghost use Rattle.dual_rounding.specs.Price.{IsPriced, price_bound, price_proof};
 /// The price proof is in order in each proper box, so that rounding, which tries it, never leaves less known than it shows. A
 /// node's bound, raised by what rounding answers above it, is then at least what the price proof shows of the node's box.
 pub fn price_law()
+    // Promise: At least what the price proof shows is known after a rounding
     ensures shown { (n : Net) (b : Box) → shown_by n b (price_proof n) ≡ bound (price_bound n b) }
     ensures raised { (n : Net) (b : Box) (least : ℤ) (o : Option Proof) → IsAtMost (shown_by n b (price_proof n)) (known_by n b (bound least) o)
         → IsPriced n b (raised (Some least) (option_map (shown_by n b) o)) }

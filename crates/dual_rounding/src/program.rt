@@ -19,6 +19,7 @@ use std::alloc::{AllocError, Global};
 /// the costs of all variables, in the units of the catalogue.
 pub fn lp_of(alloc: Global, net: &Network, form: Form, v: &BoxView) -> Result<Lp, Memory>
     requires { IsView (net_of net.now) v.now }
+    // Promise: The program of a box has exactly the form's rows, as the catalogue has them, and the ends and costs of all variables
     ensures { IfOk result (IsProgramOf (net_of net.now) form (shown_box v.now)) }
 {
     let mut lp = blank(alloc, net, form)?;

@@ -58,6 +58,7 @@ impl Relaxation {
     pub fn move_to(&mut self, net: &Network, v: &BoxView) -> Result<(), Memory>
         requires view { IsView (net_of net.now) v.now }
         requires network { IsOfNetwork (net_of net.now) self.old }
+        // Promise: The program of a box has exactly the form's rows, as the catalogue has them, and the ends and costs of all variables
         ensures program { (form : forms.Form) → numbers self.old ≡ form_rows (net_of net.now) form
             → OnOk result (IsProgramOf (net_of net.now) form (shown_box v.now) self.new) }
         ensures over { OnOk result (IsOver (net_of net.now) (shown_box v.now) self.new) }

@@ -36,14 +36,18 @@ pub fn round(
     fallback: Shown,
 ) -> Result<Option<Proof>, Memory>
     requires { IsView (net_of net.now) v.now }
+    // Promise: Of the price proof and the advice's proofs at four scales the first of those that show most is answered, where it shows more
+    //   than was known; none exactly where none does; whatever the advice
     ensures rounded { IfOk result (λ o. IsRounded (net_of net.now) (shown_box v.now)
         (tried (net_of net.now) lp.now advice.now) (shown_value fallback) (option_map shown_proof o)) }
 
     // At least what the price proof shows is known then.
+    // Promise: At least what the price proof shows is known after a rounding
     ensures price { IfOk result (λ o. IsAtMost (shown_by (net_of net.now) (shown_box v.now) (prices.price_proof (net_of net.now)))
         (known_by (net_of net.now) (shown_box v.now) (shown_value fallback) (option_map shown_proof o))) }
 
     // On a form's program only rows of the form are named.
+    // Promise: The proofs that rounding answers name rows of the form alone
     ensures form { (form : forms.Form) → numbers lp.now ≡ form_rows (net_of net.now) form
         → IfOk result (λ o. IfSome o (λ p. All (λ q. IsTrue (has_row (net_of net.now) form q.row)) p.parts.items)) }
 {
@@ -95,12 +99,17 @@ impl Rounding {
     ) -> Result<Option<Proof>, Memory>
         requires view { IsView (net_of net.now) v.now }
         requires serves { Serves (net_of net.now) self.old }
+        // Promise: Of the price proof and the advice's proofs at four scales the first of those that show most is answered, where it shows
+        //   more than was known; none exactly where none does; whatever the advice
         ensures rounded { IfOk result (λ o. IsRounded (net_of net.now) (shown_box v.now)
             (tried (net_of net.now) lp.now advice.now) (shown_value fallback) (option_map shown_proof o)) }
+        // Promise: At least what the price proof shows is known after a rounding
         ensures price { IfOk result (λ o. IsAtMost (shown_by (net_of net.now) (shown_box v.now) (prices.price_proof (net_of net.now)))
             (known_by (net_of net.now) (shown_box v.now) (shown_value fallback) (option_map shown_proof o))) }
+        // Promise: The proofs that rounding answers name rows of the form alone
         ensures form { (form : forms.Form) → numbers lp.now ≡ form_rows (net_of net.now) form
             → IfOk result (λ o. IfSome o (λ p. All (λ q. IsTrue (has_row (net_of net.now) form q.row)) p.parts.items)) }
+        // Promise: What `Rounding` then says is known of the box is what the answer shows of it, or what was known before
         ensures known { IfOk result (λ o. shown_value self.new.known
             ≡ known_by (net_of net.now) (shown_box v.now) (shown_value fallback) (option_map shown_proof o)) }
         ensures serves { Serves (net_of net.now) self.new }

@@ -19,6 +19,7 @@ pub record HasMore (files : List (List ℕ × List ℕ)) (name : List ℕ) (most
 
 -- The file of that name has more than `most` bytes. Where the files aren't told, more than that many bytes were taken,
 -- or their count stands at its last value.
+-- Promise: Over a shelf that tells nothing a file is called too long (3 for NET, 5 for CERT) only where so many bytes were taken
 abbrev pub IsTooLong : Option (List (List ℕ × List ℕ)) → List ℕ → ℕ → ℕ → ℕ → Type 0
 IsTooLong None name most before after = (before + most < after) ⊎ (after ≡ 2 ^ 64 - 1)
 IsTooLong (Some files) name most before after = HasMore files name most

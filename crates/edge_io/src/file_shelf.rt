@@ -63,6 +63,8 @@ impl<R: Files> FileShelf<R> {
 /// One read of a file, and how many bytes it gave; one that a signal broke off is tried again. A read that fails has taken nothing.
 pub fn read_once<F: Read>(file: &mut F, into: &mut [u8]) -> io::Result<usize>
     ensures part { IfOk result (λ n. n ≤ length into.new) }
+    // Promise: A read that a signal broke off and that is tried again gives the next bytes, where they are known; one that fails has taken
+    //   nothing
     ensures bytes { ReadConsumes (F.remaining file.old) (F.remaining file.new) result into.new }
 {
     for _ in 0..u64::MAX {

@@ -37,9 +37,11 @@ pub trait Shelf {
     /// `Failed` comes only where the count of faults rose, `TooLong` where the file has more than `most` bytes.
     fn read_all(&mut self, alloc: Global, name: &str, most: usize) -> Result<Vec<u8>, ShelfFault>
         requires { IsTrue (admits self.old name.now) }
+        // Promise: What a shelf reads is the bytes under the name
         ensures found { IfOk result (λ v. HasFile (files self.old) name.now v.items) }
         ensures short { IfOk result (λ v. vec_len v ≤ most) }
 
+        // Promise: A fault comes only where a count rose, for real files and streams too
         ensures failed { result ≡ Err ShelfFault.Failed → Rose (faults self.old) (faults self.new) }
         ensures too_long { result ≡ Err ShelfFault.TooLong →
             IsTooLong (files self.old) name.now most (taken self.old) (taken self.new) }
@@ -55,6 +57,7 @@ pub trait Shelf {
     /// `Failed` comes only where the count of faults rose.
     fn open_read(&mut self, alloc: Global, name: &str) -> Result<(), OpenFault>
         requires { IsTrue (admits self.old name.now) }
+        // Promise: A piece of an opened file is the next bytes of it, and what is left is the rest behind them
         ensures opened { OnOk result (IsOpened (files self.old) name.now (rest self.new)) }
 
         ensures failed { result ≡ Err OpenFault.Failed → Rose (faults self.old) (faults self.new) }
@@ -71,7 +74,9 @@ pub trait Shelf {
     /// `ReadFailed` comes only where the count of faults rose.
     fn read_some(&mut self, into: &mut [u8]) -> Result<usize, ReadFailed>
         ensures part { IfOk result (λ n. n ≤ length into.new) }
+        // Promise: A piece of an opened file is the next bytes of it, and what is left is the rest behind them
         ensures handed { IfOk result (λ n. rest self.old ≡ ahead (take n into.new) (rest self.new)) }
+        // Promise: A read gives none only where there is no room, or nothing is left
         ensures some { IfOk result (λ n. n ≡ 0 → (length into.new ≡ 0) ⊎ IsUsedUp (rest self.old)) }
         ensures counted { IfOk result (λ n. RoseBy n (taken self.old) (taken self.new)) }
 

@@ -23,8 +23,10 @@ pub trait Sink {
     fn write(&mut self, bytes: &[u8]) -> Result<usize, SinkFailed>
         ensures part { IfOk result (λ n. n ≤ length bytes.now) }
         ensures some { IfOk result (λ n. n ≡ 0 → length bytes.now ≡ 0) }
+        // Promise: What a sink took is appended
         ensures appended { IfOk result (λ n. taken self.new ≡ behind (taken self.old) (take n bytes.now)) }
 
+        // Promise: A fault comes only where a count rose, for real files and streams too
         ensures failed { OnErr result (Rose (faults self.old) (faults self.new)) }
         ensures unchanged { OnErr result (taken self.new ≡ taken self.old) }
         ensures faults_grow { Grows (faults self.old) (faults self.new) };

@@ -13,6 +13,7 @@ use itoa::Buffer;
 ///
 /// `WriteFault` comes only where the sink's count of faults rose; the sink has taken a front of the bytes then.
 pub fn write_whole<K: Sink>(out: &mut K, bytes: &[u8]) -> Result<(), WriteFault>
+    // Promise: A whole text is written, or a front of it
     ensures wrote { Wrote result (K.taken out.old) bytes.now (K.taken out.new) }
     ensures failed { OnErr result (Rose (K.faults out.old) (K.faults out.new)) }
     ensures faults_grow { Grows (K.faults out.old) (K.faults out.new) }

@@ -53,6 +53,7 @@ impl Frac {
 
     /// The order of the two fractions.
     pub fn compare(self, other: Frac) -> Ordering
+        // Promise: The order of ratios of any size is exact
         ensures { result ≡ order_of (shown_frac self) (shown_frac other) }
     {
         compare_ratio(self.num, self.den as i128, other.num, other.den as i128)

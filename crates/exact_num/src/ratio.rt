@@ -10,6 +10,7 @@ use std::cmp::Ordering;
 pub fn compare_ratio(a: i128, b: i128, c: i128, d: i128) -> Ordering
     requires left { pos 0 <ℤ b }
     requires right { pos 0 <ℤ d }
+    // Promise: The order of ratios of any size is exact
     ensures { result ≡ int_cmp (a *ℤ d) (c *ℤ b) }
 {
     match (a.checked_mul(d), c.checked_mul(b)) {

@@ -35,8 +35,10 @@ impl Weight {
 
     /// Adds `a * b`. It is refused exactly where the sum would pass 2^126, and the weight is unchanged then.
     pub fn add_product(&mut self, a: u128, b: u128) -> Result<(), Wide>
+        // Promise: A weight is the true sum of its products
         ensures added { OnOk result (self.new ≡ self.old + a * b) }
         ensures fits { OnOk result (self.old + a * b ≤ 2 ^ 126) }
+        // Promise: A product is refused by a weight exactly where the sum passes `2^126`
         ensures wide { OnErr result (2 ^ 126 < self.old + a * b) }
         ensures unchanged { OnErr result (self.new ≡ self.old) }
     {

@@ -27,7 +27,9 @@ pub trait Ranked {
 
 /// Two first faults of one subject have one rank: where ranks tell faults apart, there is one first fault.
 pub fn first_fault_law<F: Ranked>()
+    // Promise: Two first faults have one rank, whatever the enum of faults
     ensures one_rank { (s : F.Subject) (one other : F) → IsFirst F.rank (F.Holds s) one → IsFirst F.rank (F.Holds s) other → F.rank one ≡ F.rank other }
+    // Promise: Two first faults are one fault, where ranks tell faults apart
     ensures unique { ((one other : F) → F.rank one ≡ F.rank other → one ≡ other)
         → (s : F.Subject) (one other : F) → IsFirst F.rank (F.Holds s) one → IsFirst F.rank (F.Holds s) other → one ≡ other }
 {}

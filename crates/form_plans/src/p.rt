@@ -29,8 +29,14 @@ use std::alloc::Global;
 /// P within the limits, and then TooFine where the least flow base is above 65,536 or no base within 1,048,576 makes the parts
 /// whole.
 pub fn plan_of(alloc: Global, net: &Network, point: &QualPoint) -> Result<WrittenPlan, FormFault>
+    // Promise: The plan of a point of P, Q or PQ is that plan; it comes exactly for points within the limits whose flows have a base that a
+    //   plan can have and, at a point of P, whose parts have one
     ensures plan { IfOk result (λ w. IsQualPlan (net_of net.now) point.now (shown_plan w)) }
+    // Promise: The plan of a point of P, Q or PQ is that plan; it comes exactly for points within the limits whose flows have a base that a
+    //   plan can have and, at a point of P, whose parts have one
     ensures has_plan { OnOk result (HasPlanOfP (net_of net.now) point.now) }
+    // Promise: The plan of a point of P, Q or PQ is that plan; it comes exactly for points within the limits whose flows have a base that a
+    //   plan can have and, at a point of P, whose parts have one
     ensures fault { IfErr result (IsFaultOfP (net_of net.now) point.now) }
 {
     let lists = qual_slices(point);

@@ -21,8 +21,11 @@ const MAX_BASE: u128 = 1_048_576;
 pub fn part_base(net: &Network, flows: &Flows) -> Option<u32>
     requires flows { AreFlows (net_of net.now) flows.now }
     requires carries { Carries (net_of net.now) (flows_plan flows.now) }
+    // Promise: The base of parts is the least that makes them whole, and there is none exactly where each such base is above 1,048,576
     ensures least { IfSome result (IsLeastPartBase (net_of net.now) (flows_plan flows.now)) }
+    // Promise: The base of parts is the least that makes them whole, and there is none exactly where each such base is above 1,048,576
     ensures small { IfSome result (λ base. base ≤ 1048576) }
+    // Promise: The base of parts is the least that makes them whole, and there is none exactly where each such base is above 1,048,576
     ensures too_fine { IfNone result (AreTooFineParts (net_of net.now) (flows_plan flows.now)) }
 {
     let counts = net.sizes();

@@ -19,8 +19,14 @@ use std::alloc::Global;
 /// written, it obeys, and it has the point's flows and its cost. NotAPoint comes where the point is none of form Q within the
 /// limits, and then TooFine where the least base is above 65,536.
 pub fn plan_of(alloc: Global, net: &Network, point: &PropPoint) -> Result<WrittenPlan, FormFault>
+    // Promise: The plan of a point of P, Q or PQ is that plan; it comes exactly for points within the limits whose flows have a base that a
+    //   plan can have and, at a point of P, whose parts have one
     ensures plan { IfOk result (λ w. IsPropPlan (net_of net.now) point.now (shown_plan w)) }
+    // Promise: The plan of a point of P, Q or PQ is that plan; it comes exactly for points within the limits whose flows have a base that a
+    //   plan can have and, at a point of P, whose parts have one
     ensures has_plan { OnOk result (HasPlanOfQ (net_of net.now) point.now) }
+    // Promise: The plan of a point of P, Q or PQ is that plan; it comes exactly for points within the limits whose flows have a base that a
+    //   plan can have and, at a point of P, whose parts have one
     ensures fault { IfErr result (IsFaultOfQ (net_of net.now) point.now) }
     ensures limited { IsLimited (net_of net.now) }
 {

@@ -30,6 +30,7 @@ pub fn count(net: &Network) -> u32
 pub fn row(net: &Network, n: u32, _v: &BoxView, row: &mut LinRow) -> RowKind
     requires view { IsView (net_of net.now) _v.now }
     requires among { n < row_count (pq_families (net_of net.now)) }
+    // Promise: Each row of a family is the catalogue's, term by term
     ensures { IsLineOf (net_of net.now) (row_in (pq_families (net_of net.now)) n) row.new result }
 {
     let table = table_at(net, n);

@@ -31,6 +31,7 @@ pub fn count(net: &Network) -> u32
 pub fn row(net: &Network, n: u32, v: &BoxView, row: &mut LinRow) -> RowKind
     requires view { IsView (net_of net.now) v.now }
     requires among { n < row_count (q_families (net_of net.now) (shown_box v.now)) }
+    // Promise: Each row of a family is the catalogue's, term by term
     ensures { IsLineOf (net_of net.now) (row_in (q_families (net_of net.now) (shown_box v.now)) n) row.new result }
 {
     let first = exact_rows(net);

@@ -20,9 +20,11 @@ const PLAN: u32 = 15;
 
 /// How many bytes the longest payload of an entry has that is in order on the network.
 pub fn largest_payload(net: &Network) -> u32
+    // Promise: No entry that is in order on a network has a longer payload than this
     ensures value { result ≡ longest (net_of net.now) }
     ensures small { result ≤ 2 ^ 20 }
     // Each entry in order has a payload that is no longer, and its leaf and its counts fit their fields.
+    // Promise: No entry that is in order on a network has a longer payload than this
     ensures enough { (s : Searched) (e : Entry) → IsEntryInOrder (net_of net.now) s e → length (payload e) ≤ result }
     ensures narrow { (s : Searched) (e : Entry) → IsEntryInOrder (net_of net.now) s e → IsNarrow e }
 {

@@ -22,6 +22,7 @@ use plan_core::WrittenPlan;
 /// How many bytes an entry's payload has; `u64::MAX` where there are more.
 #[tactic(auto, using(crate::proofs::Lengths::sizes))]
 pub fn payload_len(entry: &Entry) -> u64
+    // Promise: How long the payload of an entry is
     ensures { result ≡ min (length (payload (shown_entry entry.now))) (2 ^ 64 - 1) }
 {
     match entry {

@@ -77,6 +77,7 @@ impl Bench {
         requires wide { (get_or leaf.now.ends.low.items coord (pos 0) +ℤ pos 2) ≤ℤ get_or leaf.now.ends.high.items coord (pos 0) }
         requires halvings { (b : Box) → AreEndsOf (net_of net.now) b leaf.now.ends → All (IsHalvingOf (net_of net.now) self.old.form b leaf.now.bound) halvings.items }
         ensures coord { IfOk result (λ h. h.coord ≡ coord) }
+        // Promise: What a split adds is what rounding gives for both halves, cut in the middle, above the leaf's bound
         ensures halving { (b : Box) → AreEndsOf (net_of net.now) b leaf.now.ends → IfOk result (IsHalvingOf (net_of net.now) self.old.form b leaf.now.bound) }
     {
         match halving_at(halvings, coord) {

@@ -40,6 +40,7 @@ pub fn solve_leaf(
 ) -> Result<(Leaf, Bench), Memory>
     requires tree { IsOf (net_of net.now) tree.now }
     requires bound { tree_bound (net_of net.now) (searched_of tree.now.kept).tree ≡ Some bound }
+    // Promise: A cut rule sees the least leaf of the tree: a row for each coordinate of the form, with its ends in the leaf's box
     ensures leaf { IfOk result (λ l. IsSolvedLeaf (net_of net.now) (searched_of tree.now.kept) l.0) }
     ensures bench { IfOk result (λ l. IsBench (net_of net.now) l.1) }
     ensures form { IfOk result (λ l. l.1.form ≡ form) }

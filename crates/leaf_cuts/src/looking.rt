@@ -47,6 +47,7 @@ impl Bench {
         requires bench { IsBench (net_of net.now) self.old }
         ensures bench { IsBench (net_of net.now) self.new }
         ensures form { self.new.form ≡ self.old.form }
+        // Promise: A cut rule sees the least leaf of the tree: a row for each coordinate of the form, with its ends in the leaf's box
         ensures view { (b : Box) → AreEndsOf (net_of net.now) b leaf.now.ends → IfOk result (λ l. IsViewOf (net_of net.now) self.old.form b leaf.now.node l.view) }
         ensures halvings { (b : Box) → AreEndsOf (net_of net.now) b leaf.now.ends
             → IfOk result (λ l. All (IsHalvingOf (net_of net.now) self.old.form b leaf.now.bound) l.halvings.items) }

@@ -61,6 +61,7 @@ impl LeafOrder {
     /// there once.
     pub fn put(&mut self, left: Option<OpenLeaf>, right: Option<OpenLeaf>) -> Result<(), AllocError>
         ensures put { IfOk result (λ _. ArePut left right self.old self.new) }
+        // Promise: Where there is no memory for leaves that are put in, the set is as it was
         ensures unchanged { IfErr result (λ _. self.new ≡ self.old) }
     {
         let added = self.put_one(left)?;
@@ -80,6 +81,7 @@ impl LeafOrder {
         new: Option<OpenLeaf>,
     ) -> Result<(), AllocError>
         ensures replaced { IfOk result (λ _. IsReplaced old new self.old self.new) }
+        // Promise: Where there is no memory for leaves that are put in, the set is as it was
         ensures unchanged { IfErr result (λ _. self.new ≡ self.old) }
     {
         self.put(new, None)?;

@@ -21,8 +21,13 @@ struct Solution {
 
 /// Advice on the program after at most `pivots` changes of the basis.
 pub fn advise(alloc: Global, lp: &Lp, pivots: u32) -> Result<Advice, Memory>
+    // Promise: Advice on a linear program comes for every value of its arguments, lists of different lengths and terms on variables that
+    //   are not there included
+    // Promise: Advice has one dual for each row
     ensures duals { IfOk result (λ a. vec_len a.duals ≡ vec_len lp.now.rows) }
+    // Promise: Advice has one number of the point for each variable
     ensures point { IfOk result (λ a. vec_len a.point ≡ vec_len lp.now.low) }
+    // Promise: The basis of an advice names variables and rows of the program alone
     ensures basis { IfOk result (λ a. NamesColumns lp.now a.basis.items) }
 {
     let start = cold_start(alloc, lp)?;
@@ -33,6 +38,8 @@ pub fn advise(alloc: Global, lp: &Lp, pivots: u32) -> Result<Advice, Memory>
 /// is fixed or makes the start singular is left out. Where the method comes to no end from there, a cold call follows with
 /// the pivots that are left.
 pub fn advise_from(alloc: Global, lp: &Lp, start: &[u32], pivots: u32) -> Result<Advice, Memory>
+    // Promise: Advice on a linear program comes for every value of its arguments, lists of different lengths and terms on variables that
+    //   are not there included
     ensures duals { IfOk result (λ a. vec_len a.duals ≡ vec_len lp.now.rows) }
     ensures point { IfOk result (λ a. vec_len a.point ≡ vec_len lp.now.low) }
     ensures basis { IfOk result (λ a. NamesColumns lp.now a.basis.items) }

@@ -17,7 +17,9 @@ pub fn envelope(side: u8, scale: i64, a: u32, b: u32, w: u32, ends: &Ends, row: 
     requires a_b { a ≢ b }
     requires a_w { a ≢ w }
     requires b_w { b ≢ w }
+    // Promise: Each side of an envelope is the definition's
     ensures terms { (n : ℕ) → a < n → b < n → w < n → row.new.terms ≡ terms_from 0 (side_coef a b w (envelopes.side side scale (shown_ends ends.now))) n }
+    // Promise: Each side of an envelope is the definition's
     ensures constant { row.new.constant ≡ (envelopes.side side scale (shown_ends ends.now)).constant }
 {
     let side = side_of(side, scale, ends);

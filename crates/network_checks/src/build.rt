@@ -16,8 +16,11 @@ use std::alloc::Global;
 /// first fault of the rows. The rows are consumed, on a refusal too.
 pub fn build_network(alloc: Global, parts: Parts) -> Result<Network, NetFault>
     requires { IsRectangular (rows_of parts) }
+    // Promise: A network is the network of the rows that it was built from
     ensures network { IfOk result (λ n. n ≡ network_of (rows_of parts)) }
+    // Promise: The rows that a network was built from have no fault
     ensures faultless { OnOk result (IsFaultless (rows_of parts)) }
+    // Promise: Of rows that make no network the first fault is answered, with its values
     ensures fault { IfErr result (IsFirstFault (rows_of parts)) }
 {
     let arcs = checked_arcs(alloc, &parts)?;

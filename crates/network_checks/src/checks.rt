@@ -34,6 +34,7 @@ const MAX_ARCS: usize = 256;
 /// The arcs by kind, or the first fault of the rows.
 pub fn checked_arcs(alloc: Global, parts: &Parts) -> Result<Arcs, NetFault>
     ensures checked { IfOk result (IsReady (rows_of parts.now)) }
+    // Promise: Of rows that make no network the first fault is answered, with its values
     ensures fault { IfErr result (IsFirstFault (rows_of parts.now)) }
 {
     check_counts(parts)?;

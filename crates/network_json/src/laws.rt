@@ -6,5 +6,6 @@ ghost use Rattle.network_json.specs.Reading.{ReadAs};
 
 /// Bytes are a file of at most one network.
 pub fn one_network_law()
+    // Promise: Bytes are a file of at most one network
     ensures { (bytes : List ℕ) (m n : Network) → ReadAs bytes m → ReadAs bytes n → m ≡ n }
 {}

@@ -25,7 +25,9 @@ pub const MAX_TEXT: usize = 4_194_304;
 /// A text longer than `MAX_TEXT` and one that is no JSON are refused first, then the first fault in the order of the walk,
 /// and then what `build_network` refuses.
 pub fn read_network(alloc: Global, bytes: &[u8]) -> Result<Network, ReadNet>
+    // Promise: A file is read as the network of its rows, or memory ran out
     ensures read { IfOk result (ReadAs bytes.now) }
+    // Promise: A file that is no network is refused for its first fault: of the walk, with its place, or else of its rows
     ensures refused { IfErr result (IsRefusal bytes.now) }
 {
     let parts = read_rows(alloc, bytes)?;

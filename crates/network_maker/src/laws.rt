@@ -9,6 +9,7 @@ ghost use Rattle.network_maker.specs.Generated.{generated};
 
 /// Whatever the number, there are rows without a fault that stand for the network, and so many of each kind.
 pub fn generated_law()
+    // Promise: The rows of a made network have no fault, and so many of each kind are there
     ensures made { (seed : ℕ) → IsMade (generated seed) }
     ensures counts { (seed : ℕ) → counts_of (net_of (generated seed)) ≡ 10 ∷ 3 ∷ 6 ∷ 2 ∷ 20 ∷ 18 ∷ 6 ∷ [] }
     ensures paths { (seed : ℕ) → length (paths_of (net_of (generated seed))) ≡ 120 }

@@ -23,6 +23,8 @@ use std::alloc::Global;
 
 /// The network that this number makes.
 pub fn make_network(alloc: Global, seed: u64) -> Result<Network, Memory>
+    // Promise: The network that a number makes is the generator's, whatever the number
+    // Promise: The network of a number is the definition's: arithmetic on 64 bits
     ensures network { IfOk result (λ n. n ≡ generated seed) }
 {
     match build_network(alloc, rows(alloc, seed)?) {

@@ -26,8 +26,11 @@ pub const MAX_CANONICAL: usize = 1_048_576;
 /// maxima of sources and pools written out, and in `least` and `most` the limits that are set. Arcs are feeds, then outs, then
 /// directs. It is at most `MAX_CANONICAL` bytes long, and `read_network` gives this network of it.
 pub fn write_canonical(alloc: Global, net: &Network) -> Result<Vec<u8>, Memory>
+    // Promise: The canonical text is the definition's
     ensures text { IfOk result (λ text. text.items ≡ canonical_text net.now) }
+    // Promise: The canonical text has at most 1,048,576 bytes
     ensures short { IfOk result (λ text. length text.items ≤ MAX_CANONICAL) }
+    // Promise: The canonical text of a network is a file of that very network
     ensures read { IfOk result (λ text. ReadAs text.items net.now) }
 {
     let value = network_value(alloc, net)?;

@@ -16,6 +16,7 @@ use std::alloc::{AllocError, Global};
 /// The names of the ends of feed `n`: its source, then its pool.
 pub fn feed_value(alloc: Global, net: &Network, n: u32) -> Result<Value, AllocError>
     requires there { n < (net_of net.now).feeds }
+    // Promise: What the canonical text says of a name, an arc, a source, a pool and a product is the definition's
     ensures value { IfOk result (λ v. view v ≡ arc_data (canonical_arc (names_of net.now kind.Source) (names_of net.now kind.Pool) (get_or net.now.feeds n no_arc))) }
 {
     let (source, pool) = net.feed(n);
@@ -29,6 +30,7 @@ pub fn feed_value(alloc: Global, net: &Network, n: u32) -> Result<Value, AllocEr
 /// The names of the ends of out `n`: its pool, then its product.
 pub fn out_value(alloc: Global, net: &Network, n: u32) -> Result<Value, AllocError>
     requires there { n < (net_of net.now).outs }
+    // Promise: What the canonical text says of a name, an arc, a source, a pool and a product is the definition's
     ensures value { IfOk result (λ v. view v ≡ arc_data (canonical_arc (names_of net.now kind.Pool) (names_of net.now kind.Product) (get_or net.now.outs n no_arc))) }
 {
     let (pool, product) = net.out(n);
@@ -42,6 +44,7 @@ pub fn out_value(alloc: Global, net: &Network, n: u32) -> Result<Value, AllocErr
 /// The names of the ends of direct `n`: its source, then its product.
 pub fn direct_value(alloc: Global, net: &Network, n: u32) -> Result<Value, AllocError>
     requires there { n < (net_of net.now).directs }
+    // Promise: What the canonical text says of a name, an arc, a source, a pool and a product is the definition's
     ensures value { IfOk result (λ v. view v ≡ arc_data (canonical_arc (names_of net.now kind.Source) (names_of net.now kind.Product) (get_or net.now.directs n no_arc))) }
 {
     let (source, product) = net.direct(n);

@@ -14,6 +14,7 @@ use std::alloc::{AllocError, Global};
 /// Source `n`: every member, with its maximum written out.
 pub fn source_value(alloc: Global, net: &Network, n: u32) -> Result<Value, AllocError>
     requires there { n < (net_of net.now).sources }
+    // Promise: What the canonical text says of a name, an arc, a source, a pool and a product is the definition's
     ensures value { IfOk result (λ v. view v ≡ source_data net.now.qualities (get_or net.now.sources n no_source)) }
 {
     let mut members = Map::new(alloc);
@@ -61,6 +62,7 @@ fn quality_of(alloc: Global, net: &Network, source: u32) -> Result<Vec<Option<i6
 /// Pool `n`: its name and its maximum.
 pub fn pool_value(alloc: Global, net: &Network, n: u32) -> Result<Value, AllocError>
     requires there { n < (net_of net.now).pools }
+    // Promise: What the canonical text says of a name, an arc, a source, a pool and a product is the definition's
     ensures value { IfOk result (λ v. view v ≡ pool_data (get_or net.now.pools n no_pool)) }
 {
     let mut members = Map::new(alloc);
@@ -82,6 +84,7 @@ pub fn pool_value(alloc: Global, net: &Network, n: u32) -> Result<Value, AllocEr
 /// Product `n`: every member, with the limits that are set in `least` and `most`.
 pub fn product_value(alloc: Global, net: &Network, n: u32) -> Result<Value, AllocError>
     requires there { n < (net_of net.now).products }
+    // Promise: What the canonical text says of a name, an arc, a source, a pool and a product is the definition's
     ensures value { IfOk result (λ v. view v ≡ product_data net.now.qualities (get_or net.now.products n no_product)) }
 {
     let mut members = Map::new(alloc);

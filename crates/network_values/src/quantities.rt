@@ -53,6 +53,7 @@ fn put_set(
 /// The name of a node or a quality.
 pub fn name_value(alloc: Global, net: &Network, kind: Kind, n: u32) -> Result<Value, AllocError>
     requires there { n < length (names_of net.now kind) }
+    // Promise: What the canonical text says of a name, an arc, a source, a pool and a product is the definition's
     ensures value { IfOk result (λ v. view v ≡ string (get_or (names_of net.now kind) n [])) }
 {
     Value::try_from_str(alloc, net.name(kind, n))

@@ -69,16 +69,19 @@ impl Journal {
         requires short { length (payload (shown_entry entry.now)) ≤ self.old.largest }
         requires narrow { IsNarrow (shown_entry entry.now) }
 
+        // Promise: Once an entry is acknowledged, the one file that a crash leaves has it behind those from before
         ensures acknowledged { OnOk result ((text file : List ℕ) (list : List entries.Entry) →
             IsOnDisk file (D.reads disk.old) (D.may_leave disk.old) → IsKeptAt self.old.gate text list file →
             (after : List ℕ) × IsOnDisk after (D.reads disk.new) (D.may_leave disk.new) × IsKeptAt self.new.gate text (list ++ shown_entry entry.now ∷ []) after) }
         // A crash at any moment of the call leaves the entries from before it, with the new one or without.
+        // Promise: A crash at any moment of an append leaves the entries from before, with the new one or without, and never a part of one
         ensures any_moment { (text file : List ℕ) (list : List entries.Entry) →
             IsOnDisk file (D.reads disk.old) (D.may_leave disk.old) → IsKeptAt self.old.gate text list file →
             LeavesOnly D.moment D.left_since disk.old disk.new (IsBeforeOrAfter text list (shown_entry entry.now)) }
 
         ensures usable { self.new.failed ≡ is_err result }
         ensures same_largest { self.new.largest ≡ self.old.largest }
+        // Promise: An append fails only where the disk's count of faults rose, and takes no memory
         ensures failed { OnErr result (Rose (D.faults disk.old) (D.faults disk.new)) }
         ensures same_disk { IsSameDisk D.faults D.tells D.admits disk.old disk.new }
     {
@@ -110,28 +113,39 @@ impl Journal {
         requires largest { largest ≤ 2 ^ 20 }
 
         // What the file stands for is what is answered, and it holds that now.
+        // Promise: What is answered at an opening is the list that the file stands for
         ensures entries { IfOk result (λ o. (file : List ℕ) → D.reads disk.old ≡ Some file → Stands file text.now (map shown_entry o.entries.items)) }
         ensures allowed { IfOk result (λ o. (file : List ℕ) → D.reads disk.old ≡ Some file → AllByRecursion (IsAllowed largest) (map shown_entry o.entries.items)) }
+        // Promise: After an opening the file holds the list that it stood for, with a closed gate behind it, and every crash leaves that
+        //   file
         ensures left { IfOk result (λ o. (file : List ℕ) → D.reads disk.old ≡ Some file →
             (now : List ℕ) × IsOnDisk now (D.reads disk.new) (D.may_leave disk.new) × IsKeptAt o.journal.gate text.now (map shown_entry o.entries.items) now) }
         ensures usable { IfOk result (λ o. o.journal.failed ≡ false) }
         ensures largest { IfOk result (λ o. o.journal.largest ≡ largest) }
 
         // The fault is one that the file has, or of the disk, or of memory.
+        // Promise: The file of a journal is refused only for a fault that it has, or since disk or memory failed
         ensures refused { IfErr result (λ e. (file : List ℕ) → D.reads disk.old ≡ Some file → IsFree e ⊎ Has text.now largest file e) }
         // A fault that it has is answered, and of a file that stands for entries none but those two can be.
+        // Promise: A fault that the file of a journal has is answered: a file has one at most
         ensures decided { (file : List ℕ) → D.reads disk.old ≡ Some file → IsDecided text.now largest file result }
+        // Promise: A file that stands for entries no longer than allowed is not refused
         ensures taken { (file : List ℕ) (list : List entries.Entry) → D.reads disk.old ≡ Some file → Stands file text.now list → AllByRecursion (IsAllowed largest) list → IfErr result IsFree }
 
         // A crash at any moment leaves what it might have left before, or a file that is the journal's and stands for the same.
+        // Promise: A crash at any moment of an opening leaves a file from before it, or one that a journal of this network may leave and
+        //   that stands for the same list
         ensures any_moment { (file : List ℕ) (list : List entries.Entry) → D.reads disk.old ≡ Some file → IsOwn text.now file → Stands file text.now list →
             LeavesOnly D.moment D.left_since disk.old disk.new (λ c. D.may_leave disk.old c ⊎ IsOwnFor text.now list c) }
         // A file that is refused is left as it is.
+        // Promise: A file that is refused is left as it is
         ensures untouched { IfErr result (λ e. IsFree e ⊎ LeavesOnly D.moment D.left_since disk.old disk.new (D.may_leave disk.old)) }
 
         // Where memory runs out the file reads as it did.
+        // Promise: Where memory runs out during an opening, the file reads as it did
         ensures kept { IsErrOf result JournalFault.Memory → D.reads disk.new ≡ D.reads disk.old }
 
+        // Promise: A failure of the disk is told only where its count of faults rose
         ensures failed { IsErrOf result JournalFault.Disk → Rose (D.faults disk.old) (D.faults disk.new) }
         ensures same_disk { IsSameDisk D.faults D.tells D.admits disk.old disk.new }
     {

@@ -26,6 +26,7 @@ impl Groups {
     pub fn by(alloc: Global, keys: &[u32], count: u32) -> Result<Groups, AllocError>
         requires known { All (λ k. k < count) keys.now }
         requires few { length keys.now < 2 ^ 32 }
+        // Promise: The numbers of each key are exactly those that have it, in rising order
         ensures { IfOk result (λ g. g ≡ groups_of (λ i. get_or keys.now i 0) (length keys.now) count) }
     {
         let mut members = empty_groups(alloc, count)?;
@@ -38,6 +39,7 @@ impl Groups {
     /// The numbers of the key, in rising order.
     pub fn of(&self, key: u32) -> &[u32]
         requires { key < length self.now }
+        // Promise: The numbers of each key are exactly those that have it, in rising order
         ensures { result.now ≡ get_or self.now key [] }
     {
         self.members[key as usize].as_slice()

@@ -23,8 +23,11 @@ const MAX_FLOW_BASE: u32 = 65_536;
 
 /// What the plan costs, or the first rule that it breaks. It goes over the arcs once for each quality, and takes no memory.
 pub fn check_plan(net: &Network, plan: &WrittenPlan) -> Result<Cost, PlanFault>
+    // Promise: A written plan is accepted only where it has its form and what it stands for obeys, and then with its exact cost
     ensures ok { IfOk result (IsCostOf (net_of net.now) (shown_plan plan.now)) }
     ensures size { IfOk result (λ cost. unsigned_abs cost.num ≤ 2 ^ 123) }
+    // Promise: Of a written plan that is not accepted the first rule that it breaks is named, with the source, pool, product and quality;
+    //   no memory is taken
     ensures fault { IfErr result (IsFirstFault (net_of net.now) (shown_plan plan.now)) }
 {
     check_shape(net, plan)?;

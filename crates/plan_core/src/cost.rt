@@ -19,6 +19,7 @@ use std::cmp::Ordering;
 pub fn compare_cost(a: &Cost, b: &Cost) -> Ordering
     requires a { 0 < a.now.base }
     requires b { 0 < b.now.base }
+    // Promise: Costs over different bases are compared exactly
     ensures { result ≡ int_cmp (pos b.now.base *ℤ a.now.num) (pos a.now.base *ℤ b.now.num) }
 {
     compare_ratio(a.num, a.base.into(), b.num, b.base.into())

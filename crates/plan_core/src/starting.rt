@@ -15,6 +15,7 @@ use std::alloc::Global;
 
 /// The zero plan: both bases are 1, each pool's weight stands on its first feed, and nothing flows.
 pub fn zero_plan(alloc: Global, net: &Network) -> Result<WrittenPlan, Memory>
+    // Promise: The zero plan and the simple plans are those of the definitions
     ensures { IfOk result (λ w. shown_plan w ≡ zero_written (net_of net.now)) }
 {
     let [_, _, _, _, feeds, outs, directs] = net.counts();
@@ -31,6 +32,7 @@ pub fn zero_plan(alloc: Global, net: &Network) -> Result<WrittenPlan, Memory>
 /// weight on the path's feed.
 pub fn simple_plan(alloc: Global, net: &Network, way: Way) -> Result<WrittenPlan, Memory>
     requires { IsInRange (net_of net.now) way }
+    // Promise: The zero plan and the simple plans are those of the definitions
     ensures { IfOk result (λ w. shown_plan w ≡ simple_written (net_of net.now) (shown_way (net_of net.now) way)) }
 {
     match way {

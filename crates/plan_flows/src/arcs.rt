@@ -14,6 +14,7 @@ use plan_core::WrittenPlan;
 pub fn feed_flow(net: &Network, plan: &WrittenPlan, feed: u32) -> u128
     requires written { IsWritten (net_of net.now) (shown_plan plan.now) }
     requires feed { feed < (net_of net.now).feeds }
+    // Promise: What flows along an arc and through a node is that of the plan that a written plan stands for
     ensures flow { result ≡ (plan_of (net_of net.now) (shown_plan plan.now)).feed feed }
     ensures size { result ≤ 2 ^ 104 }
 {
@@ -26,6 +27,7 @@ pub fn feed_flow(net: &Network, plan: &WrittenPlan, feed: u32) -> u128
 pub fn out_flow(net: &Network, plan: &WrittenPlan, out: u32) -> u128
     requires written { IsWritten (net_of net.now) (shown_plan plan.now) }
     requires out { out < (net_of net.now).outs }
+    // Promise: What flows along an arc and through a node is that of the plan that a written plan stands for
     ensures flow { result ≡ (plan_of (net_of net.now) (shown_plan plan.now)).out out }
     ensures size { result ≤ 2 ^ 96 }
 {
@@ -36,6 +38,7 @@ pub fn out_flow(net: &Network, plan: &WrittenPlan, out: u32) -> u128
 pub fn direct_flow(net: &Network, plan: &WrittenPlan, arc: u32) -> u128
     requires written { IsWritten (net_of net.now) (shown_plan plan.now) }
     requires arc { arc < (net_of net.now).directs }
+    // Promise: What flows along an arc and through a node is that of the plan that a written plan stands for
     ensures flow { result ≡ (plan_of (net_of net.now) (shown_plan plan.now)).direct arc }
     ensures size { result ≤ 2 ^ 96 }
 {

@@ -20,6 +20,7 @@ pub fn mean(net: &Network, plan: &WrittenPlan, j: u32, k: u32) -> (i128, i128)
     requires product { j < (net_of net.now).products }
     requires quality { k < (net_of net.now).qualities }
     requires inflow { 0 < product_inflow (net_of net.now) (plan_of (net_of net.now) (shown_plan plan.now)) j }
+    // Promise: A product's mean is the exact quotient of the blending rules
     ensures { IsMean (net_of net.now) (plan_of (net_of net.now) (shown_plan plan.now)) j k result.0 result.1 }
 {
     let inflow = product_flow(net, plan, j);

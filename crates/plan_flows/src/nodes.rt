@@ -44,6 +44,7 @@ fn written_from(net: &Network, plan: &WrittenPlan, out: u32, pool: u32) -> u128
 /// What a pool sends out, over the plan's denominator.
 pub fn pool_flow(net: &Network, plan: &WrittenPlan, pool: u32) -> u128
     requires { IsWritten (net_of net.now) (shown_plan plan.now) }
+    // Promise: What flows along an arc and through a node is that of the plan that a written plan stands for
     ensures flow { result ≡ pool_outflow (net_of net.now) (plan_of (net_of net.now) (shown_plan plan.now)) pool }
     ensures size { result ≤ 2 ^ 104 }
 {
@@ -53,6 +54,7 @@ pub fn pool_flow(net: &Network, plan: &WrittenPlan, pool: u32) -> u128
 /// What a source sends out, over the plan's denominator: along feeds, and directly.
 pub fn source_flow(net: &Network, plan: &WrittenPlan, source: u32) -> u128
     requires { IsWritten (net_of net.now) (shown_plan plan.now) }
+    // Promise: What flows along an arc and through a node is that of the plan that a written plan stands for
     ensures flow { result ≡ source_outflow (net_of net.now) (plan_of (net_of net.now) (shown_plan plan.now)) source }
     ensures size { result ≤ 2 ^ 113 }
 {
@@ -120,6 +122,7 @@ fn direct_from(net: &Network, plan: &WrittenPlan, arc: u32, source: u32) -> u128
 /// What flows into a product, over the plan's denominator: from pools, and directly.
 pub fn product_flow(net: &Network, plan: &WrittenPlan, product: u32) -> u128
     requires { IsWritten (net_of net.now) (shown_plan plan.now) }
+    // Promise: What flows along an arc and through a node is that of the plan that a written plan stands for
     ensures flow { result ≡ product_inflow (net_of net.now) (plan_of (net_of net.now) (shown_plan plan.now)) product }
     ensures size { result ≤ 2 ^ 105 }
     ensures limited { IsLimited (net_of net.now) }

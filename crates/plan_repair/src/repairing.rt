@@ -30,12 +30,16 @@ pub fn repair(
 ) -> Result<Option<WrittenPlan>, Memory>
     requires point { vec_len advice.now.point ≡ variables (net_of net.now) }
     requires best { ForSome (option_copied best) (λ b. IsAccepted (net_of net.now) (shown_plan b)) }
+    // Promise: Whatever the advice, a repaired plan is well written, obeys, and is cheaper than the best plan, if there is one
     ensures gain { IfOk result (λ o. IfSome o (λ w. IsGain (net_of net.now) (shown_best (option_copied best.entry)) (shown_plan w))) }
     // It is no dearer than the plain plan, where that is accepted.
+    // Promise: A repaired plan costs no more than the plain plan of the advice's point, where that obeys: the point's own flows, rounded
+    //   down
     ensures no_dearer { IfOk result (λ o. IfSome o (λ w.
         IsAccepted (net_of net.now) (plain_written (net_of net.now) advice.now.point.items)
         → IsNoDearer (net_of net.now) (shown_plan w) (plain_written (net_of net.now) advice.now.point.items))) }
     // None comes only where the plain plan is refused or not cheaper than the best one.
+    // Promise: No repaired plan comes only where the plain plan does not obey or is not cheaper than the best plan
     ensures none { IfOk result (λ o. IfNone o (
         ¬ IsGain (net_of net.now) (shown_best (option_copied best.entry)) (plain_written (net_of net.now) advice.now.point.items))) }
 {

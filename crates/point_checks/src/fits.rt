@@ -15,6 +15,7 @@ pub fn flows_fit(net: &Network, base: u64, x: &[u128], y: &[u128], z: &[u128]) -
     requires feeds { length x.now ≡ (net_of net.now).feeds }
     requires outs { length y.now ≡ (net_of net.now).outs }
     requires directs { length z.now ≡ (net_of net.now).directs }
+    // Promise: Flows fit exactly where none is above 10^14 millionths
     ensures { IsTrue result ↔ FlowsFit base x.now y.now z.now }
 {
     let most = most_flow(base);

@@ -19,6 +19,7 @@ use blend_network::{Key, Network};
 
 /// Whether the point is one of form P within the limits.
 pub fn is_qual_point(net: &Network, point: &QualSlices) -> bool
+    // Promise: A point of P within the limits is told apart from all other lists
     ensures point { IsTrue result ↔ IsQualPoint (net_of net.now) point.now }
     ensures limited { IsLimited (net_of net.now) }
 {

@@ -18,6 +18,7 @@ formulate_status outcomes.Memory = statuses.OutOfMemory
 formulate_status outcomes.WriteFault = statuses.WriteFault
 
 -- the program of this form of the network in the file of this name
+-- Promise: What `formulate` prints is the exact program of the network of NET in the asked form
 pub record ProgramUnder (files : Option Files) (name : List ℕ) (form : Form) (text : List ℕ) : Type 0 where
   pub network : Network
   pub reads : ReadsUnder files name network
@@ -29,6 +30,11 @@ FormulatesAs files name form statuses.Done text = ProgramUnder files name form t
 FormulatesAs files name form status text = ⊥
 
 -- Each status comes only where its line holds of the file of this name; no other comes. The counts are of the bytes taken.
+-- Promise: Each other status comes only where it says so of the files: 3 where no network is read from NET, with its first cause; 4 where
+--   `--nodes` is above 20,000, or twice `--nodes` and one, times the rows of the network, is above 32,000,000; 0, 10 and 11 of `solve`
+--   where a network is read and it is not so, 12 where no plan obeys it, 13 where no starting plan does; 0 of `check` where CERT is the
+--   text of a valid certificate, and 1 where it is not; 5 where CERT has more than 1,073,741,824 bytes; 30 to 33 of `solve` where a network
+--   is read, what is asked is within the budget and a journal is named
 abbrev pub FormulateEnds : Option Files → List ℕ → (before after : ℕ) → Status → Type 0
 FormulateEnds files name before after statuses.Done = ReadsSome files name
 FormulateEnds files name before after statuses.WriteFault = ReadsSome files name
@@ -45,5 +51,8 @@ IsWritten status = ⊥
 
 -- which status comes, by what the told files say, where the run isn't cut short
 pub record FormulateDecided (told : Files) (name : List ℕ) (status : Status) : Type 0 where
+  -- Promise: Where no network is read from NET, the status is 3, or shelf or memory failed
   pub no_network : ReadsNone told name → IsNetworkRefused status ⊎ IsCutShort status
+  -- Promise: Where a network is read, `solve` within the budget prints a certificate, over it ends with 4, and `formulate` prints a
+  --   program, or shelf, sink or memory failed, or `solve` ended at the journal that the words name
   pub some_network : ReadsSome (Some told) name → IsWritten status ⊎ IsCutShort status

@@ -54,10 +54,17 @@ TriesOn n statuses.Done text = Tries n text
 TriesOn n status text = ⊥
 
 -- the text that is printed of the network that the number makes, by the status
+-- Promise: What `trial` prints are four lines with the counts of the network that the number makes, and the status and the numbers of a
+--   certificate that `solve` may print of it for these orders, whose text the check accepts
 abbrev pub TriesAs : ℕ → Status → List ℕ → Type 0
 TriesAs number status text = TriesOn (net_of (generated number)) status text
 
 -- no other status comes
+-- Promise: Each other status comes only where it says so of the files: 3 where no network is read from NET, with its first cause; 4 where
+--   `--nodes` is above 20,000, or twice `--nodes` and one, times the rows of the network, is above 32,000,000; 0, 10 and 11 of `solve`
+--   where a network is read and it is not so, 12 where no plan obeys it, 13 where no starting plan does; 0 of `check` where CERT is the
+--   text of a valid certificate, and 1 where it is not; 5 where CERT has more than 1,073,741,824 bytes; 30 to 33 of `solve` where a network
+--   is read, what is asked is within the budget and a journal is named
 abbrev pub TrialEnds : Status → Type 0
 TrialEnds statuses.Done = Unit {0}
 TrialEnds statuses.WriteFault = Unit {0}
@@ -65,5 +72,6 @@ TrialEnds statuses.OutOfMemory = Unit {0}
 TrialEnds status = ⊥
 
 -- the lines are printed, or sink or memory failed, whatever the files say
+-- Promise: `trial` ends with 0, or sink or memory failed: a made network has no minima, so a plan is always found
 abbrev pub TrialDecided : Status → Type 0
 TrialDecided status = TrialEnds status

@@ -47,31 +47,41 @@ pub fn run<S: Shelf, K: Sink, D: Disk>(
 
     requires formulate { (net : List ℕ) (form : Form) → Asks (map string_bytes words.now) (formulate net form) → IsTrue (S.admits shelf.old net) }
 
-    // The certificate is asked for only where a network is read.
+    // Promise: CERT is asked for only where a network is read from NET
     requires certificate { (net cert : List ℕ) (network : Network) → Asks (map string_bytes words.now) (check net cert)
         → ReadsUnder (S.files shelf.old) net network → IsTrue (S.admits shelf.old cert) }
 
+    // Promise: CERT is asked for only where a network is read from NET
     requires reported { (net cert : List ℕ) (network : Network) → Asks (map string_bytes words.now) (report net cert)
         → ReadsUnder (S.files shelf.old) net network → IsTrue (S.admits shelf.old cert) }
 
-    // The disk is asked for the journal alone.
+    // Promise: The disk is asked for the file of `--journal` alone
     requires journal { (s : Solving) (file : List ℕ) → Asks (map string_bytes words.now) (solve s) → s.journal ≡ Some file → IsTrue (D.admits disk.old file) }
 
     // What the sink took: under `Closed`, `Stopped`, `Stuck`, `Infeasible` and `Undecided` the text of a certificate that answers the
     // words, under `Accepted` and `Refused` the line on the certificate that they name, under `Done` the report, the program, the network
     // or the four lines of the trial, under `WriteFault` a front of such a text, and under every other status nothing.
+    // Promise: Under the statuses 0, 10, 11, 12 and 13 of `solve` the sink took exactly the text of one certificate; under 0 and 1 of
+    //   `check`, and under 1 of `report`, exactly its line; under 0 of `report`, `formulate`, `make` and `trial` exactly the report, the
+    //   program, the network and the four lines; under 21 a front of such a text; under every other status nothing
     ensures took { (asked : Asked) → Asks (map string_bytes words.now) asked → Took (AnswersAs (S.files shelf.old) asked) result (K.taken out.old) (K.taken out.new) }
+    // Promise: Under 2 and 23 nothing was printed, whatever the words
     ensures unanswered { IsUnanswered result → K.taken out.new ≡ K.taken out.old }
 
     // Words that ask for something get an answer, and no others do, memory aside.
+    // Promise: Status 2 comes only where the words ask nothing
     ensures usage { result ≡ Status.Usage → (asked : Asked) → ¬ Asks (map string_bytes words.now) asked }
+    // Promise: Where the words ask nothing, the status is 2, or memory ran out
     ensures asked { IsUnanswered result ⊎ ((asked : Asked) × Asks (map string_bytes words.now) asked) }
 
     // When each status comes, and by what the told files say which one does, where the run isn't cut short.
     ensures ends { (asked : Asked) → Asks (map string_bytes words.now) asked → EndsAs (S.files shelf.old) (S.taken shelf.old) (S.taken shelf.new) asked result }
     ensures decided { (told : Files) (asked : Asked) → S.files shelf.old ≡ Some told → Asks (map string_bytes words.now) asked → DecidedAs told asked result }
+    // Promise: Status 20 comes only where the shelf's count of faults rose
     ensures read_fault { result ≡ Status.ReadFault → Rose (S.faults shelf.old) (S.faults shelf.new) }
+    // Promise: Status 21 comes only where the sink's count of faults rose
     ensures write_fault { result ≡ Status.WriteFault → Rose (K.faults out.old) (K.faults out.new) }
+    // Promise: Status 22 comes only where the disk's count of faults rose
     ensures disk_fault { result ≡ Status.DiskFault → Rose (D.faults disk.old) (D.faults disk.new) }
 
     // What a crash at any moment leaves of the journal, what the journal holds at the end, and when it is refused. Without a journal the
@@ -79,7 +89,9 @@ pub fn run<S: Shelf, K: Sink, D: Disk>(
     ensures journal { (s : Solving) (file : List ℕ) → Asks (map string_bytes words.now) (solve s) → s.journal ≡ Some file → IsTrue (D.tells disk.old) →
         Journaled (S.files shelf.old) s (LeavesOnly D.moment D.left_since disk.old disk.new) (D.may_leave disk.old) (D.reads disk.new) (D.may_leave disk.new)
         result (λ c. K.taken out.new ≡ behind (K.taken out.old) (text_of c)) }
+    // Promise: Without `--journal` the disk is not touched
     ensures apart { (asked : Asked) → Asks (map string_bytes words.now) asked → HasNoJournal asked → disk.new ≡ disk.old }
+    // Promise: Words that ask nothing leave the disk as it is
     ensures unasked { ((asked : Asked) → ¬ Asks (map string_bytes words.now) asked) → disk.new ≡ disk.old }
 {
     match read_words(alloc, words) {

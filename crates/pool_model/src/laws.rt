@@ -9,6 +9,7 @@ ghost use Rattle.pool_model.specs.Starting.{HasNoMinima, IsStarting, IsWay, Meet
 
 /// No plan that obeys costs less than the margins allow.
 pub fn reach_bound_law()
+    // Promise: No plan that obeys costs less than the reach bound, in networks with pools too
     ensures bound { (n : Net) → IsLimited n → IsBound n (reach_bound n) }
 {}
 
@@ -16,16 +17,19 @@ pub fn reach_bound_law()
 /// anything, and the simple plan of a way where what it brings is all that products must take.
 pub fn starting_plans_law()
     ensures zero_written { (n : Net) → HasFeeds n → IsWritten n (zero_plan n) }
+    // Promise: The zero plan obeys exactly where nothing is demanded
     ensures zero_obeys { (n : Net) → Obeys n (plan_of n (zero_plan n)) ↔ HasNoMinima n }
     ensures zero_cost { (n : Net) → cost_of n (plan_of n (zero_plan n)) ≡ pos 0 }
 
     ensures path_written { (n : Net) (e o : ℕ) → HasFeeds n → IsWay n (through e o) → IsWritten n (simple_plan n (through e o)) }
+    // Promise: A simple plan obeys exactly where what it carries meets every minimum
     ensures path_obeys { (n : Net) (e o : ℕ) → IsWay n (through e o) → n.feed_pool e < n.pools →
         Obeys n (plan_of n (simple_plan n (through e o))) ↔ MeetsMinima n (n.out_product o) (path_flow n e o) }
     ensures path_cost { (n : Net) (e o : ℕ) → IsLimited n → IsWay n (through e o) →
         cost_of n (plan_of n (simple_plan n (through e o))) ≡ way_cost n (through e o) }
 
     ensures direct_written { (n : Net) (e : ℕ) → HasFeeds n → e < n.directs → IsWritten n (simple_plan n (straight e)) }
+    // Promise: A simple plan obeys exactly where what it carries meets every minimum
     ensures direct_obeys { (n : Net) (e : ℕ) → e < n.directs →
         Obeys n (plan_of n (simple_plan n (straight e))) ↔ MeetsMinima n (n.direct_product e) (direct_flow n e) }
     ensures direct_cost { (n : Net) (e : ℕ) → IsLimited n → e < n.directs → cost_of n (plan_of n (simple_plan n (straight e))) ≡ way_cost n (straight e) }
@@ -37,6 +41,8 @@ pub fn starting_plans_law()
 /// The paths of a network are its ways through pools, each once: ordered by pool, then by feed, then by out.
 pub fn paths_law()
     ensures each { (n : Net) → All (λ p. IsWay n (through p.feed p.out)) (paths_of n) }
+    // Promise: The list of paths names each way through a pool
     ensures every { (n : Net) (e o : ℕ) → IsWay n (through e o) → n.feed_pool e < n.pools → Contains (paths_of n) record { feed = e; out = o } }
+    // Promise: The list of paths names each way through a pool once, and in order
     ensures in_order { (n : Net) → AllPairs (ComesBefore n) (paths_of n) }
 {}

@@ -10,6 +10,7 @@ ghost use Rattle.pool_model.specs.Worked.{shared, shared_breaking, shared_obeyin
 
 /// Worked plans: whether they obey, and what they cost.
 pub fn worked_plans()
+    // Promise: Worked networks and plans: which obey and what they cost
     ensures one_source_full { ObeysIn (one_source (pos 100000000)) (written 1 [] [] (100000000 ∷ [])) }
     ensures one_source_cost { cost_in (one_source (pos 100000000)) (written 1 [] [] (100000000 ∷ [])) ≡ neg_ℤ (pos 300000000000000) }
     ensures one_source_zero { ObeysIn (one_source (pos 100000000)) (zero_plan (net_in (one_source (pos 100000000)))) }
@@ -40,6 +41,7 @@ pub fn worked_plans()
 
 /// Each rule at its limit, and broken by the least amount where every other rule is kept.
 pub fn worked_rules()
+    // Promise: Worked plans: each rule kept at its limit, and broken by the least amount
     ensures source_full { Obeys (net_in strict) (flows 1 40 10 50 9) }
     ensures source_over { ¬ Obeys (net_in strict) (flows 1 41 9 50 9) }
     ensures pool_over { ¬ Obeys (net_in strict) (flows 1 26 25 51 0) }
@@ -61,6 +63,7 @@ pub fn worked_rules()
 
 /// Worked reach bounds.
 pub fn worked_bounds()
+    // Promise: Worked networks: the bounds of some
     ensures two_feeds_bound { reach_bound (net_in two_feeds) ≡ neg_ℤ (pos 300000000000000) }
     ensures haverly_bound { reach_bound (net_in (haverly (pos 16000000))) ≡ neg_ℤ (pos 2100000000000000) }
     ensures wastewater_bound { reach_bound (net_in wastewater) ≡ neg_ℤ (pos 340000000000000) }

@@ -25,6 +25,7 @@ use text_buffer::TextBuffer;
 /// arcs, and for each product and quality once over the arcs for each arc.
 pub fn report<K: Sink>(net: &Network, cert: &Certificate, out: &mut K) -> Result<(), WriteFault>
     requires { IsReported (net_of net.now) (shown_cert cert.now).claim }
+    // Promise: A report is the text of the definition, rounded as it says, or a front of it where the sink fails
     ensures wrote { Wrote result (K.taken out.old) (report_text net.now (shown_cert cert.now).claim) (K.taken out.new) }
     ensures failed { OnErr result (Rose (K.faults out.old) (K.faults out.new)) }
     ensures faults_grow { Grows (K.faults out.old) (K.faults out.new) }

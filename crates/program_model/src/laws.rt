@@ -11,6 +11,7 @@ ghost use Rattle.program_model.specs.Rows.{SolvesP, SolvesPq, SolvesQ};
 /// The points of a plan that obeys, over any denominator: they are points of the programs, at the place where every row of the
 /// catalogue is read, with the plan's flows and its cost.
 pub fn lifted_law()
+    // Promise: The points of every plan that obeys are points of P, of Q and of PQ, with its flows and its cost
     ensures p { (n : Net) (p : Plan) → IsLimited n → Obeys n p → IsPointOfP n (quality_point n p) }
     ensures q { (n : Net) (p : Plan) → IsLimited n → Obeys n p → IsPointOfQ n (proportion_point n p) }
     ensures pq { (n : Net) (p : Plan) → IsLimited n → Obeys n p → IsPointOfPq n (proportion_point n p) }
@@ -26,6 +27,7 @@ pub fn lifted_law()
 
 /// The flows of each point of a program are a plan that obeys. What the point costs is what its flows cost.
 pub fn flows_law()
+    // Promise: The flows of every point of P, of Q and of PQ are a plan that obeys
     ensures p { (n : Net) (q : QualityPoint) → IsLimited n → IsPointOfP n q → Obeys n (quality_flows q) }
     ensures q { (n : Net) (q : ProportionPoint) → IsLimited n → IsPointOfQ n q → Obeys n (proportion_flows q) }
     ensures pq { (n : Net) (q : ProportionPoint) → IsLimited n → IsPointOfPq n q → Obeys n (proportion_flows q) }
@@ -33,11 +35,13 @@ pub fn flows_law()
 
 /// The further rows of Pq hold at each point of Q.
 pub fn further_rows_law()
+    // Promise: What PQ adds to Q follows from Q
     ensures { (n : Net) (q : ProportionPoint) → IsLimited n → IsPointOfQ n q → IsPointOfPq n q }
 {}
 
 /// Plans with the same flows, over whatever denominators, obey alike and cost the same.
 pub fn same_flows_law()
+    // Promise: Plans with the same flows as fractions obey alike and cost the same
     ensures obeys { (n : Net) (a b : Plan) → IsLimited n → 0 < b.base → SameFlows n a b → Obeys n a → Obeys n b }
     ensures cost { (n : Net) (a b : Plan) → SameFlows n a b → SameCost n a b }
 {}
@@ -45,6 +49,7 @@ pub fn same_flows_law()
 /// The points of a program are what meets its rows and its products: the rows are those of the catalogue that are the same in
 /// every box, as the text of the program has them, and the numbers of a point are taken over both of its bases.
 pub fn rows_law()
+    // Promise: The points of a program are exactly what meets its rows as the catalogue has them, and its products
     ensures p { (n : Net) (q : QualityPoint) → IsPointOfP n q ↔ SolvesP n q }
     ensures q { (n : Net) (q : ProportionPoint) → IsPointOfQ n q ↔ SolvesQ n q }
     ensures pq { (n : Net) (q : ProportionPoint) → IsPointOfPq n q ↔ SolvesPq n q }

@@ -13,6 +13,7 @@ ghost use Rattle.program_model.specs.Plans.{IsPlanOfProportions, IsPlanOfQualiti
 /// The plan of a point has the point's flows and its cost, and obeys; where its bases are within the limits, it is well written.
 /// A point of Pq is one of Q.
 pub fn plan_law()
+    // Promise: The written plan of a point has its flows and its cost, and obeys
     ensures q_written { (n : Net) (q : ProportionPoint) (w : Written) → IsPointOfQ n q → IsPlanOfProportions n q w → q.prop_base ≤ 1048576 → w.flow_base ≤ 65536 → IsWritten n w }
     ensures q_flows { (n : Net) (q : ProportionPoint) (w : Written) → IsLimited n → IsPointOfQ n q → IsPlanOfProportions n q w → SameFlows n (plan_of n w) (proportion_flows q) }
     ensures q_cost { (n : Net) (q : ProportionPoint) (w : Written) → IsLimited n → IsPointOfQ n q → IsPlanOfProportions n q w → SameCost n (plan_of n w) (proportion_flows q) }
@@ -26,6 +27,7 @@ pub fn plan_law()
 
 /// Every written plan with a point's flows has multiples of the bases of the point's plan.
 pub fn least_law()
+    // Promise: No written plan with the flows of a point has smaller bases than the plan of the point
     ensures q_flow_base { (n : Net) (q : ProportionPoint) (w other : Written) → IsPlanOfProportions n q w → IsWritten n other → SameFlows n (plan_of n other) (proportion_flows q)
         → w.flow_base ∣ other.flow_base }
     ensures p_flow_base { (n : Net) (q : QualityPoint) (w other : Written) → IsPlanOfQualities n q w → IsWritten n other → SameFlows n (plan_of n other) (quality_flows q)

@@ -23,8 +23,11 @@ pub fn point_of(alloc: Global, net: &Network, plan: &WrittenPlan) -> Result<Qual
     requires written { IsWritten (net_of net.now) (shown_plan plan.now) }
     requires obeys { Obeys (net_of net.now) (plan_of (net_of net.now) (shown_plan plan.now)) }
     ensures lists { IfOk result (AreQualsOf (net_of net.now) (shown_plan plan.now)) }
+    // Promise: The point of a plan that obeys is a point of the program, with the plan's flows and its cost
     ensures point { IfOk result (IsHeldOfP (net_of net.now)) }
+    // Promise: The point of a plan that obeys is a point of the program, with the plan's flows and its cost
     ensures flows { IfOk result (λ q. SameFlows (net_of net.now) (quality_flows (shown_qual (net_of net.now) q)) (plan_of (net_of net.now) (shown_plan plan.now))) }
+    // Promise: The point of a plan that obeys is a point of the program, with the plan's flows and its cost
     ensures cost { IfOk result (λ q. SameCost (net_of net.now) (quality_flows (shown_qual (net_of net.now) q)) (plan_of (net_of net.now) (shown_plan plan.now))) }
 {
     let quals = pool_qualities(alloc, net, plan)?;

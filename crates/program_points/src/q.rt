@@ -21,8 +21,11 @@ pub fn point_of(alloc: Global, net: &Network, plan: &WrittenPlan) -> Result<Prop
     requires written { IsWritten (net_of net.now) (shown_plan plan.now) }
     requires obeys { Obeys (net_of net.now) (plan_of (net_of net.now) (shown_plan plan.now)) }
     ensures lists { IfOk result (ArePropsOf (net_of net.now) (shown_plan plan.now)) }
+    // Promise: The point of a plan that obeys is a point of the program, with the plan's flows and its cost
     ensures point { IfOk result (IsHeldOfQ (net_of net.now)) }
+    // Promise: The point of a plan that obeys is a point of the program, with the plan's flows and its cost
     ensures flows { IfOk result (λ q. SameFlows (net_of net.now) (proportion_flows (shown_prop q)) (plan_of (net_of net.now) (shown_plan plan.now))) }
+    // Promise: The point of a plan that obeys is a point of the program, with the plan's flows and its cost
     ensures cost { IfOk result (λ q. SameCost (net_of net.now) (proportion_flows (shown_prop q)) (plan_of (net_of net.now) (shown_plan plan.now))) }
     ensures limited { IsLimited (net_of net.now) }
 {

@@ -30,6 +30,7 @@ pub fn write_formulation<K: Sink>(
     form: Form,
     out: &mut K,
 ) -> Result<(), FormulationFault>
+    // Promise: The text of a program is the definition's, or a front of it where the sink fails
     ensures wrote { WroteOrNothing result (K.taken out.old) (program_text (net_of net.now) form) (K.taken out.new) }
     ensures failed { result ≡ Err FormulationFault.Write → Rose (K.faults out.old) (K.faults out.new) }
     ensures faults_grow { Grows (K.faults out.old) (K.faults out.new) }

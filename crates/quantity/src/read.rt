@@ -10,8 +10,11 @@ ghost use Rattle.pool_model.specs.Quantity.{number, decimals_of, unsigned_of, qu
 ///
 /// `None` exactly where the text stands for no number.
 pub fn quantity_of(text: &str) -> Option<i128>
+    // Promise: A text stands for a quantity exactly where it has the stated form, and for that number
     ensures stands { IfSome result (StandsFor text.now) }
+    // Promise: A text stands for a quantity exactly where it has the stated form, and for that number
     ensures only { (q : ℤ) → StandsFor text.now q → result ≡ Some q }
+    // Promise: A text stands for a quantity exactly where it has the stated form, and for that number
     ensures exact { result ≡ quantity text.now }
 {
     signed(text)

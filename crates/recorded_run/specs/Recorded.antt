@@ -29,6 +29,8 @@ pub record IsNetworksOwn (n : Net) (text : List ℕ) (list : List Entry) (file :
   pub in_order : AreInOrder n list
 
 -- The file is the network's own, and stands for a list between two: it begins with the first, and the last begins with it.
+-- Promise: Of two lists for which a crash may leave the network's own file one begins with the other: there is a last list that begins with
+--   both
 pub record IsBetween (n : Net) (text : List ℕ) (first last : List Entry) (file : List ℕ) : Type 0 where
   pub list : List Entry
   pub own : IsNetworksOwn n text list file
@@ -92,12 +94,14 @@ IsLeftAlone (Journal fault) Untouched = IsFree fault ⊎ Untouched
 IsLeftAlone (OutOfOrder k) Untouched = Unit {0}
 
 -- a read gives the network's own file, which stands for the list
+-- Promise: Where memory ran out, the file that reads at the end stands for the last list
 pub record StandsNow (n : Net) (text : List ℕ) (list : List Entry) (reads : Option (List ℕ)) : Type 0 where
   pub file : List ℕ
   pub read : reads ≡ Some file
   pub own : IsNetworksOwn n text list file
 
 -- at the end: a file is the only image, it is the network's own for the list, and the tree is made of that
+-- Promise: At the end every crash leaves the one file that stands for the last list, and what is answered is the tree of exactly that list
 pub record Ends (n : Net) (text : List ℕ) (list : List Entry) (s : Searched) (reads : Option (List ℕ)) (images : List ℕ → Type 0) : Type 0 where
   pub file : List ℕ
   pub on_disk : IsOnDisk file reads images

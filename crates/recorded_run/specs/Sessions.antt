@@ -40,6 +40,7 @@ pub record IsRecordedRun {D : Type 0} (n : Net) (moment : D → ℕ) (left_since
 pub record IsResumed (n : Net) (o : Orders) (text : List ℕ) (reads : Option (List ℕ)) (found : Searched) (ended : Ended) : Type 0 where
   pub first : List Entry
   pub in_order : AreInOrder n first
+  -- Promise: Where the disk tells: the entries that the run goes on from are those that the file stands for, all of them
   pub stands : (file : List ℕ) → reads ≡ Some file → Stands file text first
   pub run : IsRun n o (made_by first) found ended
   pub search : IsFound n o (made_by first) found ended

@@ -38,12 +38,18 @@ pub fn run_recorded<D: Disk>(
     requires text { length text.now ≤ 2 ^ 20 }
     requires asked { IsAsked (options_of orders) }
 
+    // Promise: Over every disk, real files too: the run goes on from the tree of entries that are in order on the network, each of its
+    //   steps is one that was due, its end holds of the tree that is answered, and all that is proved of a search holds of that tree
     ensures tree { IfOk result (λ r. IsOf (net_of net.now) r.tree) }
     // The run goes on from the tree of entries, which are those that the file stands for.
+    // Promise: Over every disk, real files too: the run goes on from the tree of entries that are in order on the network, each of its
+    //   steps is one that was due, its end holds of the tree that is answered, and all that is proved of a search holds of that tree
     ensures run { IfOk result (λ r. IsResumed (net_of net.now) orders text.now (D.reads disk.old) (searched_of r.tree.kept) r.ended) }
     // Of two lists, of which the last begins with the first: a crash at any moment leaves what it might have left before, or the
     // network's own file, for a list between the two. At the end the file stands for the last, also where memory ran out, and what is
     // answered is the tree of it.
+    // Promise: On the network's own file a crash at any moment leaves a file from before the run, or the network's own for a list between
+    //   the first and the last
     ensures any_moment { (file : List ℕ) (first : List entries.Entry) → D.reads disk.old ≡ Some file → IsNetworksOwn (net_of net.now) text.now first file →
         (last : List entries.Entry) × BeginsWith last first
         × LeavesOnly D.moment D.left_since disk.old disk.new (λ c. D.may_leave disk.old c ⊎ IsBetween (net_of net.now) text.now first last c)
@@ -52,12 +58,19 @@ pub fn run_recorded<D: Disk>(
         (λ fault. fault ≡ RunFault.Journal journal_faults.Memory → StandsNow (net_of net.now) text.now last (D.reads disk.new)) }
 
     // A refusal has its cause in the file, and a cause that is there is answered, unless disk or memory failed.
+    // Promise: A run with a journal is refused only for a cause in the file, and such a cause is always the answer, unless disk or memory
+    //   failed; a file has one cause at most
     ensures refused { IfErr result (λ f. (file : List ℕ) → D.reads disk.old ≡ Some file → IsFreeFault f ⊎ IsCause (net_of net.now) text.now file f) }
+    // Promise: A run with a journal is refused only for a cause in the file, and such a cause is always the answer, unless disk or memory
+    //   failed; a file has one cause at most
     ensures decided { (file : List ℕ) (cause : RunFault) → D.reads disk.old ≡ Some file → IsCause (net_of net.now) text.now file cause →
         IsErrAnd result (λ f. IsFreeFault f ⊎ (f ≡ cause)) }
     // The network's own file is never refused, and a file of which no journal is opened is left as it is.
+    // Promise: The network's own file is never refused
     ensures taken { (file : List ℕ) (first : List entries.Entry) → D.reads disk.old ≡ Some file → IsNetworksOwn (net_of net.now) text.now first file → IfErr result IsFreeFault }
+    // Promise: A file of which no journal is opened is left as it is, unless disk or memory failed
     ensures untouched { IfErr result (λ f. IsLeftAlone f (LeavesOnly D.moment D.left_since disk.old disk.new (D.may_leave disk.old))) }
+    // Promise: A fault of the disk is answered only where the disk's own count of faults rose
     ensures failed { IsErrOf result (RunFault.Journal journal_faults.Disk) → Rose (D.faults disk.old) (D.faults disk.new) }
     ensures same_disk { IsSameDisk D.faults D.tells D.admits disk.old disk.new }
 {

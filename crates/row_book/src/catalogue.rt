@@ -28,7 +28,9 @@ pub enum Group {
 
 /// How many rows there are.
 pub fn rows(net: &Network) -> u32
+    // Promise: A network has as many rows as its catalogue
     ensures count { result ≡ catalogue.rows (net_of net.now) }
+    // Promise: A network has 13,424 rows at most
     ensures few { result ≤ 13424 }
     ensures limited { IsLimited (net_of net.now) }
 {
@@ -60,6 +62,7 @@ fn place_of(net: &Network, id: u32) -> (Group, u32)
 
 /// Whether a form has the row of a number. It has none past the last row.
 pub fn in_form(net: &Network, form: Form, id: u32) -> bool
+    // Promise: A number is that of a row of a form exactly where the catalogue says so
     ensures { IsTrue result ↔ ((id < catalogue.rows (net_of net.now)) × IsTrue (takes form (group_of (net_of net.now) id))) }
 {
     id < rows(net) && has(form, place_of(net, id).0)
@@ -82,7 +85,9 @@ fn has(form: Form, group: Group) -> bool
 pub fn row_at(net: &Network, v: &BoxView, id: u32, row: &mut LinRow) -> RowKind
     requires view { IsView (net_of net.now) v.now }
     requires known { id < catalogue.rows (net_of net.now) }
+    // Promise: The row of a number is of its kind in the catalogue
     ensures kind { shown_kind result ≡ kind_at (net_of net.now) (shown_box v.now) id }
+    // Promise: The row of a number is the catalogue's, the network's own rows among them
     ensures written { IsRow (net_of net.now) (shown_box v.now) id row.new }
 {
     written(net, v, id, row)

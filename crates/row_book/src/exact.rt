@@ -21,7 +21,9 @@ pub struct RowRange {
 
 /// The rows of a group that are the same in every box: they come before its envelopes.
 pub fn exact_rows(net: &Network, group: Group) -> RowRange
+    // Promise: The rows of a group that are the same in every box, and so no envelopes, begin at this number, and are this many
     ensures first { result.first ≡ first_of (net_of net.now) group }
+    // Promise: The rows of a group that are the same in every box, and so no envelopes, begin at this number, and are this many
     ensures count { result.count ≡ exact_count (net_of net.now) group }
     ensures fits { result.first + result.count ≤ catalogue.rows (net_of net.now) }
     ensures small { result.first + result.count ≤ 13424 }

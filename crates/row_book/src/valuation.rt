@@ -29,11 +29,15 @@ pub fn value(
 ) -> Result<Shown, ProofFault>
     requires view { IsView (net_of net.now) v.now }
     requires fits { Fits (net_of net.now) scratch.old }
+    // Promise: A bound that multipliers are answered to show holds for every plan that obeys and lies in the box
     ensures bound { (z : ℤ) → result ≡ Ok (Shown.Bound z) → (p : Plan) → Obeys (net_of net.now) p → LiesIn (net_of net.now) p (shown_box v.now) → (z *ℤ pos p.base) ≤ℤ cost_of (net_of net.now) p }
+    // Promise: Where multipliers are answered to show no plan, none that obeys lies in the box
     ensures no_plan { result ≡ Ok Shown.NoPlan → (p : Plan) → Obeys (net_of net.now) p → ¬ LiesIn (net_of net.now) p (shown_box v.now) }
+    // Promise: Multipliers are taken only where they are in order in the box, and what is answered is what they show there
     ensures ok { IfOk result
         (λ s. multipliers.IsInOrder (net_of net.now) (shown_box v.now) (shown_proof proof.now)
         × (views.shown_value s ≡ multipliers.shown_by (net_of net.now) (shown_box v.now) (shown_proof proof.now))) }
+    // Promise: Of multipliers that are not in order in the box the first fault is answered; no sum leaves 128 bits, and no memory is taken
     ensures fault { IfErr result (IsFirstFault (net_of net.now) (shown_box v.now) (shown_proof proof.now)) }
     ensures fits { Fits (net_of net.now) scratch.new }
     ensures limited { IsLimited (net_of net.now) }

@@ -27,11 +27,13 @@ pub fn shares_law()
 /// The root box is proper, and every plan that obeys lies in it.
 pub fn root_law()
     ensures proper { (n : Net) → IsLimited n → IsProper n (root n) }
+    // Promise: Every plan that obeys lies in the root box
     ensures holds { (n : Net) (p : Plan) → IsLimited n → Obeys n p → LiesIn n p (root n) }
 {}
 
 /// A plan in a box lies in a half of it, wherever it is cut. Where the cut lies strictly inside, both halves are proper.
 pub fn halves_law()
+    // Promise: A plan in a box lies in one of its halves, wherever it is cut
     ensures covered { (n : Net) (p : Plan) (b : Box) (coord : ℕ) (cut : ℤ) → LiesIn n p b → LiesIn n p (left_of b coord cut) ⊎ LiesIn n p (right_of b coord cut) }
     ensures left_proper { (n : Net) (b : Box) (coord : ℕ) (cut : ℤ) → IsProper n b → b.low coord <ℤ cut → cut <ℤ b.high coord → IsProper n (left_of b coord cut) }
     ensures right_proper { (n : Net) (b : Box) (coord : ℕ) (cut : ℤ) → IsProper n b → b.low coord <ℤ cut → cut <ℤ b.high coord → IsProper n (right_of b coord cut) }
@@ -44,6 +46,7 @@ pub fn numbering_law()
 
 /// At the point of a plan that obeys and lies in a box, each variable lies between its ends.
 pub fn ends_law()
+    // Promise: At the point of a plan that obeys each variable lies between its ends
     ensures low { (n : Net) (b : Box) (p : Plan) (v : ℕ) → IsLimited n → Obeys n p → LiesIn n p b → v < variables n →
         (by_number n (lows n b) v *ℤ pos (lift_base n p)) ≤ℤ by_number n (lift n p) v }
     ensures high { (n : Net) (b : Box) (p : Plan) (v : ℕ) → IsLimited n → Obeys n p → LiesIn n p b → v < variables n →
@@ -65,6 +68,7 @@ pub fn multiplier_law()
 
 /// What a proof in order shows of a box is so: that no plan there costs less, or that no plan lies there, over any denominator.
 pub fn proof_law()
+    // Promise: What multipliers in order show of a box is so, for plans of any denominator
     ensures shown { (n : Net) (b : Box) (proof : Proof) → IsLimited n → IsInOrder n b proof → HoldsIn n b (shown_by n b proof) }
 {}
 

@@ -44,6 +44,7 @@ pub record RefusesUnder (files : Files) (name : List ℕ) (cause : ReadNet) : Ty
 
 -- The file of this name is refused for this reason, and no want of memory: where the shelf tells its files, it is the reason
 -- that the file has; where it doesn't, more bytes were taken than a network may have wherever the file is too long.
+-- Promise: Over a shelf that tells nothing a file is called too long (3 for NET, 5 for CERT) only where so many bytes were taken
 pub record IsRefusedAs (files : Option Files) (name : List ℕ) (before after : ℕ) (cause : ReadNet) : Type 0 where
   pub own : IsOwnCause cause
   pub told : (told : Files) → files ≡ Some told → RefusesUnder told name cause

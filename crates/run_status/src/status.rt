@@ -61,6 +61,7 @@ pub enum Status {
 impl Status {
     /// The code that the process ends with.
     pub fn code(&self) -> u8
+        // Promise: Each status has its code
         ensures { result ≡ code_of self.now }
     {
         match self {
@@ -90,6 +91,7 @@ impl Status {
 ///
 /// `WriteFault` comes only where the sink's count of faults rose; the sink has taken a front of the line then.
 pub fn write_message<K: Sink>(status: &Status, err: &mut K) -> Result<(), WriteFault>
+    // Promise: Each status has its line on standard error, or a front of it where that fails
     ensures wrote { Wrote result (K.taken err.old) (message_of status.now) (K.taken err.new) }
     ensures failed { OnErr result (Rose (K.faults err.old) (K.faults err.new)) }
 {

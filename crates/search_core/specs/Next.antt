@@ -52,6 +52,7 @@ pub record IsHalving (n : Net) (o : Options) (b : Box) (least : ℤ) (split : Sp
   pub right_given : IsGiven n o.form (right_of b split.coord split.cut) (bound least) right
 
 -- a split of the least leaf: the rule's pick on the leaf's view, with proofs above the leaf's bound
+-- Promise: What a split adds is what rounding gives for both halves, cut in the middle, above the leaf's bound
 pub record IsLeastSplit (n : Net) (o : Options) (s : Searched) (post : Bor View → ℕ → Type 0) (split : Split) (left right : Option Proof) : Type 0 where
   pub leaf : IsLeastLeaf n s.tree split.leaf
   pub view : View

@@ -42,8 +42,10 @@ impl Search {
     /// want of memory.
     pub fn next(&self, alloc: Global, net: &Network, rule: &CutRule) -> Result<Next, Memory>
         requires { IsSearchOf (net_of net.now) self.now }
+        // Promise: What comes next is the first case that applies, by the tree, the cheapest start and what is asked
         ensures next { IfOk result (IsNext (net_of net.now) self.now.options (searched self.now) self.now.repaired
             (⟦<branching::RuleClosure as Fn(&branching::LeafView) -> usize>⟧.post rule.now.closure)) }
+        // Promise: An entry that is answered is in order on the tree, so it is taken, or memory ran out
         ensures in_order { IfOk result (IsDo (λ entry. IsEntryInOrder (net_of net.now) (searched self.now) (shown_entry entry))) }
     {
         if let Some(plan) = self.better_start(net) {

@@ -81,6 +81,7 @@ impl Search {
     pub fn take(&mut self, net: &Network, entry: Entry) -> Result<(), EntryFault>
         requires { IsSearchOf (net_of net.now) self.old }
         ensures ok { IfOk result (λ _. searched self.new ≡ after (searched self.old) (shown_entry entry)) }
+        // Promise: An entry that is answered is in order on the tree, so it is taken, or memory ran out
         ensures in_order { IfOk result (λ _. IsEntryInOrder (net_of net.now) (searched self.old) (shown_entry entry)) }
         ensures fault { IfErr result (λ f. f ≢ EntryFault.Memory → IsFirstFault (net_of net.now) (searched self.old) (shown_entry entry) f) }
         ensures refused { IfErr result (λ f. f ≢ EntryFault.Memory → ¬ IsEntryInOrder (net_of net.now) (searched self.old) (shown_entry entry)) }

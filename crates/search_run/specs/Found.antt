@@ -33,15 +33,23 @@ pub record IsGrown (n : Net) (o : Orders) (begun found : Tree) : Type 0 where
   pub more : length begun.splits ≤ length found.splits
   pub begins : (t : ℕ) → t < length begun.splits → split_at found.splits t ≡ split_at begun.splits t
   pub kept : (node : ℕ) (p : Proof) → begun.proof node ≡ Some p → found.proof node ≡ Some p
+  -- Promise: The tree has no more cuts than `--nodes` asks for, or than the run began with
   pub few : length found.splits ≤ max o.nodes (length begun.splits)
+  -- Promise: Each proof that the run added names rows of the form alone
   pub named : (node : ℕ) (p : Proof) → found.proof node ≡ Some p → (begun.proof node ≡ Some p) ⊎ IsOfForm n o.form p
+  -- Promise: Each node that was added holds no plan, or its bound is at least what the price proof shows of its box; so does the root under
+  --   10 to 13, unless the run began with a tree that has a proof or a cut there
   pub priced : (node : ℕ) → nodes begun.splits ≤ node → node < nodes found.splits → IsPricedAt n found node
 
 -- The tree is in order and the plan obeys; no starting plan is better; the bound is at least the reach bound. Where the gap is not
 -- closed, and the root had neither a proof nor a cut, it holds no plan, or its bound is at least what the price proof shows.
 pub record IsFound (n : Net) (o : Orders) (begun found : Searched) (ended : Ended) : Type 0 where
   pub searched : IsSearched n found
+  -- Promise: No starting plan that obeys is cheaper than the printed plan; where none is printed none of them obeys
   pub starts : CoversStarts n found.best
+  -- Promise: The printed bound is at least the reach bound
   pub reached : ForSome (tree_bound n found.tree) (λ z. reach_bound n ≤ℤ z)
   pub grown : IsGrown n o begun.tree found.tree
+  -- Promise: Each node that was added holds no plan, or its bound is at least what the price proof shows of its box; so does the root under
+  --   10 to 13, unless the run began with a tree that has a proof or a cut there
   pub rooted : IsRootOpen begun → ended ≢ Closed → IsPricedAt n found.tree 0

@@ -60,10 +60,21 @@ pub record IsHalf (n : Net) (form : Form) (b : Box) (bound : Option ℤ) (proof 
 
 -- A cut of the least leaf, while there are fewer splits than were asked for: at the coordinate of the rule, in the middle.
 pub record IsCut (n : Net) (o : Orders) (s : Searched) (split : Split) (left right : Option Proof) : Type 0 where
+  -- Promise: Each cut is of the leaf of the least bound, of lowest number at a tie, while there are fewer cuts than asked for; at a
+  --   coordinate of the form whose ends are at least 2 apart; in the middle, rounded down
   pub few : length s.tree.splits < o.nodes
+  -- Promise: Each cut is of the leaf of the least bound, of lowest number at a tie, while there are fewer cuts than asked for; at a
+  --   coordinate of the form whose ends are at least 2 apart; in the middle, rounded down
   pub leaf : IsLeastLeaf n s.tree split.leaf
+  -- Promise: Each cut is of the leaf of the least bound, of lowest number at a tie, while there are fewer cuts than asked for; at a
+  --   coordinate of the form whose ends are at least 2 apart; in the middle, rounded down
   pub cuttable : IsCuttable n o.form (box_of n s.tree.splits split.leaf) split.coord
+  -- Promise: Under `--rule first` a cut is at the lowest coordinate whose ends are at least 2 apart, under `--rule widest` the widest by
+  --   its width in the root box, under `--rule fewest` one with the fewest splits on it in the tree of the splits before it, the lowest at
+  --   a tie; under `--rule violated` nothing is said
   pub chosen : IsChosen n o.form o.rule s.tree.splits (box_of n s.tree.splits split.leaf) split.coord
+  -- Promise: Each cut is of the leaf of the least bound, of lowest number at a tie, while there are fewer cuts than asked for; at a
+  --   coordinate of the form whose ends are at least 2 apart; in the middle, rounded down
   pub middle : split.cut ≡ middle_at (box_of n s.tree.splits split.leaf) split.coord
   pub left_half : IsHalf n o.form (left_of (box_of n s.tree.splits split.leaf) split.coord split.cut) (tree_bound n s.tree) left
   pub right_half : IsHalf n o.form (right_of (box_of n s.tree.splits split.leaf) split.coord split.cut) (tree_bound n s.tree) right

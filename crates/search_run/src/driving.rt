@@ -35,7 +35,9 @@ pub fn run_search(
     requires asked { IsAsked (options_of orders) }
     requires tree { IsOf (net_of net.now) tree }
     ensures tree { IfOk result (λ r. IsOf (net_of net.now) r.tree) }
+    // Promise: A search ends: its steps, one due after another, lead to an end that holds of the tree
     ensures run { IfOk result (λ r. IsRun (net_of net.now) orders (searched_of tree.kept) (searched_of r.tree.kept) r.ended) }
+    // Promise: A search ends: its steps, one due after another, lead to an end that holds of the tree
     ensures found { IfOk result (λ r. IsFound (net_of net.now) orders (searched_of tree.kept) (searched_of r.tree.kept) r.ended) }
 {
     let mut search = Search::start(alloc, net, orders.options(), tree)?;

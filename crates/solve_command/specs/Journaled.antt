@@ -73,9 +73,13 @@ pub record Holds (n : Net) (text : List ℕ) (list : List Entry) (reads : Option
 -- What is printed of the tree that was found: its certificate. The search went on from the tree that it began with: the splits and
 -- proofs there stand, and bound and plan are no worse.
 pub record IsPrintOf (n : Net) (o : Orders) (begun found : Searched) (status : Status) (Prints : Cert → Type 0) : Type 0 where
+  -- Promise: What is printed on the network's own file is the certificate of the tree that the last list makes
   pub prints : Prints (cert_of n found)
   pub solution : IsSolutionFrom n o begun status (cert_of n found)
+  -- Promise: The splits and proofs of the tree that the run began with stand in the printed certificate
   pub grown : IsGrown n o begun.tree found.tree
+  -- Promise: The bound of the printed certificate is no lower than that of the tree that the run began with, and its plan no dearer; it
+  --   gives a plan where that tree had one, and says that no plan obeys where that tree had no bound
   pub no_worse : IsNoWorse n begun found (cert_of n found)
 
 -- A run on a file that is the network's own and stands for the first list. A crash at any moment leaves what it might have left before,
@@ -86,9 +90,15 @@ pub record IsRunOn (n : Net) (text : List ℕ) (o : Orders) (first : List Entry)
     (status : Status) (Prints : Cert → Type 0) : Type 0 where
   pub last : List Entry
   pub begins : BeginsWith last first
+  -- Promise: On the network's own file a crash at any moment leaves a file that a crash might have left before, or the network's own, for a
+  --   list of entries that begins with those that were found
   pub any_moment : Leaves (λ c. before c ⊎ IsBetween n text first last c)
+  -- Promise: Where a certificate was printed, or the sink failed, the network's own file stands for the last list, and every crash leaves
+  --   that file
   pub held : IsPrinted status → Holds n text last reads images
+  -- Promise: Where memory ran out, the file that reads at the end stands for the last list too
   pub stands : status ≡ statuses.OutOfMemory → StandsNow n text last reads
+  -- Promise: What is printed on the network's own file is the certificate of the tree that the last list makes
   pub printed : IsEnded status → IsPrintOf n o (made_by first) (made_by last) status Prints
 
 -- A run that read a file, which was one of the images of before. A refusal has its cause in the file, and a cause that is there is
@@ -97,10 +107,17 @@ pub record IsAttached (n : Net) (text : List ℕ) (o : Orders) (Leaves : (List �
     (status : Status) (Prints : Cert → Type 0) : Type 0 where
   pub file : List ℕ
   pub image : before file
+  -- Promise: 30, 31, 32 and 33 come only where the file that was attached is their cause
   pub caused : IsRefused status → IsCauseOf n text file status
+  -- Promise: Where the file that was attached is the cause of 30, 31, 32 or 33, that status comes, or disk or memory failed
   pub decided : (cause : Status) → IsCauseOf n text file cause → (status ≡ cause) ⊎ IsFailed status
+  -- Promise: 30, 31, 32 and 33 never come where the file stands for entries in order
   pub taken : (list : List Entry) → Stands file text list → AreInOrder n list → ¬ IsRefused status
+  -- Promise: Under 30, 32 and 33 the file is left as it is
   pub untouched : IsForeign status → Leaves before
+  -- Promise: With `--journal`, over a disk that tells, the entries that the run began with are those that the network's own file stood for
+  -- Promise: On the network's own file a crash at any moment leaves a file that a crash might have left before, or the network's own, for a
+  --   list of entries that begins with those that were found
   pub own : (first : List Entry) → IsNetworksOwn n text first file → IsRunOn n text o first Leaves before reads images status Prints
 
 -- a run that read a network, and a file as its journal, for what is within the budget
@@ -113,5 +130,6 @@ pub record AttachedUnder (files : Option Files) (s : Solving) (Leaves : (List �
 
 -- A run whose words name a journal: it came to no file, and no image is new; or it read one. `Leaves` says what a crash at any moment
 -- leaves, `before` what a crash might have left before, `reads` what the file reads at the end, and `images` what a crash leaves then.
+-- Promise: A run that came to no journal, for whatever reason, leaves what a crash might have left before
 abbrev pub Journaled : Option Files → Solving → ((List ℕ → Type 0) → Type 0) → (List ℕ → Type 0) → Option (List ℕ) → (List ℕ → Type 0) → Status → (Cert → Type 0) → Type 0
 Journaled files s Leaves before reads images status Prints = (IsUnopened status × Leaves before) ⊎ AttachedUnder files s Leaves before reads images status Prints

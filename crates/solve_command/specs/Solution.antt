@@ -48,13 +48,25 @@ pub record IsHeld (n : Net) (o : Orders) (found : Searched) (status : Status) : 
 pub record IsSolutionFrom (n : Net) (o : Orders) (begun : Searched) (status : Status) (c : Cert) : Type 0 where
   pub found : Searched
   pub ended : Ended
+  -- Promise: The certificate that `solve` prints is that of a tree and of the cheapest plan found: the bound is the tree's, and the gap is
+  --   the difference
   pub is : c ≡ cert_of n found
+  -- Promise: The certificate that `solve` prints is valid for the network of the file NET: its shape is the network's, its plan keeps every
+  --   capacity, demand and quality rule exactly, its cost is the plan's, its bound is its tree's and its gap is the exact difference
   pub valid : IsValid n c
+  -- Promise: No plan that obeys, of any denominator, costs less than the bound of the certificate that `solve` prints, and its gap is not
+  --   negative; where it is of the kind `none`, no plan obeys
   pub follows : Follows n c.claim
+  -- Promise: A run found the tree and the plan of that certificate: entries one after another, each the step that was due after those
+  --   before it, and an end that holds of the tree that they make
   pub run : IsRun n o begun found ended
   pub search : IsFound n o begun found ended
   pub told : status ≡ status_of ended
+  -- Promise: 0 stands exactly where a plan is printed and the gap is at most the asked one; 10 where it is above and there are at least
+  --   `--nodes` cuts; 11 where it is above and there are fewer; 12 where the kind is `none`; 13 where it is `bound`
   pub ends : status ≡ end_of o c
+  -- Promise: Under 11 the leaf of the least bound can't be cut at any coordinate of the form; under 13 it can't, or there are at least
+  --   `--nodes` cuts
   pub held : IsHeld n o found status
 
 -- the same of a search that began with the root alone

@@ -61,8 +61,11 @@ pub record SolvesAs (files : Option Files) (s : Solving) (status : Status) (text
   pub certificate : Cert
   pub reads : ReadsUnder files s.net network
   pub within : IsWithinBudget (net_of network) s.nodes
+  -- Promise: The run of `solve` began with the tree of entries that are in order one after another; without `--journal` with the root alone
   pub first : List Entry
+  -- Promise: The run of `solve` began with the tree of entries that are in order one after another; without `--journal` with the root alone
   pub in_order : AreInOrder (net_of network) first
+  -- Promise: The run of `solve` began with the tree of entries that are in order one after another; without `--journal` with the root alone
   pub alone : s.journal ≡ None → first ≡ []
   pub solution : IsSolutionFrom (net_of network) (orders_of s) (made_by first) status certificate
   pub spelled : Spells text certificate
@@ -104,6 +107,11 @@ pub record JournalUnder (files : Option Files) (s : Solving) : Type 0 where
 
 -- Each status comes only where its line holds of what is asked; no other comes. The counts are of the bytes taken. Of the file of
 -- the journal more is said in `specs/Journaled.antt`.
+-- Promise: Each other status comes only where it says so of the files: 3 where no network is read from NET, with its first cause; 4 where
+--   `--nodes` is above 20,000, or twice `--nodes` and one, times the rows of the network, is above 32,000,000; 0, 10 and 11 of `solve`
+--   where a network is read and it is not so, 12 where no plan obeys it, 13 where no starting plan does; 0 of `check` where CERT is the
+--   text of a valid certificate, and 1 where it is not; 5 where CERT has more than 1,073,741,824 bytes; 30 to 33 of `solve` where a network
+--   is read, what is asked is within the budget and a journal is named
 abbrev pub SolveEnds : Option Files → Solving → (before after : ℕ) → Status → Type 0
 SolveEnds files s before after statuses.Closed = WithinUnder files s
 SolveEnds files s before after statuses.Stopped = WithinUnder files s
@@ -168,7 +176,14 @@ EndsWith end status = (status ≡ end) ⊎ (status ≡ statuses.WriteFault)
 
 -- which status comes, by what the told files say, where the run isn't cut short
 pub record SolveDecided (told : Files) (s : Solving) (status : Status) : Type 0 where
+  -- Promise: Where no network is read from NET, the status is 3, or shelf or memory failed
   pub no_network : ReadsNone told s.net → IsNetworkRefused status ⊎ IsCutShort status
+  -- Promise: Where a network is read, `solve` within the budget prints a certificate, over it ends with 4, and `formulate` prints a
+  --   program, or shelf, sink or memory failed, or `solve` ended at the journal that the words name
   pub over_budget : OverUnder (Some told) s → (status ≡ statuses.BudgetTooLarge) ⊎ IsCutShort status
+  -- Promise: Where a network is read, `solve` within the budget prints a certificate, over it ends with 4, and `formulate` prints a
+  --   program, or shelf, sink or memory failed, or `solve` ended at the journal that the words name
   pub within_budget : WithinUnder (Some told) s → IsPrinted status ⊎ IsHeldUp s.journal status
+  -- Promise: Where a starting plan obeys and what is asked is within the budget, `solve` prints a plan, or shelf, sink or memory failed, or
+  --   `solve` ended at the journal that the words name
   pub some_start : StartUnder (Some told) s → IsPlanned status ⊎ IsHeldUp s.journal status

@@ -19,8 +19,10 @@ impl SplitTree {
     pub fn judge(&self, net: &Network, split: &Split) -> Result<Span, SplitFault>
         requires { IsOf (net_of net.now) self.now }
         ensures span { IfOk result (CutsBetween (net_of net.now) self.now.list (shown_split split.now)) }
+        // Promise: A split is refused for its first fault, and else cuts a leaf strictly inside its box
         ensures cuts { IfOk result (λ _. MayCome (net_of net.now) self.now.list (shown_split split.now)) }
         ensures few { IfOk result (λ _. length self.now.list < trees.most_splits) }
+        // Promise: A split is refused for its first fault, and else cuts a leaf strictly inside its box
         ensures fault { IfErr result (IsFirstFault (net_of net.now) self.now.list (shown_split split.now)) }
     {
         if !self.is_leaf(split.leaf) {

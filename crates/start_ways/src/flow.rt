@@ -11,6 +11,8 @@ use blend_network::Network;
 /// breaks a limit of the product.
 pub fn path_flow(net: &Network, path: u32) -> u64
     requires { path < length (paths_of (net_of net.now)) }
+    // Promise: What a way carries alone is the least of the maxima along it, and nothing where a quality of the source breaks a limit of
+    //   the product
     ensures flow { result ≡ path_flow_of (net_of net.now) (path_at (net_of net.now) path).feed (path_at (net_of net.now) path).out }
     ensures size { result ≤ 10 ^ 12 }
 {
@@ -29,6 +31,8 @@ pub fn path_flow(net: &Network, path: u32) -> u64
 /// source breaks a limit of the product.
 pub fn direct_flow(net: &Network, direct: u32) -> u64
     requires { direct < (net_of net.now).directs }
+    // Promise: What a way carries alone is the least of the maxima along it, and nothing where a quality of the source breaks a limit of
+    //   the product
     ensures flow { result ≡ direct_flow_of (net_of net.now) direct }
     ensures size { result ≤ 10 ^ 12 }
 {

@@ -31,6 +31,7 @@ impl TextBuffer {
 
     /// The bytes that it took.
     pub fn text(&self) -> &[u8]
+        // Promise: A buffer holds what was written to it; a piece that does not fit is a fault, and none of it is taken
         ensures { result.now ≡ bytes_of self.now }
     {
         self.bytes.as_slice()

@@ -26,6 +26,7 @@ pub fn rounded_up(num: i128, den: u128) -> i128
 
 /// The laws of the two roundings, for the proofs of the crates above. There is no code here.
 pub fn rounding_law()
+    // Promise: Rounding down gives the greatest whole number that is not above the fraction, rounding up the least that is not below
     ensures not_above { (num : ℤ) (den : ℕ) → 0 < den → (down num den *ℤ pos den) ≤ℤ num }
     ensures greatest { (num : ℤ) (den : ℕ) → 0 < den → num <ℤ ((down num den +ℤ pos 1) *ℤ pos den) }
     ensures not_below { (num : ℤ) (den : ℕ) → 0 < den → num ≤ℤ (up num den *ℤ pos den) }

@@ -25,8 +25,12 @@ use std::alloc::{AllocError, Global};
 /// The certificate of a tree and its cheapest plan: it is valid for the network, and it has a text.
 pub fn certificate_of(alloc: Global, net: &Network, tree: Tree) -> Result<Certificate, Memory>
     requires { IsOf (net_of net.now) tree }
+    // Promise: The certificate of a tree is the definition's: its splits, its proofs in order, and what the cheapest plan and the bound
+    //   show together
     ensures found { IfOk result (λ c. shown_cert c ≡ cert_of (net_of net.now) (searched_of tree.kept)) }
+    // Promise: The certificate of a tree is valid, and has a text
     ensures valid { IfOk result (λ c. IsValid (net_of net.now) (shown_cert c)) }
+    // Promise: The certificate of a tree is valid, and has a text
     ensures held { IfOk result (λ c. IsCert (shown_cert c)) }
     ensures limited { IsLimited (net_of net.now) }
 {

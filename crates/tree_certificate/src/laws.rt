@@ -7,5 +7,6 @@ ghost use Rattle.tree_certificate.specs.Certificates.{cert_of};
 
 /// The certificate of what was found is valid, wherever the tree is in order and the plan obeys.
 pub fn found_law()
+    // Promise: The certificate of a tree is valid, and has a text
     ensures { (n : Net) (s : Searched) → IsLimited n → IsSearched n s → IsValid n (cert_of n s) }
 {}

@@ -26,6 +26,7 @@ pub struct Trial {
 ///
 /// `WriteFault` comes only where the sink's count of faults rose; the sink has taken a front of the lines then.
 pub fn write_trial<K: Sink>(net: &Network, trial: &Trial, out: &mut K) -> Result<(), WriteFault>
+    // Promise: The four lines of a trial are those of the definition, with the network's own counts
     ensures wrote { Wrote result (K.taken out.old) (trial_text (net_of net.now) trial.now) (K.taken out.new) }
     ensures failed { OnErr result (Rose (K.faults out.old) (K.faults out.new)) }
     ensures faults_grow { Grows (K.faults out.old) (K.faults out.new) }

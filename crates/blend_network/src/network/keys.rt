@@ -16,8 +16,10 @@ impl Network {
     /// The numbers of the arcs or paths that have this node by the key, rising.
     pub fn numbers_at(&self, key: Key, node: u32) -> &[u32]
         requires { node < nodes_of (net_of self.now) key }
+        // Promise: What meets a node is exactly that, in rising order, and at most 512
         ensures numbers { result.now ≡ numbers_at (key_of (net_of self.now) key) node (count_of (net_of self.now) key) }
         ensures known { All (λ i. i < count_of (net_of self.now) key) result.now }
+        // Promise: What meets a node is exactly that, in rising order, and at most 512
         ensures few { length result.now ≤ 512 }
     {
         self.index[key.number()].of(node)
@@ -34,6 +36,7 @@ impl Network {
     /// The limit of a number among those of the side that are set: they go by product, and then by quality.
     pub fn limit_at(&self, side: LimitSide, n: u32) -> Limit
         requires { n < length (side_limits (net_of self.now) side) }
+        // Promise: The limits that are set are exactly those, by product and then by quality
         ensures limit { shown_limit result ≡ get_or (side_limits (net_of self.now) side) n no_limit }
         ensures product { result.product < (net_of self.now).products }
         ensures quality { result.quality < (net_of self.now).qualities }

@@ -14,6 +14,7 @@ impl Network {
     /// No plan costs less than this, in picos: each product full, at its best margin over the sources that reach it. A
     /// product that no source reaches earns nothing.
     pub fn reach_bound(&self) -> i128
+        // Promise: The reach bound is the definition's
         ensures bound { result ≡ reach_bound (net_of self.now) }
         ensures size { unsigned_abs result ≤ 128 * 10 ^ 24 }
     {

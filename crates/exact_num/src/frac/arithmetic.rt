@@ -16,8 +16,10 @@ impl Frac {
     /// The sum in lowest terms. With `g` the greatest common divisor of the denominators `b` and `d`, the sum of `a / b` and
     /// `c / d` is Wide exactly where `a * (d / g)`, `c * (b / g)`, `b * (d / g)` or the sum of the first two leaves the range.
     pub fn add(self, other: Frac) -> Result<Frac, FracFault>
+        // Promise: Each operation on fractions is exact, in lowest terms
         ensures sum { IfOk result (λ f. IsSame (shown_frac f) (sum_of (shown_frac self) (shown_frac other))) }
         ensures short { OnOk result (IsShortSum (shown_frac self) (shown_frac other)) }
+        // Promise: An operation on fractions is refused exactly where its documentation says
         ensures wide { IfErr result (λ fault. (fault ≡ FracFault.Wide) × ¬ IsShortSum (shown_frac self) (shown_frac other)) }
     {
         let common = gcd(self.den, other.den);
@@ -33,8 +35,10 @@ impl Frac {
     /// The difference in lowest terms. It is Wide exactly where the sum with the negative of `other` is: where one of the three
     /// products, which have the same sizes, or the difference of the first two leaves the range.
     pub fn sub(self, other: Frac) -> Result<Frac, FracFault>
+        // Promise: Each operation on fractions is exact, in lowest terms
         ensures difference { IfOk result (λ f. IsSame (shown_frac f) (difference_of (shown_frac self) (shown_frac other))) }
         ensures short { OnOk result (IsShortSum (shown_frac self) (negative_of (shown_frac other))) }
+        // Promise: An operation on fractions is refused exactly where its documentation says
         ensures wide { IfErr result (λ fault. (fault ≡ FracFault.Wide) × ¬ IsShortSum (shown_frac self) (negative_of (shown_frac other))) }
     {
         self.add(other.negated())
@@ -43,7 +47,9 @@ impl Frac {
     /// The product in lowest terms. Each is freed first of what divides the other's denominator, so a product that fits in
     /// lowest terms is never refused: Wide exactly where it leaves the range in lowest terms.
     pub fn mul(self, other: Frac) -> Result<Frac, FracFault>
+        // Promise: Each operation on fractions is exact, in lowest terms
         ensures product { IfOk result (λ f. IsSame (shown_frac f) (product_of (shown_frac self) (shown_frac other))) }
+        // Promise: An operation on fractions is refused exactly where its documentation says
         ensures wide { IfErr result (λ fault. (fault ≡ FracFault.Wide) × LeavesRange (product_of (shown_frac self) (shown_frac other))) }
     {
         let negative = is_product_negative(self.num, other.num);
@@ -58,8 +64,11 @@ impl Frac {
     /// The quotient in lowest terms. It is ZeroDivisor exactly where `other` is 0, and Wide exactly where the quotient in
     /// lowest terms leaves the range.
     pub fn div(self, other: Frac) -> Result<Frac, FracFault>
+        // Promise: Each operation on fractions is exact, in lowest terms
         ensures quotient { IfOk result (λ f. IsSame (shown_frac f) (quotient_of (shown_frac self) (shown_frac other))) }
+        // Promise: An operation on fractions is refused exactly where its documentation says
         ensures zero_divisor { IsErrOf result FracFault.ZeroDivisor ↔ ((shown_frac other).num ≡ pos 0) }
+        // Promise: An operation on fractions is refused exactly where its documentation says
         ensures wide { IsErrOf result FracFault.Wide → LeavesRange (quotient_of (shown_frac self) (shown_frac other)) }
     {
         if other.num == 0 {

@@ -15,8 +15,11 @@ impl Frac {
     /// `num / den` in lowest terms, for a `den` of either sign. It is ZeroDivisor exactly where `den` is 0, and Wide exactly
     /// where a number in lowest terms leaves the range.
     pub fn new(num: i128, den: i128) -> Result<Frac, FracFault>
+        // Promise: Each operation on fractions is exact, in lowest terms
         ensures same { IfOk result (λ f. IsSame (shown_frac f) (ratio_of num den)) }
+        // Promise: An operation on fractions is refused exactly where its documentation says
         ensures zero_divisor { IsErrOf result FracFault.ZeroDivisor ↔ (den ≡ pos 0) }
+        // Promise: An operation on fractions is refused exactly where its documentation says
         ensures wide { IsErrOf result FracFault.Wide → LeavesRange (ratio_of num den) }
     {
         if den == 0 {
