@@ -29,8 +29,10 @@ fn a_certificate_is_told_or_refused(rt: HostRuntime) -> Result<(), Fail> {
 /// What `report` tells of what `solve` prints.
 fn report_on(alloc: Global, network: &str) -> Result<String, AllocError> {
     let told = answer(alloc, "solve net --nodes 2", [network, ""])?;
-    let (_, certificate) = told.as_str().split_once(' ').unwrap_or(("", ""));
-    answer(alloc, "report net cert", [network, certificate])
+    match told.as_str().split_once(' ') {
+        Some((_, certificate)) => answer(alloc, "report net cert", [network, certificate]),
+        None => Ok(told),
+    }
 }
 
 #[test]
