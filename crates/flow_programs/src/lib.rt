@@ -4,7 +4,7 @@
 //! and the directs. [`flow_program`] puts it together from an [`Outline`], the network's numbers as plain lists, and a
 //! [`Blend`], what the pools mix; [`SmallProgram::lp`] is what advice is asked on. [`flows_of`] reads the flows off the point
 //! of an advice, [`rounded`] brings proportions to their base, and [`Flows::mend`] lowers flows that were rounded until they
-//! keep each limit again. [`step_program`] moves proportions and flows together, and [`stepped`] reads off where its point
+//! keep each limit again. [`step_program`] moves proportions and flows together, and [`step_end`] reads off where its point
 //! leads; [`vertex_of`] has the flows of an advice exactly.
 //!
 //! Nobody has to trust any of it: whoever makes a plan of these flows has it checked. So every call is safe and returns for
@@ -31,5 +31,5 @@ pub use mending::Flows;
 pub use outline::{Arc, Arcs, GRAIN, Limit, Meetings, Nodes, Outline, Product, Qualities, Source};
 pub use program::SmallProgram;
 pub use rounding::rounded;
-pub use steps::{Place, Reach, Stepped, step_program, stepped};
+pub use steps::{Place, Reach, Stepped, step_end, step_program};
 pub use vertex::{Vertex, vertex_of};

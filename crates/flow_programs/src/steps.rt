@@ -37,7 +37,7 @@ pub struct Stepped {
 }
 
 /// Where a step leads, by a point of its program.
-pub fn stepped(
+pub fn step_end(
     alloc: Global,
     outline: &Outline,
     place: Place<'_>,

@@ -12,7 +12,7 @@ use crate::solving::solve;
 use blend_network::Network;
 use flow_programs::{
     Blend, Flows, GRAIN, Layout, Outline, Place, Reach, Stepped, Vertex, flow_program, flows_of,
-    rounded, step_program, stepped, vertex_of,
+    rounded, step_end, step_program, vertex_of,
 };
 use lp_sparse::lookup::{at, put};
 use plan_core::{Cost, WrittenPlan, check_plan, compare_cost};
@@ -222,7 +222,7 @@ impl<'a> Search<'a> {
             None => Ok(None),
             Some(advice) => {
                 let point = advice.point.as_slice();
-                let stepped = stepped(alloc, self.outline, place, &program, point)?;
+                let stepped = step_end(alloc, self.outline, place, &program, point)?;
                 Ok(Some(stepped))
             }
         }
