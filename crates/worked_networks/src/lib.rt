@@ -1,7 +1,8 @@
-//! Worked networks, for the tests of the crates above.
+//! Worked networks, for the tests of the crates above; and network files and texts from outside, on which reading, writing and making
+//! networks are tried.
 //!
-//! Each is the text of a network file; [`network`] reads it. The layer above may use all of it in tests, and nothing of it
-//! elsewhere.
+//! Each network is the text of a network file; [`network`] reads it. The layer above may use all of it in tests, and nothing of it
+//! elsewhere. The tests compare with texts that other programs wrote, and show that the calls succeed while there is memory.
 #![tactic(auto)]
 
 ghost use Rattle.std.specs.Prelude.{IfOk, IfErr};
@@ -17,6 +18,8 @@ mod rows;
 mod small;
 #[cfg(test)]
 mod tests;
+#[cfg(test)]
+mod texts;
 
 pub use literature::{ADHYA_1, ADHYA_4, BEN_TAL_4, FOULDS_2, HAVERLY_1, HAVERLY_2, HAVERLY_3};
 pub use small::{

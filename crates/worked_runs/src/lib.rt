@@ -3,7 +3,7 @@
 //!
 //! What a run answers is proved in `pool_cli`, over every shelf, sink and disk. These tests show that a run gets there: how near the plan
 //! and the bound come, what is printed, and that each odd file is refused for the reason that a reader would give. The runs that they are
-//! made with serve `worked_faults` too.
+//! made with serve `worked_faults` too. `words` has each command with each option, and each form of words that asks nothing.
 #![tactic(auto)]
 
 mod runs;
@@ -20,3 +20,5 @@ mod journals;
 mod reports;
 #[cfg(test)]
 mod searches;
+#[cfg(test)]
+mod words;

@@ -1,12 +1,14 @@
+//! Files and texts from outside: what is read of them, and what is written and made.
+
+use crate::{
+    CANONICAL_ONE_DIRECT, FAR_APART, HAVERLY_1, ONE_DIRECT, TWO_POOLS, TWO_PRODUCTS, WASTEWATER,
+};
 use edge_io::Memory;
 use network_json::{Place, ReadNet, Section, read_network};
 use network_maker::make_network;
 use network_text::write_canonical;
 use std::alloc::{AllocError, Global};
 use std::test::Fail;
-use worked_networks::{
-    CANONICAL_ONE_DIRECT, FAR_APART, HAVERLY_1, ONE_DIRECT, TWO_POOLS, TWO_PRODUCTS, WASTEWATER,
-};
 
 /// The canonical text of the network that a text is a file of, and how many paths it has.
 fn rewritten(alloc: Global, text: &[u8]) -> Result<(Vec<u8>, u32), Fail> {
