@@ -23,23 +23,8 @@ pub(crate) fn shelf_of(
     Ok(shelf)
 }
 
-/// Puts the items that a reader gives behind a text, a line each, and returns the fault that ends them.
-fn read_on(
-    alloc: Global,
-    reader: &mut CertReader,
-    shelf: &mut MemShelf,
-    items: &mut String,
-) -> Result<Option<ItemFault>, AllocError> {
-    while !reader.has_ended() {
-        match reader.next_item(shelf) {
-            Ok(item) => items.push_str(&format!(in alloc; "{item:?}\n")?)?,
-            Err(fault) => return Ok(Some(fault)),
-        }
-    }
-    Ok(None)
-}
-
-/// The same of a text that comes in pieces of so many bytes and may have so many.
+/// Puts the items of a text behind another one, a line each, and returns the fault that ends them. The text comes in pieces of so many
+/// bytes, and may have so many.
 fn read_pieces(
     alloc: Global,
     text: &[u8],
@@ -51,7 +36,13 @@ fn read_pieces(
     let mut reader = CertReader::start(alloc, most.min(1_000_000))
         .ok()
         .ok_or("no memory")?;
-    Ok(read_on(alloc, &mut reader, &mut shelf, items)?)
+    while !reader.has_ended() {
+        match reader.next_item(&mut shelf) {
+            Ok(item) => items.push_str(&format!(in alloc; "{item:?}\n")?)?,
+            Err(fault) => return Ok(Some(fault)),
+        }
+    }
+    Ok(None)
 }
 
 /// The items of `TREE`.

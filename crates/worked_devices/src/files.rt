@@ -1,6 +1,6 @@
 //! Files of the system: read whole, by pieces, and where there are none; a disk's file.
 
-use super::shelves::answers;
+use super::shelves::rest_of;
 use disk_model::{Disk, DiskFailed, FileDisk, MAX_LENGTH};
 use edge_io::{FileShelf, Shelf, read_once};
 use std::test::Fail;
@@ -37,9 +37,8 @@ fn a_file_is_read_by_pieces(rt: HostRuntime) -> Result<(), Fail> {
     let mut shelf = FileShelf::new(&rt);
     let opened = shelf.open_read(alloc, path.as_str()).is_ok();
     fs::remove_file(&rt, path.as_str())?;
-    let told = answers(alloc, &mut shelf, "+2 +2 +2 +2 +2")?;
-    let expected = "Ok(2) on\nOk(2) e \nOk(2) tw\nOk(1) o.\nOk(0) ..\n";
-    assert_eq!(rt; (opened, told.as_str()), (true, expected));
+    let rest = rest_of(alloc, &mut shelf, 2)?;
+    assert_eq!(rt; (opened, rest.as_slice()), (true, b"one two".as_slice()));
     Ok(())
 }
 
