@@ -3,7 +3,8 @@
 
 A promise is one sentence in a comment right above the clause that carries it: `// Promise: ..` above a clause of a function or, where
 it has none, above the function; `-- Promise: ..` above a definition or a field of it. Its further lines are indented by two more. A
-sentence that several clauses carry stands above each of them. Of these docs/promises/LAYER.md is made, a table for each crate, with the call or the definition and the clause or the
+sentence that several clauses carry stands above each of them; above a function that is not public it speaks to a reader of the code
+alone. Of these docs/promises/LAYER.md is made, a table for each crate, with the call or the definition and the clause or the
 field. Looks that these pages are as they are to be; with --write it writes them. Its last line is `N faults`.
 """
 
@@ -20,6 +21,7 @@ PAGES = TOP / "docs" / "promises"
 PROMISE = re.compile(r"\s*(?://|--) Promise: (.+)")
 FURTHER = re.compile(r"\s*(?://|--)   (\S.*)")
 COMMENT = re.compile(r"\s*(?://|--)")
+PUBLIC = re.compile(r"\s*pub (?:const )?fn ")
 BLOCK = re.compile(r"(?:pub(?:\([^)]*\))? )?(?:impl|trait)\b.*")
 FUNCTION = re.compile(r"\s*(?:pub(?:\([^)]*\))? )?(?:const )?fn (\w+)")
 CLAUSE = re.compile(r"\s*(ensures|requires)\*? (?:(\w+) )?\{")
@@ -47,6 +49,7 @@ def promises_in(path):
     """The promises of a file in their order, and where a promise stands above nothing that could carry it."""
     file = path.relative_to(TOP)
     owner = carrier = None
+    is_of_trait = is_public = False
     waiting = []
     for number, line in enumerate(path.read_text().splitlines(), 1):
         told, further = PROMISE.fullmatch(line), FURTHER.fullmatch(line)
@@ -60,20 +63,23 @@ def promises_in(path):
             continue
         if BLOCK.fullmatch(line):
             owner = owner_of(line)
+            is_of_trait = bool(re.search(r"\btrait\b|\bfor\b", line))
         elif line.startswith("}"):
             owner = None
         function, clause = FUNCTION.match(line), CLAUSE.match(line)
         definition, field = DEFINITION.match(line), FIELD.match(line)
         if function:
             carrier = f"{owner}::{function[1]}" if owner else function[1]
+            is_public = bool(PUBLIC.match(line)) or bool(owner) and is_of_trait
         elif definition:
             carrier = definition[1]
+            is_public = True
         if waiting and not (function or clause or definition or field):
             yield None, f"{file}:{number}: a promise stands above no clause"
             waiting = []
         name = field[1] if field else clause[2] or "" if clause else ""
         condition = bool(clause) and clause[1] == "requires"
-        for sentence in waiting:
+        for sentence in waiting if is_public else []:
             yield Promise(sentence, carrier, f"{name} (a condition)" if condition else name, file), None
         waiting = []
 
