@@ -10,7 +10,7 @@ ghost use Rattle.cert_checker.specs.Answers.{Spells, IsAccepted, IsRefused, IsTa
 use crate::stream::check_stream;
 use crate::verdict::Verdict;
 use blend_network::Network;
-use edge_io::SliceShelf;
+use shelf_calls::SliceShelf;
 use proof_lines::{Refusal, StreamRefusal};
 use std::alloc::Global;
 

@@ -13,7 +13,7 @@ ghost use Rattle.proof_lines.specs.Runs.{moment, IsReady};
 
 use blend_network::Network;
 use cert_stream::CertReader;
-use edge_io::Shelf;
+use shelf_calls::Shelf;
 use plan_core::{Cost, WrittenPlan, check_plan};
 use proof_lines::steps::{base_pair, direct, outflow, weight};
 use proof_lines::{Refusal, StreamRefusal};

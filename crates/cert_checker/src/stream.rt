@@ -19,7 +19,7 @@ use crate::verdict::Verdict;
 use crate::walk::walk;
 use blend_network::Network;
 use cert_stream::CertReader;
-use edge_io::Shelf;
+use shelf_calls::Shelf;
 use proof_lines::{Refusal, StreamRefusal};
 use std::alloc::Global;
 

@@ -4,7 +4,7 @@ use Rattle.std.specs.Prelude.{Bool}
 use Rattle.std.specs.Option.{is_some}
 use Rattle.std.proofs.lemmas.List.{append-nil}
 use Rattle.edge_io.specs.Counts.{Grows, RoseBy}
-use Rattle.edge_io.specs.Opened.{ahead, IsUsedUp}
+use Rattle.shelf_calls.specs.Opened.{ahead, IsUsedUp}
 use Rattle.edge_io.proofs.Counting.{grows-same, grows-then, rose-behind}
 use Rattle.cert_text.specs.declared.fault.TextFault.{TextFault}
 use Rattle.cert_text.specs.Reading.{At}

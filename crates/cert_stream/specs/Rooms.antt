@@ -1,6 +1,6 @@
 -- Bytes that lie in a room of fixed length.
 use Rattle.std.specs.Prelude.{◌≡◌, ℕ, ◌≤◌, List, ◌++◌, length, Option}
-use Rattle.edge_io.specs.Opened.{ahead, IsUsedUp}
+use Rattle.shelf_calls.specs.Opened.{ahead, IsUsedUp}
 
 -- how many bytes there is room for
 abbrev pub room : ℕ

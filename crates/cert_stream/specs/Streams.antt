@@ -1,7 +1,7 @@
 -- A reader of a certificate that comes in pieces: what its calls take of the file, and what they read of it.
 use Rattle.std.specs.Prelude.{◌≡◌, ◌≢◌, ℕ, ◌+◌, ◌-◌, ◌^◌, ◌<◌, ◌≤◌, ◌⊎◌, Bool, false, IsTrue, List, [], ◌∷◌, ◌++◌, length, Option, Ok, Err}
 use Rattle.std.specs.Option.{ForSome}
-use Rattle.edge_io.specs.Opened.{ahead, IsUsedUp}
+use Rattle.shelf_calls.specs.Opened.{ahead, IsUsedUp}
 use Rattle.edge_io.specs.Counts.{Rose}
 use Rattle.cert_text.specs.declared.fault.TextFault.{TextFault}
 use Rattle.cert_text.specs.Lines.{IsFaultyLine}

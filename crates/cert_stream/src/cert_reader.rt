@@ -3,7 +3,7 @@
 ghost use Rattle.std.specs.Prelude.{◌≡◌, ◌≢◌, ◌-◌, ◌<◌, ◌≤◌, ◌^◌, ◌⊎◌, [], length, Ok, Err, true, false, IsTrue, IfOk, IfErr, OnOk, OnErr, List, ℕ};
 ghost use Rattle.std.specs.Option.{is_some};
 ghost use Rattle.edge_io.specs.Counts.{Grows, Rose, RoseBy};
-ghost use Rattle.edge_io.specs.Opened.{IsUsedUp};
+ghost use Rattle.shelf_calls.specs.Opened.{IsUsedUp};
 ghost use Rattle.cert_text.specs.declared.fault.TextFault.{TextFault as AFault};
 ghost use Rattle.cert_stream.specs.declared.fault.ItemFault.TheVariants as faults;
 ghost use Rattle.cert_items.specs.declared.items.State.TheVariants as states;
@@ -14,7 +14,8 @@ use crate::fault::ItemFault;
 use crate::held::Held;
 use cert_items::{Item, State, read_item};
 use cert_text::{SliceSource, Source, Stop, TextFault};
-use edge_io::{Memory, Shelf};
+use edge_io::Memory;
+use shelf_calls::Shelf;
 use std::alloc::Global;
 use std::marker::Model;
 

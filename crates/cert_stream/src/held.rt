@@ -3,10 +3,10 @@
 ghost use Rattle.std.specs.Prelude.{◌≡◌, ◌-◌, ◌<◌, ◌≤◌, List, ℕ, [], length, drop, IfOk, OnErr};
 ghost use Rattle.std.specs.Option.{is_some};
 ghost use Rattle.edge_io.specs.Counts.{Grows, Rose, RoseBy};
-ghost use Rattle.edge_io.specs.Opened.{IsUsedUp};
+ghost use Rattle.shelf_calls.specs.Opened.{IsUsedUp};
 ghost use Rattle.cert_stream.specs.Rooms.{IsHandedOut};
 
-use edge_io::{ReadFailed, Shelf};
+use shelf_calls::{ReadFailed, Shelf};
 use std::alloc::{AllocError, Global};
 use std::marker::Model;
 

@@ -2,7 +2,7 @@
 
 ghost use Rattle.std.specs.Prelude.{◌≡◌, ◌≢◌, ◌-◌, ◌++◌, [], ◌∷◌, length, ℕ, List, Option, Some, IsTrue};
 ghost use Rattle.edge_io.specs.Counts.{RoseBy};
-ghost use Rattle.edge_io.specs.Opened.{IsUsedUp};
+ghost use Rattle.shelf_calls.specs.Opened.{IsUsedUp};
 ghost use Rattle.cert_text.specs.declared.fault.TextFault.{TextFault};
 ghost use Rattle.cert_format.specs.Cert.{Cert, IsCert};
 ghost use Rattle.cert_format.specs.Text.{text_of};

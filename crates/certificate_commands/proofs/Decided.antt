@@ -1,6 +1,6 @@
 -- What the told files decide of `check`, and so of `report`.
 use Rattle.std.proofs.Common.{◌≡◌, ℕ, inl, inr, List, length, Option, Some, refl, ap, subst, arith}
-use Rattle.edge_io.specs.Files.{file_of}
+use Rattle.shelf_calls.specs.Files.{file_of}
 use Rattle.pool_model.specs.Network.{Network, net_of}
 use Rattle.cert_format.specs.Cert.{Cert}
 use Rattle.cert_format.specs.Valid.{IsValid}

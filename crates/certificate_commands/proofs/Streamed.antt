@@ -1,8 +1,8 @@
 -- What the check of an opened file says of the file under its name.
 use Rattle.std.proofs.Common.{◌≡◌, ◌≢◌, ℕ, ◌<◌, inl, inr, List, length, Option, None, Some, Result, Ok, Err, refl, sym, ap, subst, ◌∙◌, arith}
 use Rattle.edge_io.specs.Counts.{Grows}
-use Rattle.edge_io.specs.Files.{IsTooLong}
-use Rattle.edge_io.specs.Opened.{IsOpened}
+use Rattle.shelf_calls.specs.Files.{IsTooLong}
+use Rattle.shelf_calls.specs.Opened.{IsOpened}
 use Rattle.pool_model.specs.Network.{Net, Network, net_of}
 use Rattle.cert_format.specs.Cert.{Cert}
 use Rattle.cert_format.specs.Valid.{IsValid}

@@ -1,6 +1,6 @@
 -- How `check` ends.
 use Rattle.std.specs.Prelude.{◌≡◌, ◌≢◌, ◌⊎◌, ℕ, ◌≤◌, List, length, Option, Some}
-use Rattle.edge_io.specs.Files.{HasFile, IsTooLong}
+use Rattle.shelf_calls.specs.Files.{HasFile, IsTooLong}
 use Rattle.pool_model.specs.Network.{Network, Net, net_of}
 use Rattle.pool_model.specs.Claim.{Follows}
 use Rattle.cert_format.specs.Cert.{Cert}

@@ -1,7 +1,7 @@
 -- How `report` ends: as `check` does, with the report in place of the line of an accepted certificate.
 use Rattle.std.specs.Prelude.{◌≡◌, ℕ, List, Option}
-use Rattle.edge_io.specs.declared.fault.ShelfFault.{ShelfFault}
-use Rattle.edge_io.specs.declared.fault.ShelfFault.TheVariants as faults
+use Rattle.shelf_calls.specs.declared.fault.ShelfFault.{ShelfFault}
+use Rattle.shelf_calls.specs.declared.fault.ShelfFault.TheVariants as faults
 use Rattle.pool_model.specs.Network.{Network, Net, net_of}
 use Rattle.pool_model.specs.Claim.{Follows}
 use Rattle.cert_format.specs.Cert.{Cert}

@@ -1,3 +1,3 @@
 pub mod Counting
 pub mod Writes
-mod Told
+pub mod Told

@@ -2,7 +2,8 @@
 #![tactic(auto)]
 
 use disk_model::FileDisk;
-use edge_io::{FileShelf, StdSink};
+use edge_io::StdSink;
+use shelf_calls::FileShelf;
 use pool_cli::{Status, run, write_message};
 use std::io::ErrorKind;
 use std::process::ExitCode;

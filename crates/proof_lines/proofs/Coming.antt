@@ -3,7 +3,7 @@ use Rattle.std.proofs.Common.{◌≡◌, ◌≢◌, ℕ, ◌-◌, Bool, true, fa
 use Rattle.std.specs.Prelude.{codes}
 use Rattle.std.specs.Prelude.{IfOk, OnOk}
 use Rattle.edge_io.specs.Counts.{Rose, RoseBy}
-use Rattle.edge_io.specs.Opened.{IsUsedUp}
+use Rattle.shelf_calls.specs.Opened.{IsUsedUp}
 use Rattle.cert_text.specs.declared.pieces.Ends.TheVariants.{Space, Line, LineIfZero}
 use Rattle.cert_text.specs.Reading.{At, ◌>>=◌, word_at, same_at, end_of, ends_before, u32_at, u64_at, i128_at}
 use Rattle.cert_text.proofs.Laws.{done, ok_is, bind_ok}

@@ -1,6 +1,6 @@
 -- Runs of a reader over a shelf, put together.
 use Rattle.std.proofs.Common.{IsTrue, List, [], ◌++◌, inl, refl, ◌∙◌, arith}
-use Rattle.edge_io.specs.Opened.{IsUsedUp}
+use Rattle.shelf_calls.specs.Opened.{IsUsedUp}
 use Rattle.edge_io.proofs.Counting.{grows-same, grows-then, rose-behind}
 use Rattle.cert_text.specs.declared.fault.TextFault.{TextFault}
 use Rattle.cert_stream.specs.declared.fault.ItemFault.{ItemFault}

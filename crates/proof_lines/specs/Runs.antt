@@ -2,7 +2,7 @@
 use Rattle.std.specs.Prelude.{◌≡◌, ◌≢◌, ℕ, ◌-◌, Bool, IsTrue, List, Option}
 use Rattle.std.specs.Option.{is_some}
 use Rattle.edge_io.specs.Counts.{Grows, Rose, RoseBy}
-use Rattle.edge_io.specs.Opened.{IsUsedUp}
+use Rattle.shelf_calls.specs.Opened.{IsUsedUp}
 use Rattle.cert_stream.specs.declared.fault.ItemFault.{ItemFault}
 use Rattle.cert_stream.specs.declared.fault.ItemFault.TheVariants as faults
 use Rattle.cert_items.specs.declared.items.State.{State}

@@ -1,7 +1,7 @@
 //! The items of a certificate, each where the text goes on with one of its kind.
 
 ghost use Rattle.std.specs.Prelude.{◌≡◌, ◌≢◌, ◌⊎◌, ℕ, IsTrue};
-ghost use Rattle.edge_io.specs.Opened.{IsUsedUp};
+ghost use Rattle.shelf_calls.specs.Opened.{IsUsedUp};
 ghost use Rattle.cert_format.specs.declared.reading.Kind.{Kind as AKind};
 ghost use Rattle.cert_items.specs.declared.items.State.TheVariants as states;
 ghost use Rattle.cert_stream.specs.Items as items;
@@ -10,7 +10,7 @@ ghost use Rattle.proof_lines.specs.Runs.{moment};
 
 use box_space::{Part, Split};
 use cert_stream::{CertReader, Item, ItemFault};
-use edge_io::Shelf;
+use shelf_calls::Shelf;
 
 /// The head of a proof's line.
 #[derive(Clone, Copy)]

@@ -16,7 +16,7 @@ use crate::stream_refusal::StreamRefusal;
 use blend_network::Network;
 use bounds::lesser_bound;
 use cert_stream::CertReader;
-use edge_io::Shelf;
+use shelf_calls::Shelf;
 use split_tree::SplitTree;
 use std::alloc::Global;
 

@@ -1,7 +1,7 @@
 -- What a file says of the network that is read from it, and of why none is.
 use Rattle.std.proofs.Common.{◌≡◌, ◌≢◌, ℕ, ◌<◌, List, length, Bool, true, Option, Some, Result, Ok, Err, cond, nat_lt, refl, sym, ap, subst, ◌∙◌, arith}
 use Rattle.std.proofs.lemmas.Bool.Decides.{nat_tests}
-use Rattle.edge_io.specs.Files.{file_of, IsTooLong}
+use Rattle.shelf_calls.specs.Files.{file_of, IsTooLong}
 use Rattle.pool_model.specs.Rows.{Rows}
 use Rattle.pool_model.specs.Naming.{network_of}
 use Rattle.pool_model.specs.Network.{Network}

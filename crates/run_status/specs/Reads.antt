@@ -1,6 +1,6 @@
 -- What is read from the file of a network, and why nothing is.
 use Rattle.std.specs.Prelude.{◌≡◌, ◌≢◌, ℕ, List, Option, Some}
-use Rattle.edge_io.specs.Files.{file_of, HasFile, IsTooLong}
+use Rattle.shelf_calls.specs.Files.{file_of, HasFile, IsTooLong}
 use Rattle.pool_model.specs.Network.{Network}
 use Rattle.network_parts.specs.declared.fault.NetFault.TheVariants as faults
 use Rattle.json_walk.specs.declared.fault.ReadNet.{ReadNet}

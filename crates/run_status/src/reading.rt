@@ -8,7 +8,7 @@ ghost use Rattle.run_status.specs.Unreads.{IsCauseOf, IsUnread};
 
 use crate::status::Status;
 use blend_network::{NetFault, Network};
-use edge_io::{Shelf, ShelfFault};
+use shelf_calls::{Shelf, ShelfFault};
 use network_json::{MAX_TEXT, ReadNet, read_network};
 use std::alloc::Global;
 

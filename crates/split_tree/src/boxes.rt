@@ -20,7 +20,7 @@ impl SplitTree {
     pub fn box_of(&self, net: &Network, node: u32) -> Result<BoxEnds, Memory>
         requires tree { IsOf (net_of net.now) self.now }
         requires there { node < trees.nodes self.now.list }
-        // Promise: The bounds of nodes, the least leaf and the box of a node are the definitions'
+        // Promise: The box of a node is that which the cuts above it leave of the root box
         ensures { IfOk result (AreEndsOf (net_of net.now) (trees.box_of (net_of net.now) self.now.list node)) }
     {
         let mut ends = root_box(self.alloc, net)?;

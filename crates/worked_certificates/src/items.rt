@@ -4,7 +4,7 @@ use super::{FULL, NO_PLAN, TREE};
 use cert_format::{ReadCert, read_cert};
 use cert_stream::{CertReader, ItemFault};
 use cert_text::TextFault;
-use edge_io::{MemShelf, Shelf};
+use shelf_calls::{MemShelf, Shelf};
 use std::alloc::{AllocError, Global};
 use std::test::Fail;
 

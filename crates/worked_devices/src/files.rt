@@ -2,7 +2,7 @@
 
 use super::shelves::rest_of;
 use disk_model::{Disk, DiskFailed, FileDisk, MAX_LENGTH};
-use edge_io::{FileShelf, Shelf, read_once};
+use shelf_calls::{FileShelf, Shelf, read_once};
 use std::test::Fail;
 use std::{fs, io, process};
 

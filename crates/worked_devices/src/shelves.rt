@@ -1,6 +1,6 @@
 //! Shelves in memory: whole files, pieces of an opened file, and calls that fail.
 
-use edge_io::{MemShelf, Shelf, SliceShelf};
+use shelf_calls::{MemShelf, Shelf, SliceShelf};
 use std::alloc::{AllocError, Global};
 use std::test::Fail;
 

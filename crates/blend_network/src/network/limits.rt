@@ -18,7 +18,6 @@ pub(super) struct Limits {
 
 impl Limits {
     pub(super) fn of(&self, side: LimitSide) -> &[Limit]
-        // Promise: The numbers of each key are exactly those that have it, in rising order
         ensures { result.now ≡ kept_limits self.now side }
     {
         match side {

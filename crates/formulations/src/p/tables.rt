@@ -13,7 +13,6 @@ use box_space::{Block, Factor, Rate, RowKind, RowTable, Terms};
 
 /// How many of the rows are the same in every box: those before the envelopes.
 pub fn exact_rows(net: &Network) -> u32
-    // Promise: The rows of a group that are the same in every box, and so no envelopes, begin at this number, and are this many
     ensures count { result ≡ (net_of net.now).pools * (net_of net.now).qualities + (length (most_limits (net_of net.now)) + length (least_limits (net_of net.now))) }
     ensures small { result ≤ 1152 }
 {

@@ -16,7 +16,6 @@ const GRAIN: i128 = 1_048_576;
 
 /// How many of the rows are the same in every box: those before the envelopes.
 pub fn exact_rows(net: &Network) -> u32
-    // Promise: The rows of a group that are the same in every box, and so no envelopes, begin at this number, and are this many
     ensures count { result ≡ (net_of net.now).pools + ((net_of net.now).feeds + (length (most_limits (net_of net.now)) + length (least_limits (net_of net.now)))) }
     ensures small { result ≤ 1296 }
 {

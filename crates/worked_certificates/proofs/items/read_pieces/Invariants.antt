@@ -1,6 +1,6 @@
 use Rattle.std.proofs.Common.{◌+◌, Some, IsTrue, length}
-use Rattle.edge_io.specs.MemShelves.{rest_of}
-use Rattle.edge_io.specs.Opened.{IsUsedUp}
+use Rattle.shelf_calls.specs.MemShelves.{rest_of}
+use Rattle.shelf_calls.specs.Opened.{IsUsedUp}
 use Rattle.worked_certificates.proofs.items.read_pieces.Given as goal
 
 abbrev pub invariant-loop-alloc : goal.invariant-loop-alloc

@@ -3,8 +3,8 @@
 ghost use Rattle.std.specs.Prelude.{◌≡◌, ◌+◌, ◌-◌, ◌^◌, ◌<◌, ◌≤◌, ◌⊎◌, ◌↔◌, [], ◌++◌, Some, None, true, min, length, take, vec_len, Contains, IsTrue, IsErr, IfOk, OnOk, OnErr};
 ghost use Rattle.std.specs.Option.{option_copied};
 ghost use Rattle.edge_io.specs.Counts.{Grows, Rose};
-ghost use Rattle.edge_io.specs.Files.{file_of, HasMore};
-ghost use Rattle.edge_io.specs.MemFiles.{files_of};
+ghost use Rattle.shelf_calls.specs.Files.{file_of, HasMore};
+ghost use Rattle.shelf_calls.specs.MemFiles.{files_of};
 
 use crate::fault::{OpenFault, ReadFailed, ShelfFault};
 use crate::opened::Opened;
@@ -25,7 +25,7 @@ pub struct MemShelf {
 }
 
 impl MemShelf {
-    ghost use Rattle.edge_io.specs.MemShelves.{contents_of, failing_of, rest_of, piece_of, calls_of, taken_of, faults_of};
+    ghost use Rattle.shelf_calls.specs.MemShelves.{contents_of, failing_of, rest_of, piece_of, calls_of, taken_of, faults_of};
 
     /// Over these files, names with bytes; of two files of one name the first counts. The calls of the numbers in
     /// `failing`, from 0, fail; another fails only where the shelf has no file of the name.
@@ -85,8 +85,8 @@ impl MemShelf {
 }
 
 impl Shelf for MemShelf {
-    ghost use Rattle.edge_io.specs.MemShelves.{contents_of, failing_of, rest_of, piece_of, calls_of, taken_of, faults_of};
-    ghost use Rattle.edge_io.specs.Opened.{IsAllOf, IsUsedUp};
+    ghost use Rattle.shelf_calls.specs.MemShelves.{contents_of, failing_of, rest_of, piece_of, calls_of, taken_of, faults_of};
+    ghost use Rattle.shelf_calls.specs.Opened.{IsAllOf, IsUsedUp};
 
     ghost files = { λ s. Some (contents_of s) };
 

@@ -1,5 +1,5 @@
 use Rattle.std.specs.Io.KnownBytes.{Keeps}
-use Rattle.edge_io.proofs.file_shelf.read_once.Given as goal
+use Rattle.shelf_calls.proofs.file_shelf.read_once.Given as goal
 
 -- reads that were broken off took nothing
 abbrev pub invariant-loop : goal.invariant-loop

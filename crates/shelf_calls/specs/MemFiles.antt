@@ -1,7 +1,7 @@
 -- Files in memory, without where they lie.
 use Rattle.std.specs.Prelude.{ℕ, List, drop, map, string_bytes, String, Vec}
 use Rattle.std.specs.declared.alloc.Global.{Global}
-use Rattle.edge_io.specs.declared.opened.Opened.{Opened}
+use Rattle.shelf_calls.specs.declared.opened.Opened.{Opened}
 
 -- names with bytes
 abbrev pub files_of : List (String Global × Vec ℕ Global) → List (List ℕ × List ℕ)

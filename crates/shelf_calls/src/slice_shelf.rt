@@ -2,9 +2,9 @@
 
 ghost use Rattle.std.specs.Prelude.{◌≡◌, ◌+◌, ◌-◌, ◌^◌, ◌≤◌, [], ◌∷◌, ◌++◌, Some, Err, length, vec_len, take, min, bytes_eq, IfOk, OnOk, OnErr, IsOk, IsTrue};
 ghost use Rattle.edge_io.specs.Counts.{Grows, Rose};
-ghost use Rattle.edge_io.specs.Files.{HasFile, IsTooLong, file_of, HasMore};
-ghost use Rattle.edge_io.specs.Opened.{IsAllOf};
-ghost use Rattle.edge_io.specs.SliceShelves.{bytes_of, rest_of, taken_of};
+ghost use Rattle.shelf_calls.specs.Files.{HasFile, IsTooLong, file_of, HasMore};
+ghost use Rattle.shelf_calls.specs.Opened.{IsAllOf};
+ghost use Rattle.shelf_calls.specs.SliceShelves.{bytes_of, rest_of, taken_of};
 
 use crate::fault::{OpenFault, ReadFailed, ShelfFault};
 use crate::opened::copy_front;

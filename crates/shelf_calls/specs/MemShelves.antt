@@ -1,8 +1,8 @@
 -- What a shelf in memory holds, and what it was told to do.
 use Rattle.std.specs.Prelude.{ℕ, List, [], Option, None, Some}
-use Rattle.edge_io.specs.MemFiles.{files_of, rest_in}
-use Rattle.edge_io.specs.declared.opened.Opened.{Opened}
-use Rattle.edge_io.specs.declared.mem_shelf.MemShelf.{MemShelf}
+use Rattle.shelf_calls.specs.MemFiles.{files_of, rest_in}
+use Rattle.shelf_calls.specs.declared.opened.Opened.{Opened}
+use Rattle.shelf_calls.specs.declared.mem_shelf.MemShelf.{MemShelf}
 
 -- its files, names with bytes
 abbrev pub contents_of : MemShelf → List (List ℕ × List ℕ)

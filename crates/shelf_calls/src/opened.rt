@@ -13,7 +13,7 @@ pub(crate) struct Opened {
 }
 
 impl Opened {
-    ghost use Rattle.edge_io.specs.MemFiles.{rest_in};
+    ghost use Rattle.shelf_calls.specs.MemFiles.{rest_in};
 
     /// A file of which nothing is left.
     pub(crate) fn none(alloc: Global) -> Opened

@@ -3,8 +3,8 @@
 ghost use Rattle.std.specs.Prelude.{◌≡◌, ◌≤◌, ◌⊎◌, ℕ, Bool, List, Option, IsTrue, IfOk, OnOk, OnErr, length, take, vec_len};
 ghost use Rattle.std.specs.Option.{is_some};
 ghost use Rattle.edge_io.specs.Counts.{Grows, Rose, RoseBy};
-ghost use Rattle.edge_io.specs.Files.{HasFile, IsTooLong};
-ghost use Rattle.edge_io.specs.Opened.{IsOpened, IsUsedUp, ahead};
+ghost use Rattle.shelf_calls.specs.Files.{HasFile, IsTooLong};
+ghost use Rattle.shelf_calls.specs.Opened.{IsOpened, IsUsedUp, ahead};
 
 use crate::fault::{OpenFault, ReadFailed, ShelfFault};
 use std::alloc::Global;

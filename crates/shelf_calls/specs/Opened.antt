@@ -1,7 +1,7 @@
 -- The rest of a file that was opened: what of it is not handed out yet.
 use Rattle.std.specs.Prelude.{◌≡◌, ℕ, List, [], ◌++◌, Option, None, Some, option_map}
 use Rattle.std.specs.Option.{ForSome}
-use Rattle.edge_io.specs.Files.{file_of}
+use Rattle.shelf_calls.specs.Files.{file_of}
 
 -- the rest is all of the file of that name
 pub record IsAllOf (files : List (List ℕ × List ℕ)) (name : List ℕ) (rest : Option (List ℕ)) : Type 0 where

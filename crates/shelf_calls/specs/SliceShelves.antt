@@ -1,6 +1,6 @@
 -- What a shelf of one file holds.
 use Rattle.std.specs.Prelude.{ℕ, List}
-use Rattle.edge_io.specs.declared.slice_shelf.SliceShelf.{SliceShelf}
+use Rattle.shelf_calls.specs.declared.slice_shelf.SliceShelf.{SliceShelf}
 
 -- the bytes of its file
 abbrev pub bytes_of : SliceShelf → List ℕ

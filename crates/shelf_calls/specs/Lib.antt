@@ -1,0 +1,5 @@
+pub mod Files
+pub mod Opened
+pub mod MemFiles
+pub mod MemShelves
+pub mod SliceShelves
