@@ -10,8 +10,8 @@ ghost use Rattle.cert_checker.specs.Answers.{Spells, IsAccepted, IsRefused, IsTa
 use crate::stream::check_stream;
 use crate::verdict::Verdict;
 use blend_network::Network;
-use shelf_calls::SliceShelf;
 use proof_lines::{Refusal, StreamRefusal};
+use shelf_calls::SliceShelf;
 use std::alloc::Global;
 
 /// What the certificate of this text says of the network, or the first cause to refuse it.

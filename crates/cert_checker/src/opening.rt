@@ -13,10 +13,10 @@ ghost use Rattle.proof_lines.specs.Runs.{moment, IsReady};
 
 use blend_network::Network;
 use cert_stream::CertReader;
-use shelf_calls::Shelf;
 use plan_core::{Cost, WrittenPlan, check_plan};
 use proof_lines::steps::{base_pair, direct, outflow, weight};
 use proof_lines::{Refusal, StreamRefusal};
+use shelf_calls::Shelf;
 use std::alloc::Global;
 
 /// What is claimed, before its numbers are read: the plan and what it costs, where a gap is claimed.

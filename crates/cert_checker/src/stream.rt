@@ -19,8 +19,8 @@ use crate::verdict::Verdict;
 use crate::walk::walk;
 use blend_network::Network;
 use cert_stream::CertReader;
-use shelf_calls::Shelf;
 use proof_lines::{Refusal, StreamRefusal};
+use shelf_calls::Shelf;
 use std::alloc::Global;
 
 /// What the certificate in the opened file says of the network, or the first cause to refuse it.

@@ -14,10 +14,10 @@ use crate::opening::{Opening, read_opening};
 use blend_network::Network;
 use cert_format::Claim;
 use cert_stream::{CertReader, ItemFault};
-use shelf_calls::Shelf;
 use plan_core::Cost;
 use proof_lines::steps::{bound_number, cost_pair, cut, end, gap_number, kind, shape, splits};
 use proof_lines::{Refusal, StreamRefusal, tree_bound};
+use shelf_calls::Shelf;
 use split_tree::SplitTree;
 use std::alloc::Global;
 

@@ -11,8 +11,8 @@ ghost use Rattle.run_status.specs.Took.{Took};
 use blend_network::Network;
 use cert_checker::{Refusal, StreamRefusal, check_stream};
 use edge_io::Sink;
-use shelf_calls::{OpenFault, Shelf};
 use run_status::{Status, Unread, network_under};
+use shelf_calls::{OpenFault, Shelf};
 use std::alloc::Global;
 use verdict_text::{write_refused, write_verdict};
 

@@ -16,8 +16,8 @@ use blend_network::Network;
 use cert_checker::Refusal;
 use cert_format::read_cert;
 use edge_io::Sink;
-use shelf_calls::{Shelf, ShelfFault};
 use run_status::{Status, Unread, network_under};
+use shelf_calls::{Shelf, ShelfFault};
 use std::alloc::Global;
 use verdict_text::write_refused;
 

@@ -3,8 +3,8 @@
 
 use disk_model::FileDisk;
 use edge_io::StdSink;
-use shelf_calls::FileShelf;
 use pool_cli::{Status, run, write_message};
+use shelf_calls::FileShelf;
 use std::io::ErrorKind;
 use std::process::ExitCode;
 use std::rt::{Env, Files};

@@ -22,8 +22,8 @@ use certificate_commands::{check, report};
 use cli_words::{Request, WordsFault, read_words};
 use disk_model::Disk;
 use edge_io::Sink;
-use shelf_calls::Shelf;
 use run_status::Status;
+use shelf_calls::Shelf;
 use solve_command::solve;
 use std::alloc::Global;
 

@@ -25,8 +25,8 @@ use blend_network::Network;
 use bounds::value_in;
 use box_space::{BoxEnds, Part, Proof, root_box};
 use cert_stream::{CertReader, ItemFault};
-use shelf_calls::Shelf;
 use row_book::{ProofFault, Shown, rows};
+use shelf_calls::Shelf;
 use split_tree::SplitTree;
 use std::alloc::Global;
 

@@ -8,8 +8,8 @@ ghost use Rattle.run_status.specs.Unreads.{IsCauseOf, IsUnread};
 
 use crate::status::Status;
 use blend_network::{NetFault, Network};
-use shelf_calls::{Shelf, ShelfFault};
 use network_json::{MAX_TEXT, ReadNet, read_network};
+use shelf_calls::{Shelf, ShelfFault};
 use std::alloc::Global;
 
 /// Why no network was read from a file.
