@@ -24,13 +24,15 @@ use Rattle.cert_checker.specs.Answers.{verdict_of}
 use Rattle.cert_checker.specs.Claims.{AreClaimed, IsClaimRefusal, HasRoom}
 use Rattle.cert_checker.specs.Parts.{IsRefusedFront, IsWalked}
 use Rattle.proof_lines.specs.Refusals.{IsFirstRefusal}
-use Rattle.proof_lines.specs.Runs.{Moment, Kept, IsWhy, Found, IsCause, Halts, of_fault, of_refusal}
+use Rattle.proof_lines.specs.Runs.{Moment, IsWhy, Found, IsCause, Halts, of_fault, of_refusal}
 use Rattle.cert_checker.specs.Streams.{IsAnswered}
 use Rattle.proof_lines.specs.Trees.{tree_with}
 use Rattle.cert_checker.proofs.Openings.{items-same}
 use Rattle.cert_checker.proofs.Order.{claim-refused, valid-is}
 use Rattle.cert_checker.proofs.Room.{has-room}
-use Rattle.proof_lines.proofs.Running.{kept-then, failed-then, failed-halts}
+use Rattle.shelf_calls.specs.Told.{Keeps}
+use Rattle.shelf_calls.proofs.Keeping.{keeps-then}
+use Rattle.proof_lines.proofs.Running.{failed-then, failed-halts}
 use Rattle.cert_checker.proofs.Streaming.{answer-valid, answer-refused, answer-faulty, answer-read, answer-memory, answer-long}
 
 -- ---- what is answered at once
@@ -43,21 +45,21 @@ IsAtOnce _ = Unit {0}
 
 pub halts-answered : (n : Net) (most : ℕ) (m k : Moment) (r : StreamRefusal) → m.reader ≡ fresh most → Halts (IsRefusedFront n) m k r → IsAtOnce r → IsAnswered n most m k (Err r)
 halts-answered n most m k Read new halts once =
-    record { kept = halts.kept; checked = answer-read n most m.rest; too_long = λ e. absurd cc; read = λ e. halts.cause; no_memory_refusal = λ e. cc }
+    record { kept = halts.kept; checked = answer-read n most m.shelf.rest; too_long = λ e. absurd cc; read = λ e. halts.cause; no_memory_refusal = λ e. cc }
 halts-answered n most m k TooLong new halts once =
     let left : m.reader.left ≡ most = ap (λ (r : Reader). r.left) new in
     record {
       kept = halts.kept;
-      checked = answer-long n most m.rest (subst (λ (i : ℕ). IsMore i m.rest) left halts.cause.0);
-      too_long = λ e. subst (λ (i : ℕ). TookMore i m.taken k.taken) left halts.cause.1;
+      checked = answer-long n most m.shelf.rest (subst (λ (i : ℕ). IsMore i m.shelf.rest) left halts.cause.0);
+      too_long = λ e. subst (λ (i : ℕ). TookMore i m.shelf.taken k.shelf.taken) left halts.cause.1;
       read = λ e. absurd cc;
       no_memory_refusal = λ e. cc;
     }
 halts-answered n most m k Memory new halts once =
-    record { kept = halts.kept; checked = answer-memory n most m.rest; too_long = λ e. absurd cc; read = λ e. absurd cc; no_memory_refusal = λ e. cc }
+    record { kept = halts.kept; checked = answer-memory n most m.shelf.rest; too_long = λ e. absurd cc; read = λ e. absurd cc; no_memory_refusal = λ e. cc }
 halts-answered n most m k (Refused (Text f)) new halts once = record {
   kept = halts.kept;
-  checked = answer-faulty n most m.rest k.reader k.rest f (subst (λ (r : Reader). FailsLater r m.rest k.reader k.rest f) new halts.cause);
+  checked = answer-faulty n most m.shelf.rest k.reader k.shelf.rest f (subst (λ (r : Reader). FailsLater r m.shelf.rest k.reader k.shelf.rest f) new halts.cause);
   too_long = λ e. absurd cc;
   read = λ e. absurd cc;
   no_memory_refusal = λ e. cc;
@@ -85,16 +87,16 @@ other-at-once TooLong other = tt
 other-at-once Memory other = tt
 other-at-once (Refused c) other = absurd (other c refl)
 
-pub found-answered : (n : Net) (most : ℕ) (m k q : Moment) (r : Refusal) → m.reader ≡ fresh most → Found (IsRefusedFront n) m k r → r ≢ NoMemory → Kept k q
-    → Finished k.reader k.rest q.reader q.rest → IsAnswered n most m q (Err (Refused r))
+pub found-answered : (n : Net) (most : ℕ) (m k q : Moment) (r : Refusal) → m.reader ≡ fresh most → Found (IsRefusedFront n) m k r → r ≢ NoMemory → Keeps k.shelf q.shelf
+    → Finished k.reader k.shelf.rest q.reader q.shelf.rest → IsAnswered n most m q (Err (Refused r))
 found-answered n most m k q r new found other kept done =
     let items : List Field = found.items ++ done.items in
-    let ran : Ran (fresh most) m.rest q.reader q.rest items = subst (λ (x : Reader). Ran x m.rest q.reader q.rest items) new (ran-then found.items done.items found.run.ran done.ran) in
-    let text : IsTextOf most m.rest ran.took.taken items = run-ends most m.rest q.reader q.rest items ran done.state (done.whole (λ over. absurd (found.going over))) in
+    let ran : Ran (fresh most) m.shelf.rest q.reader q.shelf.rest items = subst (λ (x : Reader). Ran x m.shelf.rest q.reader q.shelf.rest items) new (ran-then found.items done.items found.run.ran done.ran) in
+    let text : IsTextOf most m.shelf.rest ran.took.taken items = run-ends most m.shelf.rest q.reader q.shelf.rest items ran done.state (done.whole (λ over. absurd (found.going over))) in
     let going = memory-free r other in
     record {
-      kept = kept-then m k q found.run.kept kept;
-      checked = answer-refused n most m.rest ran.took.taken items r text (found.found text.cert done.items text.is text.items_are);
+      kept = keeps-then found.run.kept kept;
+      checked = answer-refused n most m.shelf.rest ran.took.taken items r text (found.found text.cert done.items text.is text.items_are);
       too_long = λ e. absurd cc;
       read = λ e. absurd cc;
       no_memory_refusal = going;
@@ -111,10 +113,10 @@ after r (Ok x) = Refused r
 after r (Err fault) = of_fault fault
 
 pub finish-answered : (n : Net) (most : ℕ) (m k q : Moment) (r : Refusal) (result : Result (Unit {0}) ItemFault) → m.reader ≡ fresh most
-    → Halts (IsRefusedFront n) m k (Refused r) → ((f : TextFault) → r ≢ Text f) → Kept k q
-    → OnOk result (Finished k.reader k.rest q.reader q.rest) → ((f : TextFault) → result ≡ Err (faults.Text f) → FailsLater k.reader k.rest q.reader q.rest f)
-    → (result ≡ Err faults.TooLong → IsMore k.reader.left k.rest)
-    → (result ≡ Err faults.TooLong → TookMore k.reader.left k.taken q.taken) → (result ≡ Err faults.Read → Rose k.faults q.faults) → IsAnswered n most m q (Err (after r result))
+    → Halts (IsRefusedFront n) m k (Refused r) → ((f : TextFault) → r ≢ Text f) → Keeps k.shelf q.shelf
+    → OnOk result (Finished k.reader k.shelf.rest q.reader q.shelf.rest) → ((f : TextFault) → result ≡ Err (faults.Text f) → FailsLater k.reader k.shelf.rest q.reader q.shelf.rest f)
+    → (result ≡ Err faults.TooLong → IsMore k.reader.left k.shelf.rest)
+    → (result ≡ Err faults.TooLong → TookMore k.reader.left k.shelf.taken q.shelf.taken) → (result ≡ Err faults.Read → Rose k.shelf.faults q.shelf.faults) → IsAnswered n most m q (Err (after r result))
 finish-answered n most m k q r (Ok x) new halts other kept finished text long more read =
     let found = cause-found (IsRefusedFront n) m k r other halts.cause in
     found-answered n most m k q r new found.0 found.1 kept finished
@@ -132,8 +134,8 @@ finish-answered n most m k q r (Err fault) new halts other kept finished text lo
     failing : ItemFault → Result (Unit {0}) ItemFault
     failing x = Err x
 
-    why : (fault : ItemFault) → ((f : TextFault) → fault ≡ faults.Text f → FailsLater k.reader k.rest q.reader q.rest f) → (fault ≡ faults.TooLong → IsMore k.reader.left k.rest)
-        → (fault ≡ faults.TooLong → TookMore k.reader.left k.taken q.taken) → (fault ≡ faults.Read → Rose k.faults q.faults) → IsWhy k q fault
+    why : (fault : ItemFault) → ((f : TextFault) → fault ≡ faults.Text f → FailsLater k.reader k.shelf.rest q.reader q.shelf.rest f) → (fault ≡ faults.TooLong → IsMore k.reader.left k.shelf.rest)
+        → (fault ≡ faults.TooLong → TookMore k.reader.left k.shelf.taken q.shelf.taken) → (fault ≡ faults.Read → Rose k.shelf.faults q.shelf.faults) → IsWhy k q fault
     why faults.Read text long more read = read refl
     why faults.TooLong text long more read = (long refl, more refl)
     why (faults.Text f) text long more read = text f refl
@@ -149,11 +151,11 @@ module _ (n : Net) (most : ℕ) (m k : Moment) (w : Walked) (new : m.reader ≡ 
   abbrev cert : Cert
   cert = record { shape = counts_of n; claim = shown_claim w.claim; splits = is.is.list; proofs = is.is.lines }
 
-  ran_all : Ran (fresh most) m.rest k.reader k.rest is.items
-  ran_all = subst (λ (x : Reader). Ran x m.rest k.reader k.rest is.items) new is.run.ran
+  ran_all : Ran (fresh most) m.shelf.rest k.reader k.shelf.rest is.items
+  ran_all = subst (λ (x : Reader). Ran x m.shelf.rest k.reader k.shelf.rest is.items) new is.run.ran
 
-  text_all : IsTextOf most m.rest ran_all.took.taken is.items
-  text_all = run-ends most m.rest k.reader k.rest is.items ran_all is.over is.at_end
+  text_all : IsTextOf most m.shelf.rest ran_all.took.taken is.items
+  text_all = run-ends most m.shelf.rest k.reader k.shelf.rest is.items ran_all is.over is.at_end
 
   same_cert : text_all.cert ≡ cert
   same_cert = items-same text_all.cert cert text_all.is is.is.fits (text_all.items_are ∙ is.is.items_are)
@@ -163,7 +165,7 @@ module _ (n : Net) (most : ℕ) (m k : Moment) (w : Walked) (new : m.reader ≡ 
       let valid : IsValid n cert = valid-is n cert w.cost w.bound refl is.is.cost_is is.is.tree right in
       record {
         kept = is.run.kept;
-        checked = answer-valid n most m.rest ran_all.took.taken is.items v limited text_all (subst (IsValid n) (sym same_cert) valid) (verdict ∙ ap (λ (c : Cert). verdict_of c.claim) (sym same_cert));
+        checked = answer-valid n most m.shelf.rest ran_all.took.taken is.items v limited text_all (subst (IsValid n) (sym same_cert) valid) (verdict ∙ ap (λ (c : Cert). verdict_of c.claim) (sym same_cert));
         too_long = λ e. absurd cc;
         read = λ e. absurd cc;
         no_memory_refusal = λ e. cc;
@@ -172,7 +174,7 @@ module _ (n : Net) (most : ℕ) (m k : Moment) (w : Walked) (new : m.reader ≡ 
   wrong_answered : (r : Refusal) → IsFirstRefusal n cert r → refusing r ≢ refusing NoMemory → IsAnswered n most m k (Err (Refused r))
   wrong_answered r first other = record {
     kept = is.run.kept;
-    checked = answer-refused n most m.rest ran_all.took.taken is.items r text_all (subst (λ (c : Cert). IsFirstRefusal n c r) (sym same_cert) first);
+    checked = answer-refused n most m.shelf.rest ran_all.took.taken is.items r text_all (subst (λ (c : Cert). IsFirstRefusal n c r) (sym same_cert) first);
     too_long = λ e. absurd cc;
     read = λ e. absurd cc;
     no_memory_refusal = other;

@@ -10,7 +10,8 @@ use Rattle.proof_lines.specs.declared.stream_refusal.StreamRefusal.{StreamRefusa
 use Rattle.proof_lines.specs.declared.stream_refusal.StreamRefusal.TheVariants.{Read, TooLong, Refused, Memory}
 use Rattle.cert_checker.specs.declared.verdict.Verdict.{Verdict}
 use Rattle.cert_checker.specs.Answers.{Spells, IsAccepted, IsRefused, verdict_of}
-use Rattle.proof_lines.specs.Runs.{Moment, Kept}
+use Rattle.shelf_calls.specs.Told.{Keeps}
+use Rattle.proof_lines.specs.Runs.{Moment}
 
 -- What was answered on the bytes of a file: they are accepted, and what their certificate claims follows, or they are refused as a
 -- text is, and are at most so many; or they are more. Of a failed read and of want of memory nothing is said here.
@@ -29,10 +30,10 @@ pub record IsStreamAnswer (n : Net) (rest : Option (List ℕ)) (most : ℕ) (ans
 
 -- an answer on the rest of a file, of which nothing was read before
 pub record IsAnswered (n : Net) (most : ℕ) (m k : Moment) (answer : Result Verdict StreamRefusal) : Type 0 where
-  pub kept : Kept m k
-  pub checked : IsStreamAnswer n m.rest most answer
-  pub too_long : answer ≡ Err TooLong → TookMore most m.taken k.taken
-  pub read : answer ≡ Err Read → Rose m.faults k.faults
+  pub kept : Keeps m.shelf k.shelf
+  pub checked : IsStreamAnswer n m.shelf.rest most answer
+  pub too_long : answer ≡ Err TooLong → TookMore most m.shelf.taken k.shelf.taken
+  pub read : answer ≡ Err Read → Rose m.shelf.faults k.shelf.faults
   pub no_memory_refusal : answer ≢ Err (Refused NoMemory)
 
 -- the verdict of a claim, unless a read failed or memory ran out

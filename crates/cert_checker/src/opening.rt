@@ -47,9 +47,9 @@ pub(crate) fn read_opening<S: Shelf>(
     reader: &mut CertReader,
     shelf: &mut S,
 ) -> Result<Opening, StreamRefusal>
-    requires ready { IsReady (moment S.files S.admits S.rest S.taken S.faults reader.old shelf.old) (shaped_state (kind_of kind) (counts_of (net_of net.now))) }
+    requires ready { IsReady (moment reader.old (S.told shelf.old)) (shaped_state (kind_of kind) (counts_of (net_of net.now))) }
     ensures { Takes (IsOpening (net_of net.now) (kind_of kind)) (IsWrongPlan (net_of net.now) (kind_of kind))
-        (moment S.files S.admits S.rest S.taken S.faults reader.old shelf.old) (moment S.files S.admits S.rest S.taken S.faults reader.new shelf.new) result }
+        (moment reader.old (S.told shelf.old)) (moment reader.new (S.told shelf.new)) result }
 {
     match kind {
         0 => {
@@ -71,9 +71,8 @@ fn plan<S: Shelf>(
     reader: &mut CertReader,
     shelf: &mut S,
 ) -> Result<WrittenPlan, StreamRefusal>
-    requires ready { IsReady (moment S.files S.admits S.rest S.taken S.faults reader.old shelf.old) (states.Bases (net_of net.now).feeds (net_of net.now).outs (net_of net.now).directs) }
-    ensures { Takes (λ p. IsPlan (net_of net.now) (shown_plan p)) Never (moment S.files S.admits S.rest S.taken S.faults reader.old shelf.old)
-        (moment S.files S.admits S.rest S.taken S.faults reader.new shelf.new) result }
+    requires ready { IsReady (moment reader.old (S.told shelf.old)) (states.Bases (net_of net.now).feeds (net_of net.now).outs (net_of net.now).directs) }
+    ensures { Takes (λ p. IsPlan (net_of net.now) (shown_plan p)) Never (moment reader.old (S.told shelf.old)) (moment reader.new (S.told shelf.new)) result }
 {
     let (base, flow_base) = base_pair(reader, shelf)?;
     let weights = weights(alloc, net, reader, shelf)?;
@@ -95,9 +94,9 @@ fn weights<S: Shelf>(
     reader: &mut CertReader,
     shelf: &mut S,
 ) -> Result<Vec<u32>, StreamRefusal>
-    requires ready { IsReady (moment S.files S.admits S.rest S.taken S.faults reader.old shelf.old) (weights_left (net_of net.now).feeds (net_of net.now).outs (net_of net.now).directs) }
+    requires ready { IsReady (moment reader.old (S.told shelf.old)) (weights_left (net_of net.now).feeds (net_of net.now).outs (net_of net.now).directs) }
     ensures { Takes (λ v. IsList weight_item (net_of net.now).feeds (outflows_left (net_of net.now).outs (net_of net.now).directs) v.items) Never
-        (moment S.files S.admits S.rest S.taken S.faults reader.old shelf.old) (moment S.files S.admits S.rest S.taken S.faults reader.new shelf.new) result }
+        (moment reader.old (S.told shelf.old)) (moment reader.new (S.told shelf.new)) result }
 {
     let mut weights = Vec::new(alloc);
     for _ in 0..net.counts()[4] {
@@ -113,9 +112,9 @@ fn outflows<S: Shelf>(
     reader: &mut CertReader,
     shelf: &mut S,
 ) -> Result<Vec<u64>, StreamRefusal>
-    requires ready { IsReady (moment S.files S.admits S.rest S.taken S.faults reader.old shelf.old) (outflows_left (net_of net.now).outs (net_of net.now).directs) }
+    requires ready { IsReady (moment reader.old (S.told shelf.old)) (outflows_left (net_of net.now).outs (net_of net.now).directs) }
     ensures { Takes (λ v. IsList outflow_item (net_of net.now).outs (directs_left (net_of net.now).directs) v.items) Never
-        (moment S.files S.admits S.rest S.taken S.faults reader.old shelf.old) (moment S.files S.admits S.rest S.taken S.faults reader.new shelf.new) result }
+        (moment reader.old (S.told shelf.old)) (moment reader.new (S.told shelf.new)) result }
 {
     let mut flows = Vec::new(alloc);
     for _ in 0..net.counts()[5] {
@@ -131,9 +130,9 @@ fn directs<S: Shelf>(
     reader: &mut CertReader,
     shelf: &mut S,
 ) -> Result<Vec<u64>, StreamRefusal>
-    requires ready { IsReady (moment S.files S.admits S.rest S.taken S.faults reader.old shelf.old) (directs_left (net_of net.now).directs) }
+    requires ready { IsReady (moment reader.old (S.told shelf.old)) (directs_left (net_of net.now).directs) }
     ensures { Takes (λ v. IsList direct_item (net_of net.now).directs (states.Splits kinds.Gap) v.items) Never
-        (moment S.files S.admits S.rest S.taken S.faults reader.old shelf.old) (moment S.files S.admits S.rest S.taken S.faults reader.new shelf.new) result }
+        (moment reader.old (S.told shelf.old)) (moment reader.new (S.told shelf.new)) result }
 {
     let mut flows = Vec::new(alloc);
     for _ in 0..net.counts()[6] {

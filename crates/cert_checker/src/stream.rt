@@ -1,8 +1,8 @@
 //! The check of a certificate that is read as a stream: each part is judged as it comes.
 
 ghost use Rattle.std.specs.Prelude.{◌≡◌, ◌≢◌, ◌<◌, ◌≤◌, ◌^◌, ℕ, List, Some, Err, length};
-ghost use Rattle.std.specs.Option.{is_some};
-ghost use Rattle.edge_io.specs.Counts.{Grows, Rose};
+ghost use Rattle.edge_io.specs.Counts.{Rose};
+ghost use Rattle.shelf_calls.specs.Told.{Keeps};
 ghost use Rattle.pool_model.specs.Network.{Net, net_of};
 ghost use Rattle.cert_format.specs.Cert.{Cert};
 ghost use Rattle.cert_format.specs.Valid.{IsValid};
@@ -39,23 +39,19 @@ pub fn check_stream<S: Shelf>(
     // they are more. What the certificate of these bytes claims follows for every plan.
     // Promise: `check` of a file is `check` of its bytes: a file that comes in pieces is accepted or refused as its text is, with what it
     //   claims, once it is read to its end; else it has more bytes than it may have, the shelf failed, or memory ran out
-    ensures checked { IsStreamAnswer (net_of net.now) (S.rest shelf.old) most result }
+    ensures checked { IsStreamAnswer (net_of net.now) (S.told shelf.old).rest most result }
     // The text of a valid certificate that is not too long is accepted, unless a read fails or memory runs out.
     // Promise: `check` of a file is `check` of its bytes: a file that comes in pieces is accepted or refused as its text is, with what it
     //   claims, once it is read to its end; else it has more bytes than it may have, the shelf failed, or memory ran out
-    ensures valid { (bytes : List ℕ) (c : Cert) → S.rest shelf.old ≡ Some bytes → length bytes ≤ most → Spells bytes c → IsValid (net_of net.now) c → IsStreamedAs c.claim result }
+    ensures valid { (bytes : List ℕ) (c : Cert) → (S.told shelf.old).rest ≡ Some bytes → length bytes ≤ most → Spells bytes c → IsValid (net_of net.now) c → IsStreamedAs c.claim result }
     // Of a file that is too long more was taken than it may have; a read failed only where the count of faults rose.
     // Promise: Of a file that is called too long more bytes were taken than it may have
-    ensures too_long { result ≡ Err streams.TooLong → TookMore most (S.taken shelf.old) (S.taken shelf.new) }
+    ensures too_long { result ≡ Err streams.TooLong → TookMore most (S.told shelf.old).taken (S.told shelf.new).taken }
     // Promise: `check` of a file is `check` of its bytes: a file that comes in pieces is accepted or refused as its text is, with what it
     //   claims, once it is read to its end; else it has more bytes than it may have, the shelf failed, or memory ran out
-    ensures read { result ≡ Err streams.Read → Rose (S.faults shelf.old) (S.faults shelf.new) }
+    ensures read { result ≡ Err streams.Read → Rose (S.told shelf.old).faults (S.told shelf.new).faults }
     ensures no_memory_refusal { result ≢ Err (streams.Refused refusals.Memory) }
-    ensures same_files { S.files shelf.new ≡ S.files shelf.old }
-    ensures same_names { S.admits shelf.new ≡ S.admits shelf.old }
-    ensures same_telling { is_some (S.rest shelf.new) ≡ is_some (S.rest shelf.old) }
-    ensures taken_grows { Grows (S.taken shelf.old) (S.taken shelf.new) }
-    ensures faults_grow { Grows (S.faults shelf.old) (S.faults shelf.new) }
+    ensures kept { Keeps (S.told shelf.old) (S.told shelf.new) }
 {
     let mut reader = CertReader::start(alloc, most)?;
     answer(alloc, net, &mut reader, shelf)
@@ -69,8 +65,7 @@ fn answer<S: Shelf>(
     shelf: &mut S,
 ) -> Result<Verdict, StreamRefusal>
     requires { (most : ℕ) × (reader.old ≡ fresh most) }
-    ensures { (most : ℕ) → reader.old ≡ fresh most → IsAnswered (net_of net.now) most (moment S.files S.admits S.rest S.taken S.faults reader.old shelf.old)
-        (moment S.files S.admits S.rest S.taken S.faults reader.new shelf.new) result }
+    ensures { (most : ℕ) → reader.old ≡ fresh most → IsAnswered (net_of net.now) most (moment reader.old (S.told shelf.old)) (moment reader.new (S.told shelf.new)) result }
 {
     match walk(alloc, net, reader, shelf) {
         Ok(found) => Ok(check_claim(&found.claim, found.cost, found.bound)?),
@@ -84,10 +79,9 @@ fn at_the_end<S: Shelf>(
     reader: &mut CertReader,
     shelf: &mut S,
 ) -> StreamRefusal
-    requires { (n : Net) × (m : Moment) × Halts (IsRefusedFront n) m (moment S.files S.admits S.rest S.taken S.faults reader.old shelf.old) refusal }
-    ensures { (n : Net) (m : Moment) (most : ℕ) → m.reader ≡ fresh most
-        → Halts (IsRefusedFront n) m (moment S.files S.admits S.rest S.taken S.faults reader.old shelf.old) refusal
-        → IsAnswered n most m (moment S.files S.admits S.rest S.taken S.faults reader.new shelf.new) (Err result) }
+    requires { (n : Net) × (m : Moment) × Halts (IsRefusedFront n) m (moment reader.old (S.told shelf.old)) refusal }
+    ensures { (n : Net) (m : Moment) (most : ℕ) → m.reader ≡ fresh most → Halts (IsRefusedFront n) m (moment reader.old (S.told shelf.old)) refusal
+        → IsAnswered n most m (moment reader.new (S.told shelf.new)) (Err result) }
 {
     match refusal {
         StreamRefusal::Refused(cause) => wait_for_end(cause, reader, shelf),
@@ -98,9 +92,9 @@ fn at_the_end<S: Shelf>(
 /// What is answered where a certificate is refused: at the end of the file already for a fault of the text, and else once it is
 /// read to its end.
 fn wait_for_end<S: Shelf>(cause: Refusal, reader: &mut CertReader, shelf: &mut S) -> StreamRefusal
-    requires { (n : Net) × (m : Moment) × Halts (IsRefusedFront n) m (moment S.files S.admits S.rest S.taken S.faults reader.old shelf.old) (streams.Refused cause) }
-    ensures { (n : Net) (m : Moment) (most : ℕ) → m.reader ≡ fresh most → Halts (IsRefusedFront n) m (moment S.files S.admits S.rest S.taken S.faults reader.old shelf.old)
-        (streams.Refused cause) → IsAnswered n most m (moment S.files S.admits S.rest S.taken S.faults reader.new shelf.new) (Err result) }
+    requires { (n : Net) × (m : Moment) × Halts (IsRefusedFront n) m (moment reader.old (S.told shelf.old)) (streams.Refused cause) }
+    ensures { (n : Net) (m : Moment) (most : ℕ) → m.reader ≡ fresh most → Halts (IsRefusedFront n) m (moment reader.old (S.told shelf.old))
+        (streams.Refused cause) → IsAnswered n most m (moment reader.new (S.told shelf.new)) (Err result) }
 {
     if let Refusal::Text(_) = cause {
         return StreamRefusal::Refused(cause);

@@ -37,10 +37,10 @@ pub(crate) fn walk<S: Shelf>(
     reader: &mut CertReader,
     shelf: &mut S,
 ) -> Result<Walked, StreamRefusal>
-    requires ready { IsReady (moment S.files S.admits S.rest S.taken S.faults reader.old shelf.old) states.Begin }
+    requires ready { IsReady (moment reader.old (S.told shelf.old)) states.Begin }
     ensures limited { OnOk result (IsLimited (net_of net.now)) }
     ensures reach { OnOk result (unsigned_abs (reach_bound (net_of net.now)) ≤ 128 * 10 ^ 24) }
-    ensures walked { Walks (net_of net.now) (moment S.files S.admits S.rest S.taken S.faults reader.old shelf.old) (moment S.files S.admits S.rest S.taken S.faults reader.new shelf.new) result }
+    ensures walked { Walks (net_of net.now) (moment reader.old (S.told shelf.old)) (moment reader.new (S.told shelf.new)) result }
 {
     let kind = begin(net, reader, shelf)?;
     let opening = read_opening(alloc, net, kind, reader, shelf)?;
@@ -58,10 +58,9 @@ fn begin<S: Shelf>(
     reader: &mut CertReader,
     shelf: &mut S,
 ) -> Result<u8, StreamRefusal>
-    requires ready { IsReady (moment S.files S.admits S.rest S.taken S.faults reader.old shelf.old) states.Begin }
+    requires ready { IsReady (moment reader.old (S.told shelf.old)) states.Begin }
     ensures limited { OnOk result (IsLimited (net_of net.now)) }
-    ensures begun { Takes (IsBegun (net_of net.now)) (IsRefusedFront (net_of net.now)) (moment S.files S.admits S.rest S.taken S.faults reader.old shelf.old)
-        (moment S.files S.admits S.rest S.taken S.faults reader.new shelf.new) result }
+    ensures begun { Takes (IsBegun (net_of net.now)) (IsRefusedFront (net_of net.now)) (moment reader.old (S.told shelf.old)) (moment reader.new (S.told shelf.new)) result }
 {
     let kind = kind(reader, shelf)?;
     let shape = shape(reader, shelf)?;
@@ -78,9 +77,9 @@ fn tree<S: Shelf>(
     reader: &mut CertReader,
     shelf: &mut S,
 ) -> Result<SplitTree, StreamRefusal>
-    requires asks { (k : AKind) × IsReady (moment S.files S.admits S.rest S.taken S.faults reader.old shelf.old) (states.Splits k) }
+    requires asks { (k : AKind) × IsReady (moment reader.old (S.told shelf.old)) (states.Splits k) }
     ensures { (k : AKind) → reader.old.state ≡ states.Splits k → Takes (IsSplitList (net_of net.now) k) (IsWrongSplitList (net_of net.now))
-        (moment S.files S.admits S.rest S.taken S.faults reader.old shelf.old) (moment S.files S.admits S.rest S.taken S.faults reader.new shelf.new) result }
+        (moment reader.old (S.told shelf.old)) (moment reader.new (S.told shelf.new)) result }
 {
     let count = splits(reader, shelf)?;
     let mut tree = SplitTree::new(alloc)?;
@@ -100,8 +99,8 @@ fn claim<S: Shelf>(
     reader: &mut CertReader,
     shelf: &mut S,
 ) -> Result<Claim, ItemFault>
-    requires ready { IsReady (moment S.files S.admits S.rest S.taken S.faults reader.old shelf.old) (claim_state (opening_kind opening)) }
-    ensures { ReadsClaim opening (moment S.files S.admits S.rest S.taken S.faults reader.old shelf.old) (moment S.files S.admits S.rest S.taken S.faults reader.new shelf.new) result }
+    requires ready { IsReady (moment reader.old (S.told shelf.old)) (claim_state (opening_kind opening)) }
+    ensures { ReadsClaim opening (moment reader.old (S.told shelf.old)) (moment reader.new (S.told shelf.new)) result }
 {
     match opening {
         Opening::Gap(plan, _) => {

@@ -1,11 +1,10 @@
 -- Calls that follow on one another, put together.
 use Rattle.std.proofs.Common.{◌≡◌, ◌≢◌, ℕ, ◌-◌, ◌^◌, ◌<◌, ◌≤◌, IsTrue, List, [], ◌∷◌, ◌++◌, length, Option, None, Some, refl, sym, ap, subst, ◌∙◌, append_assoc, length-append, arith, inl, inr}
-use Rattle.std.specs.Prelude.{Bool}
-use Rattle.std.specs.Option.{is_some}
 use Rattle.std.proofs.lemmas.List.{append-nil}
 use Rattle.edge_io.specs.Counts.{Grows, RoseBy}
 use Rattle.shelf_calls.specs.Opened.{ahead, IsUsedUp}
-use Rattle.edge_io.proofs.Counting.{grows-same, grows-then, rose-behind}
+use Rattle.shelf_calls.specs.Told.{ShelfTold, Keeps}
+use Rattle.edge_io.proofs.Counting.{rose-behind}
 use Rattle.cert_text.specs.declared.fault.TextFault.{TextFault}
 use Rattle.cert_text.specs.Reading.{At}
 use Rattle.cert_stream.specs.declared.fault.ItemFault.{ItemFault}
@@ -94,34 +93,11 @@ more-then {r} {s} {rest} {now} h m = λ x e.
     omega (arith, h.within, longer, ap length t.2, length-append h.taken t.0)
 
 -- a call that failed behind others
-pub fails-then : (e : ItemFault) {r s : Reader} {rest now : Option (List ℕ)} (a b c i j k : ℕ) → Took r rest s now → RoseBy (r.left - s.left) a b →
-    Grows b c → Grows i j → Fails e s.left now b c j k → Fails e r.left rest a c i k
-fails-then Read a b c i j k h counted g grew f = rose-behind i j k grew f
-fails-then TooLong {r} {s} a b c i j k h counted g grew f = (more-then h f.0, took-more-then r.left s.left a b c (omega (arith, h.within)) counted f.1 g)
-fails-then (Text t) a b c i j k h counted g grew f = f
-
--- ---- a loop of calls
-
--- what calls changed of a shelf: what it is stays, and its counts grow
-pub record Stays (files now_files : Option (List (List ℕ × List ℕ))) (names now_names : List ℕ → Bool) (rest now : Option (List ℕ)) (a b i j : ℕ) : Type 0 where
-  pub same_files : now_files ≡ files
-  pub same_names : now_names ≡ names
-  pub same_telling : is_some now ≡ is_some rest
-  pub taken_grows : Grows a b
-  pub faults_grow : Grows i j
-
-pub stays-none : (files : Option (List (List ℕ × List ℕ))) (names : List ℕ → Bool) (rest : Option (List ℕ)) (a i : ℕ) → Stays files files names names rest rest a a i i
-stays-none files names rest a i = record { same_files = refl; same_names = refl; same_telling = refl; taken_grows = grows-same a; faults_grow = grows-same i }
-
-pub stays-then : {f g h : Option (List (List ℕ × List ℕ))} {m n o : List ℕ → Bool} {rest now later : Option (List ℕ)} {a b c i j k : ℕ}
-    → Stays f g m n rest now a b i j → Stays g h n o now later b c j k → Stays f h m o rest later a c i k
-stays-then {f} {g} {h} {m} {n} {o} {rest} {now} {later} {a} {b} {c} {i} {j} {k} s t = record {
-  same_files = t.same_files ∙ s.same_files;
-  same_names = t.same_names ∙ s.same_names;
-  same_telling = t.same_telling ∙ s.same_telling;
-  taken_grows = grows-then a b c s.taken_grows t.taken_grows;
-  faults_grow = grows-then i j k s.faults_grow t.faults_grow;
-}
+pub fails-then : (e : ItemFault) {r s : Reader} (m k l : ShelfTold) → Took r m.rest s k.rest → RoseBy (r.left - s.left) m.taken k.taken →
+    Keeps m k → Keeps k l → Fails e s.left k l → Fails e r.left m l
+fails-then Read m k l h counted kept more f = rose-behind m.faults k.faults l.faults kept.faults_grow f
+fails-then TooLong {r} {s} m k l h counted kept more f = (more-then h f.0, took-more-then r.left s.left m.taken k.taken l.taken (omega (arith, h.within)) counted f.1 more.taken_grows)
+fails-then (Text t) m k l h counted kept more f = f
 
 -- ---- what is read
 

@@ -2,6 +2,7 @@
 use Rattle.std.specs.Prelude.{◌≡◌, ◌≢◌, ℕ, ◌+◌, ◌-◌, ◌^◌, ◌<◌, ◌≤◌, ◌⊎◌, Bool, false, IsTrue, List, [], ◌∷◌, ◌++◌, length, Option, Ok, Err}
 use Rattle.std.specs.Option.{ForSome}
 use Rattle.shelf_calls.specs.Opened.{ahead, IsUsedUp}
+use Rattle.shelf_calls.specs.Told.{ShelfTold}
 use Rattle.edge_io.specs.Counts.{Rose}
 use Rattle.cert_text.specs.declared.fault.TextFault.{TextFault}
 use Rattle.cert_text.specs.Lines.{IsFaultyLine}
@@ -155,7 +156,7 @@ IsPaid items before after = (before + items ≤ after) ⊎ (after ≡ 2 ^ 64 - 1
 -- ---- why a call failed
 
 -- Bytes could not be taken: the shelf failed, or there are more than may be taken. A fault of the text is neither.
-abbrev pub Fails : ItemFault → ℕ → Option (List ℕ) → ℕ → ℕ → ℕ → ℕ → Type 0
-Fails Read left rest taken taken_then faults faults_then = Rose faults faults_then
-Fails TooLong left rest taken taken_then faults faults_then = IsMore left rest × TookMore left taken taken_then
-Fails (Text f) left rest taken taken_then faults faults_then = ⊥
+abbrev pub Fails : ItemFault → ℕ → ShelfTold → ShelfTold → Type 0
+Fails Read left before after = Rose before.faults after.faults
+Fails TooLong left before after = IsMore left before.rest × TookMore left before.taken after.taken
+Fails (Text f) left before after = ⊥

@@ -1,9 +1,9 @@
 //! A certificate that is read from an opened file, item by item, in memory that does not grow with it.
 
 ghost use Rattle.std.specs.Prelude.{◌≡◌, ◌≢◌, ◌-◌, ◌<◌, ◌≤◌, ◌^◌, ◌⊎◌, [], length, Ok, Err, true, false, IsTrue, IfOk, IfErr, OnOk, OnErr, List, ℕ};
-ghost use Rattle.std.specs.Option.{is_some};
-ghost use Rattle.edge_io.specs.Counts.{Grows, Rose, RoseBy};
+ghost use Rattle.edge_io.specs.Counts.{Rose, RoseBy};
 ghost use Rattle.shelf_calls.specs.Opened.{IsUsedUp};
+ghost use Rattle.shelf_calls.specs.Told.{Keeps};
 ghost use Rattle.cert_text.specs.declared.fault.TextFault.{TextFault as AFault};
 ghost use Rattle.cert_stream.specs.declared.fault.ItemFault.TheVariants as faults;
 ghost use Rattle.cert_items.specs.declared.items.State.TheVariants as states;
@@ -70,26 +70,22 @@ impl CertReader {
     /// its text; the file is read to its end before `Text` comes, so that the others go before it. It takes no memory.
     pub fn next_item<S: Shelf>(&mut self, shelf: &mut S) -> Result<Item, ItemFault>
         requires going { self.old.state ≢ states.Ended }
-        requires used_up { IsTrue self.old.ended → IsUsedUp (S.rest shelf.old) }
+        requires used_up { IsTrue self.old.ended → IsUsedUp (S.told shelf.old).rest }
         // Promise: The items of a certificate that comes in pieces are those of its text: none of them more, in order, and at the end the
         //   file spells exactly their certificate
         // Promise: `TooLong` comes exactly where the file has more bytes than it may have
-        ensures item { IfOk result (GivesItem self.old (S.rest shelf.old) self.new (S.rest shelf.new)) }
-        ensures counted { OnOk result (RoseBy (self.old.left - self.new.left) (S.taken shelf.old) (S.taken shelf.new)) }
+        ensures item { IfOk result (GivesItem self.old (S.told shelf.old).rest self.new (S.told shelf.new).rest) }
+        ensures counted { OnOk result (RoseBy (self.old.left - self.new.left) (S.told shelf.old).taken (S.told shelf.new).taken) }
         // Promise: A fault is at the same line as in the text read whole; the file is read to its end before it is told, so that a file
         //   that is too long and a failed read go before it
         // Promise: `TooLong` comes exactly where the file has more bytes than it may have
         ensures text { (f : AFault) → result ≡ Err (faults.Text f) →
-            GivesFault self.old (S.rest shelf.old) self.new (S.rest shelf.new) f }
+            GivesFault self.old (S.told shelf.old).rest self.new (S.told shelf.new).rest f }
         // Promise: `TooLong` comes exactly where the file has more bytes than it may have
-        ensures too_long { result ≡ Err faults.TooLong → IsMore self.old.left (S.rest shelf.old) }
-        ensures took_more { result ≡ Err faults.TooLong → TookMore self.old.left (S.taken shelf.old) (S.taken shelf.new) }
-        ensures read { result ≡ Err faults.Read → Rose (S.faults shelf.old) (S.faults shelf.new) }
-        ensures same_files { S.files shelf.new ≡ S.files shelf.old }
-        ensures same_names { S.admits shelf.new ≡ S.admits shelf.old }
-        ensures same_telling { is_some (S.rest shelf.new) ≡ is_some (S.rest shelf.old) }
-        ensures taken_grows { Grows (S.taken shelf.old) (S.taken shelf.new) }
-        ensures faults_grow { Grows (S.faults shelf.old) (S.faults shelf.new) }
+        ensures too_long { result ≡ Err faults.TooLong → IsMore self.old.left (S.told shelf.old).rest }
+        ensures took_more { result ≡ Err faults.TooLong → TookMore self.old.left (S.told shelf.old).taken (S.told shelf.new).taken }
+        ensures read { result ≡ Err faults.Read → Rose (S.told shelf.old).faults (S.told shelf.new).faults }
+        ensures kept { Keeps (S.told shelf.old) (S.told shelf.new) }
     {
         self.fill(shelf, LOOK)?;
         match self.step() {
@@ -117,19 +113,15 @@ impl CertReader {
     ///
     /// Its faults are those of `next_item`.
     pub fn finish<S: Shelf>(&mut self, shelf: &mut S) -> Result<(), ItemFault>
-        requires used_up { IsTrue self.old.ended → IsUsedUp (S.rest shelf.old) }
-        ensures finished { OnOk result (Finished self.old (S.rest shelf.old) self.new (S.rest shelf.new)) }
-        ensures counted { OnOk result (RoseBy (self.old.left - self.new.left) (S.taken shelf.old) (S.taken shelf.new)) }
+        requires used_up { IsTrue self.old.ended → IsUsedUp (S.told shelf.old).rest }
+        ensures finished { OnOk result (Finished self.old (S.told shelf.old).rest self.new (S.told shelf.new).rest) }
+        ensures counted { OnOk result (RoseBy (self.old.left - self.new.left) (S.told shelf.old).taken (S.told shelf.new).taken) }
         ensures text { (f : AFault) → result ≡ Err (faults.Text f) →
-            FailsLater self.old (S.rest shelf.old) self.new (S.rest shelf.new) f }
-        ensures too_long { result ≡ Err faults.TooLong → IsMore self.old.left (S.rest shelf.old) }
-        ensures took_more { result ≡ Err faults.TooLong → TookMore self.old.left (S.taken shelf.old) (S.taken shelf.new) }
-        ensures read { result ≡ Err faults.Read → Rose (S.faults shelf.old) (S.faults shelf.new) }
-        ensures same_files { S.files shelf.new ≡ S.files shelf.old }
-        ensures same_names { S.admits shelf.new ≡ S.admits shelf.old }
-        ensures same_telling { is_some (S.rest shelf.new) ≡ is_some (S.rest shelf.old) }
-        ensures taken_grows { Grows (S.taken shelf.old) (S.taken shelf.new) }
-        ensures faults_grow { Grows (S.faults shelf.old) (S.faults shelf.new) }
+            FailsLater self.old (S.told shelf.old).rest self.new (S.told shelf.new).rest f }
+        ensures too_long { result ≡ Err faults.TooLong → IsMore self.old.left (S.told shelf.old).rest }
+        ensures took_more { result ≡ Err faults.TooLong → TookMore self.old.left (S.told shelf.old).taken (S.told shelf.new).taken }
+        ensures read { result ≡ Err faults.Read → Rose (S.told shelf.old).faults (S.told shelf.new).faults }
+        ensures kept { Keeps (S.told shelf.old) (S.told shelf.new) }
     {
         while !self.has_ended() {
             self.next_item(shelf)?;
@@ -166,21 +158,17 @@ impl CertReader {
 
     /// Reads on to the end behind the last line, where nothing may stand.
     fn close<S: Shelf>(&mut self, shelf: &mut S) -> Result<(), ItemFault>
-        requires used_up { IsTrue self.old.ended → IsUsedUp (S.rest shelf.old) }
+        requires used_up { IsTrue self.old.ended → IsUsedUp (S.told shelf.old).rest }
         ensures nothing { OnOk result (self.old.held ≡ []) }
-        ensures filled { OnOk result (Filled self.old (S.rest shelf.old) self.new (S.rest shelf.new)) }
+        ensures filled { OnOk result (Filled self.old (S.told shelf.old).rest self.new (S.told shelf.new).rest) }
         ensures at_end { OnOk result (IsAtEnd self.new) }
-        ensures counted { OnOk result (RoseBy (self.old.left - self.new.left) (S.taken shelf.old) (S.taken shelf.new)) }
+        ensures counted { OnOk result (RoseBy (self.old.left - self.new.left) (S.told shelf.old).taken (S.told shelf.new).taken) }
         ensures text { (f : AFault) → result ≡ Err (faults.Text f) →
-            HasBehind self.old (S.rest shelf.old) self.new (S.rest shelf.new) f }
-        ensures too_long { result ≡ Err faults.TooLong → IsMore self.old.left (S.rest shelf.old) }
-        ensures took_more { result ≡ Err faults.TooLong → TookMore self.old.left (S.taken shelf.old) (S.taken shelf.new) }
-        ensures read { result ≡ Err faults.Read → Rose (S.faults shelf.old) (S.faults shelf.new) }
-        ensures same_files { S.files shelf.new ≡ S.files shelf.old }
-        ensures same_names { S.admits shelf.new ≡ S.admits shelf.old }
-        ensures same_telling { is_some (S.rest shelf.new) ≡ is_some (S.rest shelf.old) }
-        ensures taken_grows { Grows (S.taken shelf.old) (S.taken shelf.new) }
-        ensures faults_grow { Grows (S.faults shelf.old) (S.faults shelf.new) }
+            HasBehind self.old (S.told shelf.old).rest self.new (S.told shelf.new).rest f }
+        ensures too_long { result ≡ Err faults.TooLong → IsMore self.old.left (S.told shelf.old).rest }
+        ensures took_more { result ≡ Err faults.TooLong → TookMore self.old.left (S.told shelf.old).taken (S.told shelf.new).taken }
+        ensures read { result ≡ Err faults.Read → Rose (S.told shelf.old).faults (S.told shelf.new).faults }
+        ensures kept { Keeps (S.told shelf.old) (S.told shelf.new) }
     {
         self.fill(shelf, 1)?;
         if self.held.len() == 0 {
@@ -194,17 +182,12 @@ impl CertReader {
     /// Takes bytes until so many are held, or nothing is left.
     fn fill<S: Shelf>(&mut self, shelf: &mut S, count: usize) -> Result<(), ItemFault>
         requires few { count ≤ 128 }
-        requires used_up { IsTrue self.old.ended → IsUsedUp (S.rest shelf.old) }
-        ensures filled { OnOk result (Filled self.old (S.rest shelf.old) self.new (S.rest shelf.new)) }
+        requires used_up { IsTrue self.old.ended → IsUsedUp (S.told shelf.old).rest }
+        ensures filled { OnOk result (Filled self.old (S.told shelf.old).rest self.new (S.told shelf.new).rest) }
         ensures enough { OnOk result ((count ≤ length self.new.held) ⊎ IsTrue self.new.ended) }
-        ensures counted { OnOk result (RoseBy (self.old.left - self.new.left) (S.taken shelf.old) (S.taken shelf.new)) }
-        ensures failed { IfErr result (λ e.
-            Fails e self.old.left (S.rest shelf.old) (S.taken shelf.old) (S.taken shelf.new) (S.faults shelf.old) (S.faults shelf.new)) }
-        ensures same_files { S.files shelf.new ≡ S.files shelf.old }
-        ensures same_names { S.admits shelf.new ≡ S.admits shelf.old }
-        ensures same_telling { is_some (S.rest shelf.new) ≡ is_some (S.rest shelf.old) }
-        ensures taken_grows { Grows (S.taken shelf.old) (S.taken shelf.new) }
-        ensures faults_grow { Grows (S.faults shelf.old) (S.faults shelf.new) }
+        ensures counted { OnOk result (RoseBy (self.old.left - self.new.left) (S.told shelf.old).taken (S.told shelf.new).taken) }
+        ensures failed { IfErr result (λ e. Fails e self.old.left (S.told shelf.old) (S.told shelf.new)) }
+        ensures kept { Keeps (S.told shelf.old) (S.told shelf.new) }
     {
         while self.held.len() < count && !self.ended {
             self.take_some(shelf)?;
@@ -214,16 +197,11 @@ impl CertReader {
 
     /// Takes the rest and lets it go.
     fn drain<S: Shelf>(&mut self, shelf: &mut S) -> Result<(), ItemFault>
-        requires used_up { IsTrue self.old.ended → IsUsedUp (S.rest shelf.old) }
-        ensures took { OnOk result (Took self.old (S.rest shelf.old) self.new (S.rest shelf.new)) }
+        requires used_up { IsTrue self.old.ended → IsUsedUp (S.told shelf.old).rest }
+        ensures took { OnOk result (Took self.old (S.told shelf.old).rest self.new (S.told shelf.new).rest) }
         ensures ended { OnOk result (IsTrue self.new.ended) }
-        ensures failed { IfErr result (λ e.
-            Fails e self.old.left (S.rest shelf.old) (S.taken shelf.old) (S.taken shelf.new) (S.faults shelf.old) (S.faults shelf.new)) }
-        ensures same_files { S.files shelf.new ≡ S.files shelf.old }
-        ensures same_names { S.admits shelf.new ≡ S.admits shelf.old }
-        ensures same_telling { is_some (S.rest shelf.new) ≡ is_some (S.rest shelf.old) }
-        ensures taken_grows { Grows (S.taken shelf.old) (S.taken shelf.new) }
-        ensures faults_grow { Grows (S.faults shelf.old) (S.faults shelf.new) }
+        ensures failed { IfErr result (λ e. Fails e self.old.left (S.told shelf.old) (S.told shelf.new)) }
+        ensures kept { Keeps (S.told shelf.old) (S.told shelf.new) }
     {
         while !self.ended {
             self.held.clear();
@@ -236,16 +214,11 @@ impl CertReader {
     fn take_some<S: Shelf>(&mut self, shelf: &mut S) -> Result<(), ItemFault>
         requires room { length self.old.held < 128 }
         requires going { self.old.ended ≡ false }
-        ensures filled { OnOk result (Filled self.old (S.rest shelf.old) self.new (S.rest shelf.new)) }
+        ensures filled { OnOk result (Filled self.old (S.told shelf.old).rest self.new (S.told shelf.new).rest) }
         ensures some { OnOk result (IsTrue self.new.ended ⊎ (length self.old.held < length self.new.held)) }
-        ensures counted { OnOk result (RoseBy (self.old.left - self.new.left) (S.taken shelf.old) (S.taken shelf.new)) }
-        ensures failed { IfErr result (λ e.
-            Fails e self.old.left (S.rest shelf.old) (S.taken shelf.old) (S.taken shelf.new) (S.faults shelf.old) (S.faults shelf.new)) }
-        ensures same_files { S.files shelf.new ≡ S.files shelf.old }
-        ensures same_names { S.admits shelf.new ≡ S.admits shelf.old }
-        ensures same_telling { is_some (S.rest shelf.new) ≡ is_some (S.rest shelf.old) }
-        ensures taken_grows { Grows (S.taken shelf.old) (S.taken shelf.new) }
-        ensures faults_grow { Grows (S.faults shelf.old) (S.faults shelf.new) }
+        ensures counted { OnOk result (RoseBy (self.old.left - self.new.left) (S.told shelf.old).taken (S.told shelf.new).taken) }
+        ensures failed { IfErr result (λ e. Fails e self.old.left (S.told shelf.old) (S.told shelf.new)) }
+        ensures kept { Keeps (S.told shelf.old) (S.told shelf.new) }
     {
         match self.held.take_from(shelf) {
             Ok(0) => {

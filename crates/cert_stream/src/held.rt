@@ -1,9 +1,8 @@
 //! Bytes that are taken from an opened file and not read.
 
 ghost use Rattle.std.specs.Prelude.{◌≡◌, ◌-◌, ◌<◌, ◌≤◌, List, ℕ, [], length, drop, IfOk, OnErr};
-ghost use Rattle.std.specs.Option.{is_some};
-ghost use Rattle.edge_io.specs.Counts.{Grows, Rose, RoseBy};
-ghost use Rattle.shelf_calls.specs.Opened.{IsUsedUp};
+ghost use Rattle.edge_io.specs.Counts.{Rose, RoseBy};
+ghost use Rattle.shelf_calls.specs.Told.{Keeps};
 ghost use Rattle.cert_stream.specs.Rooms.{IsHandedOut};
 
 use shelf_calls::{ReadFailed, Shelf};
@@ -77,14 +76,10 @@ impl Held {
     /// where the shelf failed.
     pub(crate) fn take_from<S: Shelf>(&mut self, shelf: &mut S) -> Result<usize, ReadFailed>
         requires { length self.old < 65536 }
-        ensures handed { IfOk result (IsHandedOut self.old (S.rest shelf.old) self.new (S.rest shelf.new)) }
-        ensures counted { IfOk result (λ n. RoseBy n (S.taken shelf.old) (S.taken shelf.new)) }
-        ensures failed { OnErr result (Rose (S.faults shelf.old) (S.faults shelf.new)) }
-        ensures same_files { S.files shelf.new ≡ S.files shelf.old }
-        ensures same_names { S.admits shelf.new ≡ S.admits shelf.old }
-        ensures same_telling { is_some (S.rest shelf.new) ≡ is_some (S.rest shelf.old) }
-        ensures taken_grows { Grows (S.taken shelf.old) (S.taken shelf.new) }
-        ensures faults_grow { Grows (S.faults shelf.old) (S.faults shelf.new) }
+        ensures handed { IfOk result (IsHandedOut self.old (S.told shelf.old).rest self.new (S.told shelf.new).rest) }
+        ensures counted { IfOk result (λ n. RoseBy n (S.told shelf.old).taken (S.told shelf.new).taken) }
+        ensures failed { OnErr result (Rose (S.told shelf.old).faults (S.told shelf.new).faults) }
+        ensures kept { Keeps (S.told shelf.old) (S.told shelf.new) }
     {
         let held = self.to - self.from;
         self.buffer.copy_within(self.from..self.to, 0);

@@ -64,11 +64,11 @@ pub fn check<S: Shelf, K: Sink>(
     shelf: &mut S,
     out: &mut K,
 ) -> CheckOutcome
-    requires network { IsTrue (S.admits shelf.old net.now) }
-    requires certificate { (network : ANetwork) → ReadsUnder (S.files shelf.old) net.now network → IsTrue (S.admits shelf.old cert.now) }
-    ensures took { Took (ChecksAs (S.files shelf.old) net.now cert.now) (check_status result) (K.taken out.old) (K.taken out.new) }
-    ensures ends { CheckEnds (S.files shelf.old) net.now cert.now (S.taken shelf.old) (S.taken shelf.new) (check_status result) }
-    ensures read_fault { check_status result ≡ Status.ReadFault → Rose (S.faults shelf.old) (S.faults shelf.new) }
+    requires network { IsTrue ((S.told shelf.old).admits net.now) }
+    requires certificate { (network : ANetwork) → ReadsUnder (S.told shelf.old).files net.now network → IsTrue ((S.told shelf.old).admits cert.now) }
+    ensures took { Took (ChecksAs (S.told shelf.old).files net.now cert.now) (check_status result) (K.taken out.old) (K.taken out.new) }
+    ensures ends { CheckEnds (S.told shelf.old).files net.now cert.now (S.told shelf.old).taken (S.told shelf.new).taken (check_status result) }
+    ensures read_fault { check_status result ≡ Status.ReadFault → Rose (S.told shelf.old).faults (S.told shelf.new).faults }
     ensures write_fault { check_status result ≡ Status.WriteFault → Rose (K.faults out.old) (K.faults out.new) }
 {
     match network_under(alloc, net, shelf) {
@@ -85,11 +85,11 @@ fn check_file<S: Shelf, K: Sink>(
     shelf: &mut S,
     out: &mut K,
 ) -> CheckOutcome
-    requires { IsTrue (S.admits shelf.old cert.now) }
-    ensures took { (net : List ℕ) → ReadsUnder (S.files shelf.old) net network.now → Took (ChecksAs (S.files shelf.old) net cert.now) (check_status result) (K.taken out.old) (K.taken out.new) }
-    ensures ends { (net : List ℕ) (before : ℕ) → ReadsUnder (S.files shelf.old) net network.now → Grows before (S.taken shelf.old)
-        → CheckEnds (S.files shelf.old) net cert.now before (S.taken shelf.new) (check_status result) }
-    ensures read_fault { check_status result ≡ Status.ReadFault → Rose (S.faults shelf.old) (S.faults shelf.new) }
+    requires { IsTrue ((S.told shelf.old).admits cert.now) }
+    ensures took { (net : List ℕ) → ReadsUnder (S.told shelf.old).files net network.now → Took (ChecksAs (S.told shelf.old).files net cert.now) (check_status result) (K.taken out.old) (K.taken out.new) }
+    ensures ends { (net : List ℕ) (before : ℕ) → ReadsUnder (S.told shelf.old).files net network.now → Grows before (S.told shelf.old).taken
+        → CheckEnds (S.told shelf.old).files net cert.now before (S.told shelf.new).taken (check_status result) }
+    ensures read_fault { check_status result ≡ Status.ReadFault → Rose (S.told shelf.old).faults (S.told shelf.new).faults }
     ensures write_fault { check_status result ≡ Status.WriteFault → Rose (K.faults out.old) (K.faults out.new) }
 {
     match shelf.open_read(alloc, cert) {
@@ -106,9 +106,9 @@ fn check_opened<S: Shelf, K: Sink>(
     shelf: &mut S,
     out: &mut K,
 ) -> CheckOutcome
-    ensures took { Took (LineOnRest (net_of network.now) (S.rest shelf.old)) (check_status result) (K.taken out.old) (K.taken out.new) }
-    ensures ends { OpenedEnds (net_of network.now) (S.rest shelf.old) (S.taken shelf.old) (S.taken shelf.new) (check_status result) }
-    ensures read_fault { check_status result ≡ Status.ReadFault → Rose (S.faults shelf.old) (S.faults shelf.new) }
+    ensures took { Took (LineOnRest (net_of network.now) (S.told shelf.old).rest) (check_status result) (K.taken out.old) (K.taken out.new) }
+    ensures ends { OpenedEnds (net_of network.now) (S.told shelf.old).rest (S.told shelf.old).taken (S.told shelf.new).taken (check_status result) }
+    ensures read_fault { check_status result ≡ Status.ReadFault → Rose (S.told shelf.old).faults (S.told shelf.new).faults }
     ensures write_fault { check_status result ≡ Status.WriteFault → Rose (K.faults out.old) (K.faults out.new) }
 {
     match check_stream(alloc, network, shelf, MOST_BYTES as u64) {

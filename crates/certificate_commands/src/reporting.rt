@@ -65,11 +65,11 @@ pub fn report<S: Shelf, K: Sink>(
     shelf: &mut S,
     out: &mut K,
 ) -> ReportOutcome
-    requires network { IsTrue (S.admits shelf.old net.now) }
-    requires certificate { (network : ANetwork) → ReadsUnder (S.files shelf.old) net.now network → IsTrue (S.admits shelf.old cert.now) }
-    ensures took { Took (ReportsAs (S.files shelf.old) net.now cert.now) (report_status result) (K.taken out.old) (K.taken out.new) }
-    ensures ends { ReportEnds (S.files shelf.old) net.now cert.now (S.taken shelf.old) (S.taken shelf.new) (report_status result) }
-    ensures read_fault { report_status result ≡ Status.ReadFault → Rose (S.faults shelf.old) (S.faults shelf.new) }
+    requires network { IsTrue ((S.told shelf.old).admits net.now) }
+    requires certificate { (network : ANetwork) → ReadsUnder (S.told shelf.old).files net.now network → IsTrue ((S.told shelf.old).admits cert.now) }
+    ensures took { Took (ReportsAs (S.told shelf.old).files net.now cert.now) (report_status result) (K.taken out.old) (K.taken out.new) }
+    ensures ends { ReportEnds (S.told shelf.old).files net.now cert.now (S.told shelf.old).taken (S.told shelf.new).taken (report_status result) }
+    ensures read_fault { report_status result ≡ Status.ReadFault → Rose (S.told shelf.old).faults (S.told shelf.new).faults }
     ensures write_fault { report_status result ≡ Status.WriteFault → Rose (K.faults out.old) (K.faults out.new) }
 {
     match network_under(alloc, net, shelf) {
@@ -86,11 +86,11 @@ fn report_file<S: Shelf, K: Sink>(
     shelf: &mut S,
     out: &mut K,
 ) -> ReportOutcome
-    requires { IsTrue (S.admits shelf.old cert.now) }
-    ensures took { (net : List ℕ) → ReadsUnder (S.files shelf.old) net network.now → Took (ReportsAs (S.files shelf.old) net cert.now) (report_status result) (K.taken out.old) (K.taken out.new) }
-    ensures ends { (net : List ℕ) (before : ℕ) → ReadsUnder (S.files shelf.old) net network.now → Grows before (S.taken shelf.old)
-        → ReportEnds (S.files shelf.old) net cert.now before (S.taken shelf.new) (report_status result) }
-    ensures read_fault { report_status result ≡ Status.ReadFault → Rose (S.faults shelf.old) (S.faults shelf.new) }
+    requires { IsTrue ((S.told shelf.old).admits cert.now) }
+    ensures took { (net : List ℕ) → ReadsUnder (S.told shelf.old).files net network.now → Took (ReportsAs (S.told shelf.old).files net cert.now) (report_status result) (K.taken out.old) (K.taken out.new) }
+    ensures ends { (net : List ℕ) (before : ℕ) → ReadsUnder (S.told shelf.old).files net network.now → Grows before (S.told shelf.old).taken
+        → ReportEnds (S.told shelf.old).files net cert.now before (S.told shelf.new).taken (report_status result) }
+    ensures read_fault { report_status result ≡ Status.ReadFault → Rose (S.told shelf.old).faults (S.told shelf.new).faults }
     ensures write_fault { report_status result ≡ Status.WriteFault → Rose (K.faults out.old) (K.faults out.new) }
 {
     match shelf.read_all(alloc, cert, MOST_BYTES) {

@@ -41,20 +41,20 @@ pub fn run<S: Shelf, K: Sink, D: Disk>(
     out: &mut K,
     disk: &mut D,
 ) -> Status
-    requires solve { (s : Solving) → Asks (map string_bytes words.now) (solve s) → IsTrue (S.admits shelf.old s.net) }
-    requires check { (net cert : List ℕ) → Asks (map string_bytes words.now) (check net cert) → IsTrue (S.admits shelf.old net) }
+    requires solve { (s : Solving) → Asks (map string_bytes words.now) (solve s) → IsTrue ((S.told shelf.old).admits s.net) }
+    requires check { (net cert : List ℕ) → Asks (map string_bytes words.now) (check net cert) → IsTrue ((S.told shelf.old).admits net) }
 
-    requires report { (net cert : List ℕ) → Asks (map string_bytes words.now) (report net cert) → IsTrue (S.admits shelf.old net) }
+    requires report { (net cert : List ℕ) → Asks (map string_bytes words.now) (report net cert) → IsTrue ((S.told shelf.old).admits net) }
 
-    requires formulate { (net : List ℕ) (form : Form) → Asks (map string_bytes words.now) (formulate net form) → IsTrue (S.admits shelf.old net) }
+    requires formulate { (net : List ℕ) (form : Form) → Asks (map string_bytes words.now) (formulate net form) → IsTrue ((S.told shelf.old).admits net) }
 
     // Promise: CERT is asked for only where a network is read from NET
     requires certificate { (net cert : List ℕ) (network : Network) → Asks (map string_bytes words.now) (check net cert)
-        → ReadsUnder (S.files shelf.old) net network → IsTrue (S.admits shelf.old cert) }
+        → ReadsUnder (S.told shelf.old).files net network → IsTrue ((S.told shelf.old).admits cert) }
 
     // Promise: CERT is asked for only where a network is read from NET
     requires reported { (net cert : List ℕ) (network : Network) → Asks (map string_bytes words.now) (report net cert)
-        → ReadsUnder (S.files shelf.old) net network → IsTrue (S.admits shelf.old cert) }
+        → ReadsUnder (S.told shelf.old).files net network → IsTrue ((S.told shelf.old).admits cert) }
 
     // Promise: The disk is asked for the file of `--journal` alone
     requires journal { (s : Solving) (file : List ℕ) → Asks (map string_bytes words.now) (solve s) → s.journal ≡ Some file → IsTrue (D.admits disk.old file) }
@@ -65,7 +65,7 @@ pub fn run<S: Shelf, K: Sink, D: Disk>(
     // Promise: Under the statuses 0, 10, 11, 12 and 13 of `solve` the sink took exactly the text of one certificate; under 0 and 1 of
     //   `check`, and under 1 of `report`, exactly its line; under 0 of `report`, `formulate`, `make` and `trial` exactly the report, the
     //   program, the network and the four lines; under 21 a front of such a text; under every other status nothing
-    ensures took { (asked : Asked) → Asks (map string_bytes words.now) asked → Took (AnswersAs (S.files shelf.old) asked) result (K.taken out.old) (K.taken out.new) }
+    ensures took { (asked : Asked) → Asks (map string_bytes words.now) asked → Took (AnswersAs (S.told shelf.old).files asked) result (K.taken out.old) (K.taken out.new) }
     // Promise: Under 2 and 23 nothing was printed, whatever the words
     ensures unanswered { IsUnanswered result → K.taken out.new ≡ K.taken out.old }
 
@@ -76,10 +76,10 @@ pub fn run<S: Shelf, K: Sink, D: Disk>(
     ensures asked { IsUnanswered result ⊎ ((asked : Asked) × Asks (map string_bytes words.now) asked) }
 
     // When each status comes, and by what the told files say which one does, where the run isn't cut short.
-    ensures ends { (asked : Asked) → Asks (map string_bytes words.now) asked → EndsAs (S.files shelf.old) (S.taken shelf.old) (S.taken shelf.new) asked result }
-    ensures decided { (told : Files) (asked : Asked) → S.files shelf.old ≡ Some told → Asks (map string_bytes words.now) asked → DecidedAs told asked result }
+    ensures ends { (asked : Asked) → Asks (map string_bytes words.now) asked → EndsAs (S.told shelf.old).files (S.told shelf.old).taken (S.told shelf.new).taken asked result }
+    ensures decided { (told : Files) (asked : Asked) → (S.told shelf.old).files ≡ Some told → Asks (map string_bytes words.now) asked → DecidedAs told asked result }
     // Promise: Status 20 comes only where the shelf's count of faults rose
-    ensures read_fault { result ≡ Status.ReadFault → Rose (S.faults shelf.old) (S.faults shelf.new) }
+    ensures read_fault { result ≡ Status.ReadFault → Rose (S.told shelf.old).faults (S.told shelf.new).faults }
     // Promise: Status 21 comes only where the sink's count of faults rose
     ensures write_fault { result ≡ Status.WriteFault → Rose (K.faults out.old) (K.faults out.new) }
     // Promise: Status 22 comes only where the disk's count of faults rose
@@ -88,7 +88,7 @@ pub fn run<S: Shelf, K: Sink, D: Disk>(
     // What a crash at any moment leaves of the journal, what the journal holds at the end, and when it is refused. Without a journal the
     // disk is not touched.
     ensures journal { (s : Solving) (file : List ℕ) → Asks (map string_bytes words.now) (solve s) → s.journal ≡ Some file → IsTrue (D.tells disk.old) →
-        Journaled (S.files shelf.old) s (LeavesOnly D.moment D.left_since disk.old disk.new) (D.may_leave disk.old) (D.reads disk.new) (D.may_leave disk.new)
+        Journaled (S.told shelf.old).files s (LeavesOnly D.moment D.left_since disk.old disk.new) (D.may_leave disk.old) (D.reads disk.new) (D.may_leave disk.new)
         result (λ c. K.taken out.new ≡ behind (K.taken out.old) (text_of c)) }
     // Promise: Without `--journal` the disk is not touched
     ensures apart { (asked : Asked) → Asks (map string_bytes words.now) asked → HasNoJournal asked → disk.new ≡ disk.old }
@@ -119,13 +119,13 @@ fn answer<S: Shelf, K: Sink, D: Disk>(
     out: &mut K,
     disk: &mut D,
 ) -> Status
-    requires { IsAdmitted (λ name. IsTrue (S.admits shelf.old name)) (λ name. IsTrue (D.admits disk.old name)) (S.files shelf.old) (shown_request request) }
-    ensures took { Took (AnswersAs (S.files shelf.old) (shown_request request)) result (K.taken out.old) (K.taken out.new) }
-    ensures ends { EndsAs (S.files shelf.old) (S.taken shelf.old) (S.taken shelf.new) (shown_request request) result }
-    ensures read_fault { result ≡ Status.ReadFault → Rose (S.faults shelf.old) (S.faults shelf.new) }
+    requires { IsAdmitted (λ name. IsTrue ((S.told shelf.old).admits name)) (λ name. IsTrue (D.admits disk.old name)) (S.told shelf.old).files (shown_request request) }
+    ensures took { Took (AnswersAs (S.told shelf.old).files (shown_request request)) result (K.taken out.old) (K.taken out.new) }
+    ensures ends { EndsAs (S.told shelf.old).files (S.told shelf.old).taken (S.told shelf.new).taken (shown_request request) result }
+    ensures read_fault { result ≡ Status.ReadFault → Rose (S.told shelf.old).faults (S.told shelf.new).faults }
     ensures write_fault { result ≡ Status.WriteFault → Rose (K.faults out.old) (K.faults out.new) }
     ensures disk_fault { result ≡ Status.DiskFault → Rose (D.faults disk.old) (D.faults disk.new) }
-    ensures journal { IsTrue (D.tells disk.old) → JournalsAs (λ s. Journaled (S.files shelf.old) s
+    ensures journal { IsTrue (D.tells disk.old) → JournalsAs (λ s. Journaled (S.told shelf.old).files s
         (LeavesOnly D.moment D.left_since disk.old disk.new) (D.may_leave disk.old) (D.reads disk.new) (D.may_leave disk.new)
         result (λ c. K.taken out.new ≡ behind (K.taken out.old) (text_of c))) (shown_request request) }
     ensures apart { HasNoJournal (shown_request request) → disk.new ≡ disk.old }

@@ -48,10 +48,10 @@ pub(crate) fn formulate<S: Shelf, K: Sink>(
     shelf: &mut S,
     out: &mut K,
 ) -> FormulateOutcome
-    requires { IsTrue (S.admits shelf.old name.now) }
-    ensures took { Took (FormulatesAs (S.files shelf.old) name.now form) (formulate_status result) (K.taken out.old) (K.taken out.new) }
-    ensures ends { FormulateEnds (S.files shelf.old) name.now (S.taken shelf.old) (S.taken shelf.new) (formulate_status result) }
-    ensures read_fault { formulate_status result ≡ Status.ReadFault → Rose (S.faults shelf.old) (S.faults shelf.new) }
+    requires { IsTrue ((S.told shelf.old).admits name.now) }
+    ensures took { Took (FormulatesAs (S.told shelf.old).files name.now form) (formulate_status result) (K.taken out.old) (K.taken out.new) }
+    ensures ends { FormulateEnds (S.told shelf.old).files name.now (S.told shelf.old).taken (S.told shelf.new).taken (formulate_status result) }
+    ensures read_fault { formulate_status result ≡ Status.ReadFault → Rose (S.told shelf.old).faults (S.told shelf.new).faults }
     ensures write_fault { formulate_status result ≡ Status.WriteFault → Rose (K.faults out.old) (K.faults out.new) }
 {
     match network_under(alloc, name, shelf) {

@@ -4,6 +4,7 @@ use Rattle.std.specs.Prelude.{codes}
 use Rattle.std.specs.Prelude.{IfOk, OnOk}
 use Rattle.edge_io.specs.Counts.{Rose, RoseBy}
 use Rattle.shelf_calls.specs.Opened.{IsUsedUp}
+use Rattle.shelf_calls.specs.Told.{Keeps}
 use Rattle.cert_text.specs.declared.pieces.Ends.TheVariants.{Space, Line, LineIfZero}
 use Rattle.cert_text.specs.Reading.{At, ◌>>=◌, word_at, same_at, end_of, ends_before, u32_at, u64_at, i128_at}
 use Rattle.cert_text.proofs.Laws.{done, ok_is, bind_ok}
@@ -21,7 +22,7 @@ use Rattle.cert_stream.specs.Items.{shown_item, kind_number, cuts_left, proofs_l
 use Rattle.cert_stream.specs.Items.{weight_words_at, begin_at, shape_step_at, bases_step_at, weight_step_at, outflow_step_at, direct_step_at, head_step_at}
 use Rattle.cert_stream.specs.Items.{claim_step_at, next_at}
 use Rattle.cert_stream.specs.Streams.{at_of, GivesItem, GivesFault, IsMore, TookMore}
-use Rattle.proof_lines.specs.Runs.{Moment, Kept, Run}
+use Rattle.proof_lines.specs.Runs.{Moment, Run}
 use Rattle.proof_lines.specs.Grammar.{kind_of, outflows_left, weights_left, MayCome, behind_item, Came}
 use Rattle.cert_stream.proofs.Calls.{ran-one}
 use Rattle.proof_lines.proofs.Running.{fault-later}
@@ -156,8 +157,8 @@ next-fits states.End a b i t going e = in_claim states.End a b i t going e
 next-fits states.Ended a b i t going e = absurd (going refl)
 
 -- what a call gave, as the item that came
-pub item-came : (m k : Moment) (item : Item) → m.reader.state ≢ states.Ended → Kept m k → GivesItem m.reader m.rest k.reader k.rest item
-    → RoseBy (m.reader.left - k.reader.left) m.taken k.taken → Came m k (Ok item)
+pub item-came : (m k : Moment) (item : Item) → m.reader.state ≢ states.Ended → Keeps m.shelf k.shelf → GivesItem m.reader m.shelf.rest k.reader k.shelf.rest item
+    → RoseBy (m.reader.left - k.reader.left) m.shelf.taken k.shelf.taken → Came m k (Ok item)
 item-came m k item going kept gives counted =
     let f = next-fits m.reader.state (at_of m.reader (gives.took.taken ++ [])) (at_of k.reader []) (shown_item item) k.reader.state going (gives.reads [] (λ e. refl)) in (
       record { kept = kept; ran = ran-one item going gives; counted = counted },
@@ -167,10 +168,10 @@ item-came m k item going kept gives counted =
     )
 
 -- what a call answered, whatever it was
-pub call-came : (m k : Moment) (result : Result Item ItemFault) → m.reader.state ≢ states.Ended → (IsTrue m.reader.ended → IsUsedUp m.rest) → Kept m k
-    → IfOk result (GivesItem m.reader m.rest k.reader k.rest) → OnOk result (RoseBy (m.reader.left - k.reader.left) m.taken k.taken)
-    → ((f : TextFault) → result ≡ Err (faults.Text f) → GivesFault m.reader m.rest k.reader k.rest f) → (result ≡ Err faults.TooLong → IsMore m.reader.left m.rest)
-    → (result ≡ Err faults.TooLong → TookMore m.reader.left m.taken k.taken) → (result ≡ Err faults.Read → Rose m.faults k.faults) → Came m k result
+pub call-came : (m k : Moment) (result : Result Item ItemFault) → m.reader.state ≢ states.Ended → (IsTrue m.reader.ended → IsUsedUp m.shelf.rest) → Keeps m.shelf k.shelf
+    → IfOk result (GivesItem m.reader m.shelf.rest k.reader k.shelf.rest) → OnOk result (RoseBy (m.reader.left - k.reader.left) m.shelf.taken k.shelf.taken)
+    → ((f : TextFault) → result ≡ Err (faults.Text f) → GivesFault m.reader m.shelf.rest k.reader k.shelf.rest f) → (result ≡ Err faults.TooLong → IsMore m.reader.left m.shelf.rest)
+    → (result ≡ Err faults.TooLong → TookMore m.reader.left m.shelf.taken k.shelf.taken) → (result ≡ Err faults.Read → Rose m.shelf.faults k.shelf.faults) → Came m k result
 call-came m k (Ok item) going used kept gives counted text long more read = item-came m k item going kept gives counted
 call-came m k (Err faults.Read) going used kept gives counted text long more read = record { kept = kept; why = read refl }
 call-came m k (Err faults.TooLong) going used kept gives counted text long more read = record { kept = kept; why = (long refl, more refl) }

@@ -1,7 +1,9 @@
 -- Runs of a reader over a shelf, put together.
-use Rattle.std.proofs.Common.{IsTrue, List, [], ◌++◌, inl, refl, ◌∙◌, arith}
+use Rattle.std.proofs.Common.{IsTrue, List, [], ◌++◌, inl, arith}
 use Rattle.shelf_calls.specs.Opened.{IsUsedUp}
-use Rattle.edge_io.proofs.Counting.{grows-same, grows-then, rose-behind}
+use Rattle.shelf_calls.specs.Told.{Keeps}
+use Rattle.shelf_calls.proofs.Keeping.{keeps-same, keeps-then}
+use Rattle.edge_io.proofs.Counting.{rose-behind}
 use Rattle.cert_text.specs.declared.fault.TextFault.{TextFault}
 use Rattle.cert_stream.specs.declared.fault.ItemFault.{ItemFault}
 use Rattle.cert_stream.specs.declared.fault.ItemFault.TheVariants as faults
@@ -12,33 +14,21 @@ use Rattle.proof_lines.specs.declared.refusal.Refusal.{Refusal}
 use Rattle.proof_lines.specs.declared.refusal.Refusal.TheVariants.{Text, Memory as NoMemory}
 use Rattle.proof_lines.specs.declared.stream_refusal.StreamRefusal.{StreamRefusal}
 use Rattle.proof_lines.specs.declared.stream_refusal.StreamRefusal.TheVariants.{Read, TooLong, Refused, Memory}
-use Rattle.proof_lines.specs.Runs.{Moment, Kept, Run, IsWhy, Failed, Found, IsCause, Halts, of_fault}
+use Rattle.proof_lines.specs.Runs.{Moment, Run, IsWhy, Failed, Found, IsCause, Halts, of_fault}
 
-pub kept-same : (m : Moment) → Kept m m
-kept-same m = record { same_files = refl; same_names = refl; same_telling = refl; taken_grows = grows-same m.taken; faults_grow = grows-same m.faults }
-
-pub kept-then : (m k l : Moment) → Kept m k → Kept k l → Kept m l
-kept-then m k l a b = record {
-  same_files = b.same_files ∙ a.same_files;
-  same_names = b.same_names ∙ a.same_names;
-  same_telling = b.same_telling ∙ a.same_telling;
-  taken_grows = grows-then m.taken k.taken l.taken a.taken_grows b.taken_grows;
-  faults_grow = grows-then m.faults k.faults l.faults a.faults_grow b.faults_grow;
-}
-
-pub run-none : (m : Moment) → (IsTrue m.reader.ended → IsUsedUp m.rest) → Run m m []
-run-none m used = record { kept = kept-same m; ran = ran-none m.reader m.rest used; counted = inl (omega arith) }
+pub run-none : (m : Moment) → (IsTrue m.reader.ended → IsUsedUp m.shelf.rest) → Run m m []
+run-none m used = record { kept = keeps-same m.shelf; ran = ran-none m.reader m.shelf.rest used; counted = inl (omega arith) }
 
 pub run-then : (m k l : Moment) (is js : List Field) → Run m k is → Run k l js → Run m l (is ++ js)
 run-then m k l is js a b = record {
-  kept = kept-then m k l a.kept b.kept;
+  kept = keeps-then a.kept b.kept;
   ran = ran-then is js a.ran b.ran;
-  counted = rose-then m.reader.left k.reader.left l.reader.left m.taken k.taken l.taken (omega (arith, a.ran.took.within)) (omega (arith, b.ran.took.within)) a.counted b.counted b.kept.taken_grows;
+  counted = rose-then m.reader.left k.reader.left l.reader.left m.shelf.taken k.shelf.taken l.shelf.taken (omega (arith, a.ran.took.within)) (omega (arith, b.ran.took.within)) a.counted b.counted b.kept.taken_grows;
 }
 
 -- ---- faults behind a run
 
-later-then : (m k l : Moment) (is : List Field) (f : TextFault) → Run m k is → FailsLater k.reader k.rest l.reader l.rest f → FailsLater m.reader m.rest l.reader l.rest f
+later-then : (m k l : Moment) (is : List Field) (f : TextFault) → Run m k is → FailsLater k.reader k.shelf.rest l.reader l.shelf.rest f → FailsLater m.reader m.shelf.rest l.reader l.shelf.rest f
 later-then m k l is f a b = record {
   items = is ++ b.items;
   before = b.before;
@@ -47,16 +37,16 @@ later-then m k l is f a b = record {
   fault_is = b.fault_is;
 }
 
-long-then : (m k l : Moment) (is : List Field) → Run m k is → Kept k l → (IsMore k.reader.left k.rest × TookMore k.reader.left k.taken l.taken)
-    → IsMore m.reader.left m.rest × TookMore m.reader.left m.taken l.taken
+long-then : (m k l : Moment) (is : List Field) → Run m k is → Keeps k.shelf l.shelf → (IsMore k.reader.left k.shelf.rest × TookMore k.reader.left k.shelf.taken l.shelf.taken)
+    → IsMore m.reader.left m.shelf.rest × TookMore m.reader.left m.shelf.taken l.shelf.taken
 long-then m k l is a kept why =
-    (more-then a.ran.took why.0, took-more-then m.reader.left k.reader.left m.taken k.taken l.taken (omega (arith, a.ran.took.within)) a.counted why.1 kept.taken_grows)
+    (more-then a.ran.took why.0, took-more-then m.reader.left k.reader.left m.shelf.taken k.shelf.taken l.shelf.taken (omega (arith, a.ran.took.within)) a.counted why.1 kept.taken_grows)
 
 pub failed-then : (m k l : Moment) (is : List Field) (fault : ItemFault) → Run m k is → Failed k l fault → Failed m l fault
-failed-then m k l is fault a b = record { kept = kept-then m k l a.kept b.kept; why = cases fault b.why }
+failed-then m k l is fault a b = record { kept = keeps-then a.kept b.kept; why = cases fault b.why }
   where
     cases : (fault : ItemFault) → IsWhy k l fault → IsWhy m l fault
-    cases faults.Read why = rose-behind m.faults k.faults l.faults a.kept.faults_grow why
+    cases faults.Read why = rose-behind m.shelf.faults k.shelf.faults l.shelf.faults a.kept.faults_grow why
     cases faults.TooLong why = long-then m k l is a b.kept why
     cases (faults.Text f) why = later-then m k l is f a why
 
@@ -72,7 +62,7 @@ found-then P Q m k l is r more a b = record {
 
 pub halts-then : (P Q : List Field → Refusal → Type 0) (m k l : Moment) (is : List Field) (r : StreamRefusal)
     → ((rest : List Field) (c : Refusal) → P rest c → Q (is ++ rest) c) → Run m k is → Halts P k l r → Halts Q m l r
-halts-then P Q m k l is r more a b = record { kept = kept-then m k l a.kept b.kept; cause = cases r b.cause }
+halts-then P Q m k l is r more a b = record { kept = keeps-then a.kept b.kept; cause = cases r b.cause }
   where
     refused : (c : Refusal) → IsCause P k l (Refused c) → IsCause Q m l (Refused c)
     refused (Text f) why = later-then m k l is f a why
@@ -80,7 +70,7 @@ halts-then P Q m k l is r more a b = record { kept = kept-then m k l a.kept b.ke
     refused _ why = found-then P Q m k l is _ (λ rest. more rest _) a why
 
     cases : (r : StreamRefusal) → IsCause P k l r → IsCause Q m l r
-    cases Read why = rose-behind m.faults k.faults l.faults a.kept.faults_grow why
+    cases Read why = rose-behind m.shelf.faults k.shelf.faults l.shelf.faults a.kept.faults_grow why
     cases TooLong why = long-then m k l is a b.kept why
     cases (Refused c) why = refused c why
     cases Memory why = tt
@@ -92,10 +82,10 @@ failed-halts P m k faults.TooLong b = record { kept = b.kept; cause = b.why }
 failed-halts P m k (faults.Text f) b = record { kept = b.kept; cause = b.why }
 
 -- want of memory
-pub memory-halts : (P : List Field → Refusal → Type 0) (m k : Moment) → Kept m k → Halts P m k Memory
+pub memory-halts : (P : List Field → Refusal → Type 0) (m k : Moment) → Keeps m.shelf k.shelf → Halts P m k Memory
 memory-halts P m k kept = record { kept = kept; cause = tt }
 
 -- ---- one call
 
-pub fault-later : (m k : Moment) (f : TextFault) → (IsTrue m.reader.ended → IsUsedUp m.rest) → GivesFault m.reader m.rest k.reader k.rest f → FailsLater m.reader m.rest k.reader k.rest f
-fault-later m k f used gives = record { items = []; before = m.reader; rest_before = m.rest; ran = ran-none m.reader m.rest used; fault_is = gives }
+pub fault-later : (m k : Moment) (f : TextFault) → (IsTrue m.reader.ended → IsUsedUp m.shelf.rest) → GivesFault m.reader m.shelf.rest k.reader k.shelf.rest f → FailsLater m.reader m.shelf.rest k.reader k.shelf.rest f
+fault-later m k f used gives = record { items = []; before = m.reader; rest_before = m.shelf.rest; ran = ran-none m.reader m.shelf.rest used; fault_is = gives }

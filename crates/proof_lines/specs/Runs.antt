@@ -1,8 +1,8 @@
 -- A run of a reader over the opened file of a shelf: what it took of the file, and which items it read.
-use Rattle.std.specs.Prelude.{◌≡◌, ◌≢◌, ℕ, ◌-◌, Bool, IsTrue, List, Option}
-use Rattle.std.specs.Option.{is_some}
-use Rattle.edge_io.specs.Counts.{Grows, Rose, RoseBy}
+use Rattle.std.specs.Prelude.{◌≡◌, ◌≢◌, ◌-◌, IsTrue, List}
+use Rattle.edge_io.specs.Counts.{Rose, RoseBy}
 use Rattle.shelf_calls.specs.Opened.{IsUsedUp}
+use Rattle.shelf_calls.specs.Told.{ShelfTold, Keeps}
 use Rattle.cert_stream.specs.declared.fault.ItemFault.{ItemFault}
 use Rattle.cert_stream.specs.declared.fault.ItemFault.TheVariants as faults
 use Rattle.cert_items.specs.declared.items.State.{State}
@@ -14,48 +14,35 @@ use Rattle.proof_lines.specs.declared.refusal.Refusal.TheVariants.{Text, Memory 
 use Rattle.proof_lines.specs.declared.stream_refusal.StreamRefusal.{StreamRefusal}
 use Rattle.proof_lines.specs.declared.stream_refusal.StreamRefusal.TheVariants.{Read, TooLong, Refused, Memory}
 
--- where a run stands: its reader, what the shelf tells, and the shelf's counts
+-- where a run stands: its reader, and what the shelf tells
 pub record Moment : Type 0 where
   pub reader : Reader
-  pub files : Option (List (List ℕ × List ℕ))
-  pub admits : List ℕ → Bool
-  pub rest : Option (List ℕ)
-  pub taken : ℕ
-  pub faults : ℕ
+  pub shelf : ShelfTold
 
 -- the moment of a reader and a shelf
-abbrev pub moment : {S : Type 0} → (S → Option (List (List ℕ × List ℕ))) → (S → List ℕ → Bool) → (S → Option (List ℕ)) → (S → ℕ) → (S → ℕ) → Reader → S → Moment
-moment files admits rest taken faults reader shelf =
-    record { reader = reader; files = files shelf; admits = admits shelf; rest = rest shelf; taken = taken shelf; faults = faults shelf }
-
--- the shelf's files, the names that it admits and whether it tells a rest are the same, and its counts don't fall
-pub record Kept (m k : Moment) : Type 0 where
-  pub same_files : k.files ≡ m.files
-  pub same_names : k.admits ≡ m.admits
-  pub same_telling : is_some k.rest ≡ is_some m.rest
-  pub taken_grows : Grows m.taken k.taken
-  pub faults_grow : Grows m.faults k.faults
+abbrev pub moment : Reader → ShelfTold → Moment
+moment reader shelf = record { reader = reader; shelf = shelf }
 
 -- The reader read these items, and as many bytes were counted as it took.
 pub record Run (m k : Moment) (is : List Field) : Type 0 where
-  pub kept : Kept m k
-  pub ran : Ran m.reader m.rest k.reader k.rest is
-  pub counted : RoseBy (m.reader.left - k.reader.left) m.taken k.taken
+  pub kept : Keeps m.shelf k.shelf
+  pub ran : Ran m.reader m.shelf.rest k.reader k.shelf.rest is
+  pub counted : RoseBy (m.reader.left - k.reader.left) m.shelf.taken k.shelf.taken
 
 -- the text goes on with this state, and where the reader is at the end of the file nothing is left
 pub record IsReady (m : Moment) (s : State) : Type 0 where
   pub at : m.reader.state ≡ s
-  pub used_up : IsTrue m.reader.ended → IsUsedUp m.rest
+  pub used_up : IsTrue m.reader.ended → IsUsedUp m.shelf.rest
 
 -- why no item came
 abbrev pub IsWhy : Moment → Moment → ItemFault → Type 0
-IsWhy m k faults.Read = Rose m.faults k.faults
-IsWhy m k faults.TooLong = IsMore m.reader.left m.rest × TookMore m.reader.left m.taken k.taken
-IsWhy m k (faults.Text f) = FailsLater m.reader m.rest k.reader k.rest f
+IsWhy m k faults.Read = Rose m.shelf.faults k.shelf.faults
+IsWhy m k faults.TooLong = IsMore m.reader.left m.shelf.rest × TookMore m.reader.left m.shelf.taken k.shelf.taken
+IsWhy m k (faults.Text f) = FailsLater m.reader m.shelf.rest k.reader k.shelf.rest f
 
 -- a reading that failed
 pub record Failed (m k : Moment) (fault : ItemFault) : Type 0 where
-  pub kept : Kept m k
+  pub kept : Keeps m.shelf k.shelf
   pub why : IsWhy m k fault
 
 -- some items were read, and for what they are the certificate is refused; the text goes on
@@ -63,21 +50,21 @@ pub record Found (P : List Field → Refusal → Type 0) (m k : Moment) (r : Ref
   pub items : List Field
   pub run : Run m k items
   pub going : k.reader.state ≢ Ended
-  pub used_up : IsTrue k.reader.ended → IsUsedUp k.rest
+  pub used_up : IsTrue k.reader.ended → IsUsedUp k.shelf.rest
   pub found : P items r
 
 -- why a part of a certificate was not taken; want of memory says nothing, and is not a refusal
 abbrev pub IsCause : (List Field → Refusal → Type 0) → Moment → Moment → StreamRefusal → Type 0
-IsCause P m k Read = Rose m.faults k.faults
-IsCause P m k TooLong = IsMore m.reader.left m.rest × TookMore m.reader.left m.taken k.taken
-IsCause P m k (Refused (Text f)) = FailsLater m.reader m.rest k.reader k.rest f
+IsCause P m k Read = Rose m.shelf.faults k.shelf.faults
+IsCause P m k TooLong = IsMore m.reader.left m.shelf.rest × TookMore m.reader.left m.shelf.taken k.shelf.taken
+IsCause P m k (Refused (Text f)) = FailsLater m.reader m.shelf.rest k.reader k.shelf.rest f
 IsCause P m k (Refused NoMemory) = ⊥
 IsCause P m k (Refused r) = Found P m k r
 IsCause P m k Memory = Unit {0}
 
 -- a part of a certificate that was not taken
 pub record Halts (P : List Field → Refusal → Type 0) (m k : Moment) (r : StreamRefusal) : Type 0 where
-  pub kept : Kept m k
+  pub kept : Keeps m.shelf k.shelf
   pub cause : IsCause P m k r
 
 -- ---- errors that are handed on

@@ -55,10 +55,10 @@ pub(crate) fn node_bounds<S: Shelf>(
 ) -> Result<Vec<Option<i128>>, StreamRefusal>
     requires tree { IsOf (net_of net.now) tree.now }
     requires reach { reach ≡ reach_bound (net_of net.now) }
-    requires asks { (k : AKind) × IsReady (moment S.files S.admits S.rest S.taken S.faults reader.old shelf.old) (proofs_left k count) }
+    requires asks { (k : AKind) × IsReady (moment reader.old (S.told shelf.old)) (proofs_left k count) }
     ensures { (k : AKind) → reader.old.state ≡ proofs_left k count →
         Takes (λ v. IsLineList (net_of net.now) tree.now.list k count v.items) (IsWrongLineList (net_of net.now) tree.now.list count)
-        (moment S.files S.admits S.rest S.taken S.faults reader.old shelf.old) (moment S.files S.admits S.rest S.taken S.faults reader.new shelf.new) result }
+        (moment reader.old (S.told shelf.old)) (moment reader.new (S.told shelf.new)) result }
 {
     let mut judge = LineJudge::new(alloc, net)?;
     let mut least = 0;
@@ -102,11 +102,10 @@ fn check_places<S: Shelf>(
 ) -> Result<(), StreamRefusal>
     requires nodes { (list : List Split) × (nodes ≡ trees.nodes list) }
     requires order { first ≤ count }
-    requires asks { (kind : AKind) × IsReady (moment S.files S.admits S.rest S.taken S.faults reader.old shelf.old) (proofs_left kind (count - first)) }
+    requires asks { (kind : AKind) × IsReady (moment reader.old (S.told shelf.old)) (proofs_left kind (count - first)) }
     ensures { (kind : AKind) (list : List Split) (before : List ALine) → reader.old.state ≡ proofs_left kind (count - first) → nodes ≡ trees.nodes list
-        → length before ≡ first → ArePlacedTo list before least
-        → ReadsPlaces list count (claim_state kind) before (moment S.files S.admits S.rest S.taken S.faults reader.old shelf.old)
-        (moment S.files S.admits S.rest S.taken S.faults reader.new shelf.new) result }
+        → length before ≡ first → ArePlacedTo list before least → ReadsPlaces list count (claim_state kind) before (moment reader.old (S.told shelf.old))
+        (moment reader.new (S.told shelf.new)) result }
 {
     let mut least = least;
     for k in first..count {
@@ -119,10 +118,9 @@ fn check_places<S: Shelf>(
 
 /// So many parts are read, and none is kept.
 fn skip_parts<S: Shelf>(count: u32, reader: &mut CertReader, shelf: &mut S) -> Result<(), ItemFault>
-    requires asks { (kind : AKind) × (behind : ℕ) × IsReady (moment S.files S.admits S.rest S.taken S.faults reader.old shelf.old) (parts_left kind count behind) }
+    requires asks { (kind : AKind) × (behind : ℕ) × IsReady (moment reader.old (S.told shelf.old)) (parts_left kind count behind) }
     ensures { (kind : AKind) (behind : ℕ) → reader.old.state ≡ parts_left kind count behind
-        → SkipsParts count (proofs_left kind behind) (moment S.files S.admits S.rest S.taken S.faults reader.old shelf.old)
-        (moment S.files S.admits S.rest S.taken S.faults reader.new shelf.new) result }
+        → SkipsParts count (proofs_left kind behind) (moment reader.old (S.told shelf.old)) (moment reader.new (S.told shelf.new)) result }
 {
     for _ in 0..count {
         part(reader, shelf)?;
@@ -175,10 +173,9 @@ impl LineJudge {
         requires next { self.old.judge.next ≡ k }
         requires room { HasRoom (net_of net.now) self.old }
         requires fits { Fits (net_of net.now) self.old.judge.scratch }
-        requires asks { (kind : AKind) × IsReady (moment S.files S.admits S.rest S.taken S.faults reader.old shelf.old) (proofs_left kind (count - k)) }
-        ensures taken { (kind : AKind) (m : Moment) → AreLinesTaken (net_of net.now) tree.now.list kind m
-            (moment S.files S.admits S.rest S.taken S.faults reader.old shelf.old) count k least self.old.judge
-            → TakesNext (net_of net.now) tree.now.list kind m (moment S.files S.admits S.rest S.taken S.faults reader.new shelf.new) count (k + 1) self.new.judge result }
+        requires asks { (kind : AKind) × IsReady (moment reader.old (S.told shelf.old)) (proofs_left kind (count - k)) }
+        ensures taken { (kind : AKind) (m : Moment) → AreLinesTaken (net_of net.now) tree.now.list kind m (moment reader.old (S.told shelf.old)) count k least self.old.judge
+            → TakesNext (net_of net.now) tree.now.list kind m (moment reader.new (S.told shelf.new)) count (k + 1) self.new.judge result }
         ensures bounds { IfOk result (λ x. length self.new.judge.bounds.items ≡ x) }
         ensures known { IfOk result (λ x. x ≤ nodes tree.now.list) }
         ensures next { OnOk result (self.new.judge.next ≡ k + 1) }
@@ -205,10 +202,10 @@ impl LineJudge {
         shelf: &mut S,
     ) -> Result<Option<ProofFault>, ItemFault>
         requires room { self.old.rows ≤ vec_capacity self.old.proof.parts }
-        requires asks { (kind : AKind) × (behind : ℕ) × IsReady (moment S.files S.admits S.rest S.taken S.faults reader.old shelf.old) (parts_left kind line.count behind) }
+        requires asks { (kind : AKind) × (behind : ℕ) × IsReady (moment reader.old (S.told shelf.old)) (parts_left kind line.count behind) }
         ensures read { (kind : AKind) (behind : ℕ) → reader.old.state ≡ parts_left kind line.count behind
-            → ReadsParts line.count line.scale (proofs_left kind behind) self.old.rows (moment S.files S.admits S.rest S.taken S.faults reader.old shelf.old)
-            (moment S.files S.admits S.rest S.taken S.faults reader.new shelf.new) self.new.proof result }
+            → ReadsParts line.count line.scale (proofs_left kind behind) self.old.rows (moment reader.old (S.told shelf.old))
+            (moment reader.new (S.told shelf.new)) self.new.proof result }
         ensures judge { self.new.judge ≡ self.old.judge }
         ensures same_root { self.new.root ≡ self.old.root }
         ensures ends { self.new.ends ≡ self.old.ends }

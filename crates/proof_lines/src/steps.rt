@@ -24,8 +24,8 @@ pub(crate) struct LineHead {
 /// The next item, which the text may go on with.
 fn next<S: Shelf>(reader: &mut CertReader, shelf: &mut S) -> Result<Item, ItemFault>
     requires going { reader.old.state ≢ states.Ended }
-    requires used_up { IsTrue reader.old.ended → IsUsedUp (S.rest shelf.old) }
-    ensures { Came (moment S.files S.admits S.rest S.taken S.faults reader.old shelf.old) (moment S.files S.admits S.rest S.taken S.faults reader.new shelf.new) result }
+    requires used_up { IsTrue reader.old.ended → IsUsedUp (S.told shelf.old).rest }
+    ensures { Came (moment reader.old (S.told shelf.old)) (moment reader.new (S.told shelf.new)) result }
 {
     reader.next_item(shelf)
 }
@@ -33,9 +33,8 @@ fn next<S: Shelf>(reader: &mut CertReader, shelf: &mut S) -> Result<Item, ItemFa
 /// The number of the kind that is claimed.
 pub fn kind<S: Shelf>(reader: &mut CertReader, shelf: &mut S) -> Result<u8, ItemFault>
     requires asks { reader.old.state ≡ states.Begin }
-    requires used_up { IsTrue reader.old.ended → IsUsedUp (S.rest shelf.old) }
-    ensures { Reads items.kind (λ x. behind_item reader.old.state (items.kind x)) (moment S.files S.admits S.rest S.taken S.faults reader.old shelf.old)
-        (moment S.files S.admits S.rest S.taken S.faults reader.new shelf.new) result }
+    requires used_up { IsTrue reader.old.ended → IsUsedUp (S.told shelf.old).rest }
+    ensures { Reads items.kind (λ x. behind_item reader.old.state (items.kind x)) (moment reader.old (S.told shelf.old)) (moment reader.new (S.told shelf.new)) result }
 {
     match next(reader, shelf)? {
         Item::Kind(kind) => Ok(kind),
@@ -46,9 +45,8 @@ pub fn kind<S: Shelf>(reader: &mut CertReader, shelf: &mut S) -> Result<u8, Item
 /// The shape.
 pub fn shape<S: Shelf>(reader: &mut CertReader, shelf: &mut S) -> Result<[u32; 7], ItemFault>
     requires asks { (k : AKind) × (reader.old.state ≡ states.Shape k) }
-    requires used_up { IsTrue reader.old.ended → IsUsedUp (S.rest shelf.old) }
-    ensures { Reads items.shape (λ x. behind_item reader.old.state (items.shape x)) (moment S.files S.admits S.rest S.taken S.faults reader.old shelf.old)
-        (moment S.files S.admits S.rest S.taken S.faults reader.new shelf.new) result }
+    requires used_up { IsTrue reader.old.ended → IsUsedUp (S.told shelf.old).rest }
+    ensures { Reads items.shape (λ x. behind_item reader.old.state (items.shape x)) (moment reader.old (S.told shelf.old)) (moment reader.new (S.told shelf.new)) result }
 {
     match next(reader, shelf)? {
         Item::Shape(shape) => Ok(shape),
@@ -59,9 +57,8 @@ pub fn shape<S: Shelf>(reader: &mut CertReader, shelf: &mut S) -> Result<[u32; 7
 /// The bases of the plan.
 pub fn base_pair<S: Shelf>(reader: &mut CertReader, shelf: &mut S) -> Result<(u32, u32), ItemFault>
     requires asks { (feeds outs directs : ℕ) × (reader.old.state ≡ states.Bases feeds outs directs) }
-    requires used_up { IsTrue reader.old.ended → IsUsedUp (S.rest shelf.old) }
-    ensures { Reads bases_item (λ x. behind_item reader.old.state (bases_item x)) (moment S.files S.admits S.rest S.taken S.faults reader.old shelf.old)
-        (moment S.files S.admits S.rest S.taken S.faults reader.new shelf.new) result }
+    requires used_up { IsTrue reader.old.ended → IsUsedUp (S.told shelf.old).rest }
+    ensures { Reads bases_item (λ x. behind_item reader.old.state (bases_item x)) (moment reader.old (S.told shelf.old)) (moment reader.new (S.told shelf.new)) result }
 {
     match next(reader, shelf)? {
         Item::Bases(base, flow_base) => Ok((base, flow_base)),
@@ -72,9 +69,8 @@ pub fn base_pair<S: Shelf>(reader: &mut CertReader, shelf: &mut S) -> Result<(u3
 /// A weight of the plan.
 pub fn weight<S: Shelf>(reader: &mut CertReader, shelf: &mut S) -> Result<u32, ItemFault>
     requires asks { (behind outs directs : ℕ) × (reader.old.state ≡ states.Weight behind outs directs) }
-    requires used_up { IsTrue reader.old.ended → IsUsedUp (S.rest shelf.old) }
-    ensures { Reads items.weight (λ x. behind_item reader.old.state (items.weight x)) (moment S.files S.admits S.rest S.taken S.faults reader.old shelf.old)
-        (moment S.files S.admits S.rest S.taken S.faults reader.new shelf.new) result }
+    requires used_up { IsTrue reader.old.ended → IsUsedUp (S.told shelf.old).rest }
+    ensures { Reads items.weight (λ x. behind_item reader.old.state (items.weight x)) (moment reader.old (S.told shelf.old)) (moment reader.new (S.told shelf.new)) result }
 {
     match next(reader, shelf)? {
         Item::Weight(weight) => Ok(weight),
@@ -85,9 +81,8 @@ pub fn weight<S: Shelf>(reader: &mut CertReader, shelf: &mut S) -> Result<u32, I
 /// An outflow of the plan.
 pub fn outflow<S: Shelf>(reader: &mut CertReader, shelf: &mut S) -> Result<u64, ItemFault>
     requires asks { (behind directs : ℕ) × (reader.old.state ≡ states.Outflow behind directs) }
-    requires used_up { IsTrue reader.old.ended → IsUsedUp (S.rest shelf.old) }
-    ensures { Reads items.outflow (λ x. behind_item reader.old.state (items.outflow x)) (moment S.files S.admits S.rest S.taken S.faults reader.old shelf.old)
-        (moment S.files S.admits S.rest S.taken S.faults reader.new shelf.new) result }
+    requires used_up { IsTrue reader.old.ended → IsUsedUp (S.told shelf.old).rest }
+    ensures { Reads items.outflow (λ x. behind_item reader.old.state (items.outflow x)) (moment reader.old (S.told shelf.old)) (moment reader.new (S.told shelf.new)) result }
 {
     match next(reader, shelf)? {
         Item::Outflow(flow) => Ok(flow),
@@ -98,9 +93,8 @@ pub fn outflow<S: Shelf>(reader: &mut CertReader, shelf: &mut S) -> Result<u64, 
 /// A direct flow of the plan.
 pub fn direct<S: Shelf>(reader: &mut CertReader, shelf: &mut S) -> Result<u64, ItemFault>
     requires asks { (behind : ℕ) × (reader.old.state ≡ states.Direct behind) }
-    requires used_up { IsTrue reader.old.ended → IsUsedUp (S.rest shelf.old) }
-    ensures { Reads items.direct (λ x. behind_item reader.old.state (items.direct x)) (moment S.files S.admits S.rest S.taken S.faults reader.old shelf.old)
-        (moment S.files S.admits S.rest S.taken S.faults reader.new shelf.new) result }
+    requires used_up { IsTrue reader.old.ended → IsUsedUp (S.told shelf.old).rest }
+    ensures { Reads items.direct (λ x. behind_item reader.old.state (items.direct x)) (moment reader.old (S.told shelf.old)) (moment reader.new (S.told shelf.new)) result }
 {
     match next(reader, shelf)? {
         Item::Direct(flow) => Ok(flow),
@@ -111,9 +105,8 @@ pub fn direct<S: Shelf>(reader: &mut CertReader, shelf: &mut S) -> Result<u64, I
 /// How many splits come.
 pub fn splits<S: Shelf>(reader: &mut CertReader, shelf: &mut S) -> Result<u32, ItemFault>
     requires asks { (k : AKind) × (reader.old.state ≡ states.Splits k) }
-    requires used_up { IsTrue reader.old.ended → IsUsedUp (S.rest shelf.old) }
-    ensures { Reads items.splits (λ x. behind_item reader.old.state (items.splits x)) (moment S.files S.admits S.rest S.taken S.faults reader.old shelf.old)
-        (moment S.files S.admits S.rest S.taken S.faults reader.new shelf.new) result }
+    requires used_up { IsTrue reader.old.ended → IsUsedUp (S.told shelf.old).rest }
+    ensures { Reads items.splits (λ x. behind_item reader.old.state (items.splits x)) (moment reader.old (S.told shelf.old)) (moment reader.new (S.told shelf.new)) result }
 {
     match next(reader, shelf)? {
         Item::Splits(count) => Ok(count),
@@ -124,9 +117,8 @@ pub fn splits<S: Shelf>(reader: &mut CertReader, shelf: &mut S) -> Result<u32, I
 /// A split.
 pub fn cut<S: Shelf>(reader: &mut CertReader, shelf: &mut S) -> Result<Split, ItemFault>
     requires asks { (k : AKind) × (behind : ℕ) × (reader.old.state ≡ states.Cut k behind) }
-    requires used_up { IsTrue reader.old.ended → IsUsedUp (S.rest shelf.old) }
-    ensures { Reads cut_item (λ x. behind_item reader.old.state (cut_item x)) (moment S.files S.admits S.rest S.taken S.faults reader.old shelf.old)
-        (moment S.files S.admits S.rest S.taken S.faults reader.new shelf.new) result }
+    requires used_up { IsTrue reader.old.ended → IsUsedUp (S.told shelf.old).rest }
+    ensures { Reads cut_item (λ x. behind_item reader.old.state (cut_item x)) (moment reader.old (S.told shelf.old)) (moment reader.new (S.told shelf.new)) result }
 {
     match next(reader, shelf)? {
         Item::Cut(split) => Ok(split),
@@ -137,9 +129,8 @@ pub fn cut<S: Shelf>(reader: &mut CertReader, shelf: &mut S) -> Result<Split, It
 /// How many proofs come.
 pub(crate) fn proofs<S: Shelf>(reader: &mut CertReader, shelf: &mut S) -> Result<u32, ItemFault>
     requires asks { (k : AKind) × (reader.old.state ≡ states.Proofs k) }
-    requires used_up { IsTrue reader.old.ended → IsUsedUp (S.rest shelf.old) }
-    ensures { Reads items.proofs (λ x. behind_item reader.old.state (items.proofs x)) (moment S.files S.admits S.rest S.taken S.faults reader.old shelf.old)
-        (moment S.files S.admits S.rest S.taken S.faults reader.new shelf.new) result }
+    requires used_up { IsTrue reader.old.ended → IsUsedUp (S.told shelf.old).rest }
+    ensures { Reads items.proofs (λ x. behind_item reader.old.state (items.proofs x)) (moment reader.old (S.told shelf.old)) (moment reader.new (S.told shelf.new)) result }
 {
     match next(reader, shelf)? {
         Item::Proofs(count) => Ok(count),
@@ -150,9 +141,8 @@ pub(crate) fn proofs<S: Shelf>(reader: &mut CertReader, shelf: &mut S) -> Result
 /// The head of a proof.
 pub(crate) fn head<S: Shelf>(reader: &mut CertReader, shelf: &mut S) -> Result<LineHead, ItemFault>
     requires asks { (k : AKind) × (behind : ℕ) × (reader.old.state ≡ states.Head k behind) }
-    requires used_up { IsTrue reader.old.ended → IsUsedUp (S.rest shelf.old) }
-    ensures { Reads head_item (λ x. behind_item reader.old.state (head_item x)) (moment S.files S.admits S.rest S.taken S.faults reader.old shelf.old)
-        (moment S.files S.admits S.rest S.taken S.faults reader.new shelf.new) result }
+    requires used_up { IsTrue reader.old.ended → IsUsedUp (S.told shelf.old).rest }
+    ensures { Reads head_item (λ x. behind_item reader.old.state (head_item x)) (moment reader.old (S.told shelf.old)) (moment reader.new (S.told shelf.new)) result }
 {
     match next(reader, shelf)? {
         Item::ProofHead(node, scale, count) => Ok(LineHead { node, scale, count }),
@@ -163,9 +153,8 @@ pub(crate) fn head<S: Shelf>(reader: &mut CertReader, shelf: &mut S) -> Result<L
 /// A part of a proof.
 pub(crate) fn part<S: Shelf>(reader: &mut CertReader, shelf: &mut S) -> Result<Part, ItemFault>
     requires asks { (k : AKind) × (behind proofs : ℕ) × (reader.old.state ≡ states.Part k behind proofs) }
-    requires used_up { IsTrue reader.old.ended → IsUsedUp (S.rest shelf.old) }
-    ensures { Reads part_item (λ x. behind_item reader.old.state (part_item x)) (moment S.files S.admits S.rest S.taken S.faults reader.old shelf.old)
-        (moment S.files S.admits S.rest S.taken S.faults reader.new shelf.new) result }
+    requires used_up { IsTrue reader.old.ended → IsUsedUp (S.told shelf.old).rest }
+    ensures { Reads part_item (λ x. behind_item reader.old.state (part_item x)) (moment reader.old (S.told shelf.old)) (moment reader.new (S.told shelf.new)) result }
 {
     match next(reader, shelf)? {
         Item::OnePart(part) => Ok(part),
@@ -176,9 +165,8 @@ pub(crate) fn part<S: Shelf>(reader: &mut CertReader, shelf: &mut S) -> Result<P
 /// The cost that is claimed, and its base.
 pub fn cost_pair<S: Shelf>(reader: &mut CertReader, shelf: &mut S) -> Result<(i128, u64), ItemFault>
     requires asks { reader.old.state ≡ states.Cost }
-    requires used_up { IsTrue reader.old.ended → IsUsedUp (S.rest shelf.old) }
-    ensures { Reads cost_item (λ x. behind_item reader.old.state (cost_item x)) (moment S.files S.admits S.rest S.taken S.faults reader.old shelf.old)
-        (moment S.files S.admits S.rest S.taken S.faults reader.new shelf.new) result }
+    requires used_up { IsTrue reader.old.ended → IsUsedUp (S.told shelf.old).rest }
+    ensures { Reads cost_item (λ x. behind_item reader.old.state (cost_item x)) (moment reader.old (S.told shelf.old)) (moment reader.new (S.told shelf.new)) result }
 {
     match next(reader, shelf)? {
         Item::CostIs(cost, base) => Ok((cost, base)),
@@ -189,9 +177,8 @@ pub fn cost_pair<S: Shelf>(reader: &mut CertReader, shelf: &mut S) -> Result<(i1
 /// The bound that is claimed.
 pub fn bound_number<S: Shelf>(reader: &mut CertReader, shelf: &mut S) -> Result<i128, ItemFault>
     requires asks { (reader.old.state ≡ states.Bound) ⊎ ((base : ℕ) × (reader.old.state ≡ states.GapBound base)) }
-    requires used_up { IsTrue reader.old.ended → IsUsedUp (S.rest shelf.old) }
-    ensures { Reads items.bound_is (λ x. behind_item reader.old.state (items.bound_is x)) (moment S.files S.admits S.rest S.taken S.faults reader.old shelf.old)
-        (moment S.files S.admits S.rest S.taken S.faults reader.new shelf.new) result }
+    requires used_up { IsTrue reader.old.ended → IsUsedUp (S.told shelf.old).rest }
+    ensures { Reads items.bound_is (λ x. behind_item reader.old.state (items.bound_is x)) (moment reader.old (S.told shelf.old)) (moment reader.new (S.told shelf.new)) result }
 {
     match next(reader, shelf)? {
         Item::BoundIs(bound) => Ok(bound),
@@ -202,9 +189,9 @@ pub fn bound_number<S: Shelf>(reader: &mut CertReader, shelf: &mut S) -> Result<
 /// The gap that is claimed, over the base of the cost before it.
 pub fn gap_number<S: Shelf>(reader: &mut CertReader, shelf: &mut S) -> Result<i128, ItemFault>
     requires asks { (base : ℕ) × (reader.old.state ≡ states.Gap base) }
-    requires used_up { IsTrue reader.old.ended → IsUsedUp (S.rest shelf.old) }
+    requires used_up { IsTrue reader.old.ended → IsUsedUp (S.told shelf.old).rest }
     ensures { Reads (gap_item reader.old.state) (λ x. behind_item reader.old.state (gap_item reader.old.state x))
-        (moment S.files S.admits S.rest S.taken S.faults reader.old shelf.old) (moment S.files S.admits S.rest S.taken S.faults reader.new shelf.new) result }
+        (moment reader.old (S.told shelf.old)) (moment reader.new (S.told shelf.new)) result }
 {
     match next(reader, shelf)? {
         Item::GapIs(gap, _) => Ok(gap),
@@ -215,8 +202,8 @@ pub fn gap_number<S: Shelf>(reader: &mut CertReader, shelf: &mut S) -> Result<i1
 /// The last line, and nothing behind it.
 pub fn end<S: Shelf>(reader: &mut CertReader, shelf: &mut S) -> Result<(), ItemFault>
     requires asks { reader.old.state ≡ states.End }
-    requires used_up { IsTrue reader.old.ended → IsUsedUp (S.rest shelf.old) }
-    ensures { ReadsEnd (moment S.files S.admits S.rest S.taken S.faults reader.old shelf.old) (moment S.files S.admits S.rest S.taken S.faults reader.new shelf.new) result }
+    requires used_up { IsTrue reader.old.ended → IsUsedUp (S.told shelf.old).rest }
+    ensures { ReadsEnd (moment reader.old (S.told shelf.old)) (moment reader.new (S.told shelf.new)) result }
 {
     match next(reader, shelf)? {
         Item::End => Ok(()),

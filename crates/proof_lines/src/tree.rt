@@ -32,7 +32,7 @@ pub fn tree_bound<S: Shelf>(
     shelf: &mut S,
 ) -> Result<Option<i128>, StreamRefusal>
     requires tree { IsOf (net_of net.now) tree.now }
-    requires asks { (k : AKind) × IsReady (moment S.files S.admits S.rest S.taken S.faults reader.old shelf.old) (states.Proofs k) }
+    requires asks { (k : AKind) × IsReady (moment reader.old (S.told shelf.old)) (states.Proofs k) }
     // What the root's bound begins with is no larger than this, in picos.
     ensures reach { unsigned_abs (reach_bound (net_of net.now)) ≤ 128 * 10 ^ 24 }
     // Each line is in its place, each proof in order in its box, and this is the bound that they show; or they are refused.
@@ -40,7 +40,7 @@ pub fn tree_bound<S: Shelf>(
     //   bound that they show; else the first line in no place, and where there is none the first node whose proof is not in order, is
     //   refused
     ensures bound { (k : AKind) → reader.old.state ≡ states.Proofs k → Takes (AreProofs (net_of net.now) tree.now.list k) (AreWrongProofs (net_of net.now) tree.now.list)
-        (moment S.files S.admits S.rest S.taken S.faults reader.old shelf.old) (moment S.files S.admits S.rest S.taken S.faults reader.new shelf.new) result }
+        (moment reader.old (S.told shelf.old)) (moment reader.new (S.told shelf.new)) result }
 {
     let reach = net.reach_bound();
     let count = proofs(reader, shelf)?;

@@ -1,17 +1,18 @@
 -- Why no network was read.
-use Rattle.std.specs.Prelude.{◌≡◌, ◌≢◌, ℕ, List, Option}
+use Rattle.std.specs.Prelude.{◌≡◌, ◌≢◌, ℕ, List}
 use Rattle.edge_io.specs.Counts.{Rose}
+use Rattle.shelf_calls.specs.Told.{ShelfTold}
 use Rattle.json_walk.specs.declared.fault.ReadNet.{ReadNet}
 use Rattle.json_walk.specs.declared.fault.ReadNet.TheVariants as causes
-use Rattle.run_status.specs.Reads.{Files, IsOwnCause, IsRefusedAs}
+use Rattle.run_status.specs.Reads.{IsOwnCause, IsRefusedAs}
 use Rattle.run_status.specs.declared.reading.Unread.{Unread}
 use Rattle.run_status.specs.declared.reading.Unread.TheVariants.{Refused, Failed, Memory}
 
 -- the file is refused for this reason, the shelf failed, or memory ran out
-abbrev pub IsUnread : Option Files → List ℕ → (before after : ℕ) → (faults failed : ℕ) → Unread → Type 0
-IsUnread files name before after faults failed (Refused cause) = IsRefusedAs files name before after cause
-IsUnread files name before after faults failed Failed = Rose faults failed
-IsUnread files name before after faults failed Memory = Unit {0}
+abbrev pub IsUnread : List ℕ → (before after : ShelfTold) → Unread → Type 0
+IsUnread name before after (Refused cause) = IsRefusedAs before.files name before.taken after.taken cause
+IsUnread name before after Failed = Rose before.faults after.faults
+IsUnread name before after Memory = Unit {0}
 
 -- why bytes of no more than may be are no network
 abbrev pub IsCauseOf : ReadNet → Unread → Type 0

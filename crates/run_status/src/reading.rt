@@ -1,7 +1,7 @@
 //! The network in a file.
 
 ghost use Rattle.std.specs.Prelude.{◌≡◌, IsTrue, IfOk, IfErr};
-ghost use Rattle.edge_io.specs.Counts.{Grows, Rose};
+ghost use Rattle.shelf_calls.specs.Told.{Keeps};
 ghost use Rattle.run_status.specs.Reads.{ReadsUnder};
 ghost use Rattle.run_status.specs.Took.{unread_status};
 ghost use Rattle.run_status.specs.Unreads.{IsCauseOf, IsUnread};
@@ -37,13 +37,10 @@ impl From<Unread> for Status {
 
 /// The network in the file of this name.
 pub fn network_under<S: Shelf>(alloc: Global, name: &str, shelf: &mut S) -> Result<Network, Unread>
-    requires { IsTrue (S.admits shelf.old name.now) }
-    ensures reads { IfOk result (ReadsUnder (S.files shelf.old) name.now) }
-    ensures unread { IfErr result (IsUnread (S.files shelf.old) name.now (S.taken shelf.old) (S.taken shelf.new) (S.faults shelf.old) (S.faults shelf.new)) }
-    ensures same_files { S.files shelf.new ≡ S.files shelf.old }
-    ensures same_names { S.admits shelf.new ≡ S.admits shelf.old }
-    ensures taken_grows { Grows (S.taken shelf.old) (S.taken shelf.new) }
-    ensures faults_grow { Grows (S.faults shelf.old) (S.faults shelf.new) }
+    requires { IsTrue ((S.told shelf.old).admits name.now) }
+    ensures reads { IfOk result (ReadsUnder (S.told shelf.old).files name.now) }
+    ensures unread { IfErr result (IsUnread name.now (S.told shelf.old) (S.told shelf.new)) }
+    ensures kept { Keeps (S.told shelf.old) (S.told shelf.new) }
 {
     match shelf.read_all(alloc, name, MAX_TEXT) {
         Ok(bytes) => read_network(alloc, &bytes).map_err(cause_of),

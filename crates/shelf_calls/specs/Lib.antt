@@ -1,5 +1,6 @@
 pub mod Files
 pub mod Opened
+pub mod Told
 pub mod MemFiles
 pub mod MemShelves
 pub mod SliceShelves

@@ -1,6 +1,7 @@
 -- What a shelf in memory holds, and what it was told to do.
-use Rattle.std.specs.Prelude.{ℕ, List, [], Option, None, Some}
+use Rattle.std.specs.Prelude.{ℕ, List, [], Option, None, Some, true}
 use Rattle.shelf_calls.specs.MemFiles.{files_of, rest_in}
+use Rattle.shelf_calls.specs.Told.{ShelfTold}
 use Rattle.shelf_calls.specs.declared.opened.Opened.{Opened}
 use Rattle.shelf_calls.specs.declared.mem_shelf.MemShelf.{MemShelf}
 
@@ -36,3 +37,7 @@ rest_of s = left_of s.opened
 -- the most bytes that one call hands out of it
 abbrev pub piece_of : MemShelf → ℕ
 piece_of s = s.piece
+
+-- what it tells: all of this, and that it admits every name
+abbrev pub told_of : MemShelf → ShelfTold
+told_of s = record { files = Some (contents_of s); admits = λ _. true; rest = Some (rest_of s); taken = taken_of s; faults = faults_of s }

@@ -23,8 +23,8 @@ pub struct FileShelf<R: Files> {
 impl<R: Files> FileShelf<R> {
     /// Over the files of the runtime.
     pub fn new(files: R) -> FileShelf<R>
-        ensures unread { ⟦<FileShelf<R> as Shelf>⟧.taken result ≡ 0 }
-        ensures sound { ⟦<FileShelf<R> as Shelf>⟧.faults result ≡ 0 }
+        ensures unread { (⟦<FileShelf<R> as Shelf>⟧.told result).taken ≡ 0 }
+        ensures sound { (⟦<FileShelf<R> as Shelf>⟧.told result).faults ≡ 0 }
     {
         FileShelf {
             files,
@@ -77,15 +77,7 @@ pub fn read_once<F: Read>(file: &mut F, into: &mut [u8]) -> io::Result<usize>
 }
 
 impl<R: Files> Shelf for FileShelf<R> {
-    ghost files = { λ _. None };
-
-    ghost rest = { λ _. None };
-
-    ghost taken = { λ s. s.taken };
-
-    ghost faults = { λ s. s.faults };
-
-    ghost admits = { λ _ _. true };
+    ghost told = { λ s. record { files = None; admits = λ _. true; rest = None; taken = s.taken; faults = s.faults } };
 
     /// Reads at most one byte more than `most`, so a file that is too long, or has no end, is never read whole.
     fn read_all(&mut self, alloc: Global, name: &str, most: usize) -> Result<Vec<u8>, ShelfFault> {

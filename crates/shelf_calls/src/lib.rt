@@ -4,8 +4,10 @@
 //! `SliceShelf`) the contracts say which bytes were read, and what happened at a failure; `FileShelf` is the real one, over
 //! the files of the system, and tells no content.
 //!
+//! What a shelf tells of itself is one record, `ShelfTold`, and what each call keeps of it another, `Keeps`.
+//!
 //! The layer above may use the clauses of the trait: a read gives the bytes under a name, and a failure comes only where a
-//! count of faults rose in that call.
+//! count of faults rose in that call. Proofs above may cite, of `proofs/`, `Keeping` (what calls keep, one after another).
 //!
 //! What a file holds is left to the system: no clause speaks of it.
 #![tactic(auto)]

@@ -1,10 +1,11 @@
 //! A shelf in memory.
 
-ghost use Rattle.std.specs.Prelude.{◌≡◌, ◌+◌, ◌-◌, ◌^◌, ◌<◌, ◌≤◌, ◌⊎◌, ◌↔◌, [], ◌++◌, Some, None, true, min, length, take, vec_len, Contains, IsTrue, IsErr, IfOk, OnOk, OnErr};
+ghost use Rattle.std.specs.Prelude.{◌≡◌, ◌+◌, ◌-◌, ◌^◌, ◌<◌, ◌≤◌, ◌⊎◌, ◌↔◌, [], ◌++◌, Some, None, min, length, take, vec_len, Contains, IsTrue, IsErr, IfOk, OnOk, OnErr};
 ghost use Rattle.std.specs.Option.{option_copied};
 ghost use Rattle.edge_io.specs.Counts.{Grows, Rose};
 ghost use Rattle.shelf_calls.specs.Files.{file_of, HasMore};
 ghost use Rattle.shelf_calls.specs.MemFiles.{files_of};
+ghost use Rattle.shelf_calls.specs.Told.{Keeps};
 
 use crate::fault::{OpenFault, ReadFailed, ShelfFault};
 use crate::opened::Opened;
@@ -85,18 +86,10 @@ impl MemShelf {
 }
 
 impl Shelf for MemShelf {
-    ghost use Rattle.shelf_calls.specs.MemShelves.{contents_of, failing_of, rest_of, piece_of, calls_of, taken_of, faults_of};
+    ghost use Rattle.shelf_calls.specs.MemShelves.{contents_of, failing_of, rest_of, piece_of, calls_of, taken_of, faults_of, told_of};
     ghost use Rattle.shelf_calls.specs.Opened.{IsAllOf, IsUsedUp};
 
-    ghost files = { λ s. Some (contents_of s) };
-
-    ghost rest = { λ s. Some (rest_of s) };
-
-    ghost taken = { taken_of };
-
-    ghost faults = { faults_of };
-
-    ghost admits = { λ _ _. true };
+    ghost told = { told_of };
 
     fn read_all(&mut self, alloc: Global, name: &str, most: usize) -> Result<Vec<u8>, ShelfFault>
         // What every shelf does.
@@ -105,11 +98,9 @@ impl Shelf for MemShelf {
         ensures failed { result ≡ Err ShelfFault.Failed → Rose (faults_of self.old) (faults_of self.new) }
         ensures too_long { result ≡ Err ShelfFault.TooLong →
             HasMore (contents_of self.old) name.now most }
-        ensures same_files { contents_of self.new ≡ contents_of self.old }
+        ensures kept { Keeps (told_of self.old) (told_of self.new) }
         ensures same_rest { rest_of self.new ≡ rest_of self.old }
         ensures same_piece { piece_of self.new ≡ piece_of self.old }
-        ensures taken_grows { Grows (taken_of self.old) (taken_of self.new) }
-        ensures faults_grow { Grows (faults_of self.old) (faults_of self.new) }
 
         // When this one fails.
         ensures told { Contains (failing_of self.old) (calls_of self.old) → result ≡ Err ShelfFault.Failed }
@@ -143,16 +134,14 @@ impl Shelf for MemShelf {
         // What every shelf does.
         ensures opened { OnOk result (IsAllOf (contents_of self.old) name.now (Some (rest_of self.new))) }
         ensures failed { result ≡ Err OpenFault.Failed → Rose (faults_of self.old) (faults_of self.new) }
-        ensures same_files { contents_of self.new ≡ contents_of self.old }
-        ensures taken_grows { Grows (taken_of self.old) (taken_of self.new) }
-        ensures faults_grow { Grows (faults_of self.old) (faults_of self.new) }
+        ensures kept { Keeps (told_of self.old) (told_of self.new) }
 
         // When this one fails, and what it leaves as it was.
         ensures told { Contains (failing_of self.old) (calls_of self.old) → result ≡ Err OpenFault.Failed }
         ensures absent { file_of (contents_of self.old) name.now ≡ None → result ≡ Err OpenFault.Failed }
         ensures only { result ≡ Err OpenFault.Failed →
             Contains (failing_of self.old) (calls_of self.old) ⊎ (file_of (contents_of self.old) name.now ≡ None) }
-        ensures kept { OnErr result (rest_of self.new ≡ rest_of self.old) }
+        ensures rest_kept { OnErr result (rest_of self.new ≡ rest_of self.old) }
         ensures next { calls_of self.new ≡ min (calls_of self.old + 1) (2 ^ 64 - 1) }
         ensures same { failing_of self.new ≡ failing_of self.old }
         ensures same_piece { piece_of self.new ≡ piece_of self.old }
@@ -177,15 +166,13 @@ impl Shelf for MemShelf {
         ensures handed { IfOk result (λ n. rest_of self.old ≡ take n into.new ++ rest_of self.new) }
         ensures some { IfOk result (λ n. n ≡ 0 → (length into.new ≡ 0) ⊎ IsUsedUp (Some (rest_of self.old))) }
         ensures failed { OnErr result (Rose (faults_of self.old) (faults_of self.new)) }
-        ensures same_files { contents_of self.new ≡ contents_of self.old }
-        ensures taken_grows { Grows (taken_of self.old) (taken_of self.new) }
-        ensures faults_grow { Grows (faults_of self.old) (faults_of self.new) }
+        ensures kept { Keeps (told_of self.old) (told_of self.new) }
 
         // How much it hands out, when this one fails, and what it leaves as it was.
         ensures count { IfOk result (λ n. n ≡ min (min (length (rest_of self.old)) (length into.new)) (piece_of self.old)) }
         ensures told { Contains (failing_of self.old) (calls_of self.old) → IsErr result }
         ensures only { OnErr result (Contains (failing_of self.old) (calls_of self.old)) }
-        ensures kept { OnErr result (rest_of self.new ≡ rest_of self.old) }
+        ensures rest_kept { OnErr result (rest_of self.new ≡ rest_of self.old) }
         ensures next { calls_of self.new ≡ min (calls_of self.old + 1) (2 ^ 64 - 1) }
         ensures same { failing_of self.new ≡ failing_of self.old }
         ensures same_piece { piece_of self.new ≡ piece_of self.old }

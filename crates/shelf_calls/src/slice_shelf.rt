@@ -4,7 +4,8 @@ ghost use Rattle.std.specs.Prelude.{◌≡◌, ◌+◌, ◌-◌, ◌^◌, ◌≤
 ghost use Rattle.edge_io.specs.Counts.{Grows, Rose};
 ghost use Rattle.shelf_calls.specs.Files.{HasFile, IsTooLong, file_of, HasMore};
 ghost use Rattle.shelf_calls.specs.Opened.{IsAllOf};
-ghost use Rattle.shelf_calls.specs.SliceShelves.{bytes_of, rest_of, taken_of};
+ghost use Rattle.shelf_calls.specs.SliceShelves.{bytes_of, rest_of, taken_of, told_of};
+ghost use Rattle.shelf_calls.specs.Told.{Keeps};
 
 use crate::fault::{OpenFault, ReadFailed, ShelfFault};
 use crate::opened::copy_front;
@@ -35,28 +36,18 @@ impl<'a> SliceShelf<'a> {
 }
 
 impl<'a> Shelf for SliceShelf<'a> {
-    ghost files = { λ s. Some (([], bytes_of s) ∷ []) };
-
-    ghost rest = { λ s. Some (rest_of s) };
-
-    ghost taken = { taken_of };
-
-    ghost faults = { λ _. 0 };
-
-    ghost admits = { λ _ name. bytes_eq [] name };
+    ghost told = { told_of };
 
     fn read_all(&mut self, alloc: Global, _name: &str, most: usize) -> Result<Vec<u8>, ShelfFault>
         // What every shelf does; of failures the count stands at 0.
         requires admits { IsTrue (bytes_eq [] _name.now) }
-        ensures found { IfOk result (λ v. HasFile (Some (([], bytes_of self.old) ∷ [])) _name.now v.items) }
+        ensures found { IfOk result (λ v. HasFile (told_of self.old).files _name.now v.items) }
         ensures short { IfOk result (λ v. vec_len v ≤ most) }
         ensures failed { result ≡ Err ShelfFault.Failed → Rose 0 0 }
         ensures too_long { result ≡ Err ShelfFault.TooLong →
-            IsTooLong (Some (([], bytes_of self.old) ∷ [])) _name.now most (taken_of self.old) (taken_of self.new) }
-        ensures same_files { bytes_of self.new ≡ bytes_of self.old }
+            IsTooLong (told_of self.old).files _name.now most (taken_of self.old) (taken_of self.new) }
+        ensures kept { Keeps (told_of self.old) (told_of self.new) }
         ensures same_rest { rest_of self.new ≡ rest_of self.old }
-        ensures taken_grows { Grows (taken_of self.old) (taken_of self.new) }
-        ensures faults_grow { Grows 0 0 }
 
         // The bytes of a file that is given are counted.
         ensures counted { IfOk result (λ v. taken_of self.new ≡ min (taken_of self.old + vec_len v) (2 ^ 64 - 1)) }

@@ -74,16 +74,16 @@ pub fn solve<S: Shelf, K: Sink, D: Disk>(
     out: &mut K,
     disk: &mut D,
 ) -> SolveOutcome
-    requires admits { IsTrue (S.admits shelf.old (string_bytes words.now.net)) }
+    requires admits { IsTrue ((S.told shelf.old).admits (string_bytes words.now.net)) }
     requires journal { (file : List ℕ) → (shown_solving words.now).journal ≡ Some file → IsTrue (D.admits disk.old file) }
     requires gap { IsGapAsked words.now.gap }
-    ensures took { Took (SolvesAs (S.files shelf.old) (shown_solving words.now)) (solve_status result) (K.taken out.old) (K.taken out.new) }
-    ensures ends { SolveEnds (S.files shelf.old) (shown_solving words.now) (S.taken shelf.old) (S.taken shelf.new) (solve_status result) }
+    ensures took { Took (SolvesAs (S.told shelf.old).files (shown_solving words.now)) (solve_status result) (K.taken out.old) (K.taken out.new) }
+    ensures ends { SolveEnds (S.told shelf.old).files (shown_solving words.now) (S.told shelf.old).taken (S.told shelf.new).taken (solve_status result) }
     ensures journal { (file : List ℕ) → (shown_solving words.now).journal ≡ Some file → IsTrue (D.tells disk.old) →
-        Journaled (S.files shelf.old) (shown_solving words.now) (LeavesOnly D.moment D.left_since disk.old disk.new) (D.may_leave disk.old) (D.reads disk.new) (D.may_leave disk.new)
+        Journaled (S.told shelf.old).files (shown_solving words.now) (LeavesOnly D.moment D.left_since disk.old disk.new) (D.may_leave disk.old) (D.reads disk.new) (D.may_leave disk.new)
         (solve_status result) (λ c. K.taken out.new ≡ behind (K.taken out.old) (text_of c)) }
     ensures apart { (shown_solving words.now).journal ≡ None → disk.new ≡ disk.old }
-    ensures read_fault { solve_status result ≡ Status.ReadFault → Rose (S.faults shelf.old) (S.faults shelf.new) }
+    ensures read_fault { solve_status result ≡ Status.ReadFault → Rose (S.told shelf.old).faults (S.told shelf.new).faults }
     ensures write_fault { solve_status result ≡ Status.WriteFault → Rose (K.faults out.old) (K.faults out.new) }
     ensures disk_fault { solve_status result ≡ Status.DiskFault → Rose (D.faults disk.old) (D.faults disk.new) }
 {

@@ -17,7 +17,7 @@ use Rattle.cert_checker.proofs.opening.directs.Goals as goal
 pub loop-init : goal.loop-init
 loop-init g c =
     let n : Net = net_of c.args.net.now in
-    let m : Moment = (moment g.S.Shelf.files g.S.Shelf.admits g.S.Shelf.rest g.S.Shelf.taken g.S.Shelf.faults c.args.reader.now c.args.shelf.now) in (
+    let m : Moment = moment c.args.reader.now (g.S.Shelf.told c.args.shelf.now) in (
       ap (λ xs. slice_index_or xs 6 0) c.counts.ensures.counts,
       omega arith,
       let more : n.directs ≡ n.directs - 0 = omega arith in listed-none direct m
@@ -36,26 +36,26 @@ direct-requires-clause-used_up g c = c.loop.invariant.2.ready.used_up
 
 pub returns-in_err-direct : goal.returns-in_err-direct
 returns-in_err-direct g c =
-    let m : Moment = (moment g.S.Shelf.files g.S.Shelf.admits g.S.Shelf.rest g.S.Shelf.taken g.S.Shelf.faults c.args.reader.now c.args.shelf.now) in
-    let k : Moment = (moment g.S.Shelf.files g.S.Shelf.admits g.S.Shelf.rest g.S.Shelf.taken g.S.Shelf.faults c.loop.reader c.loop.shelf) in
-    let l : Moment = (moment g.S.Shelf.files g.S.Shelf.admits g.S.Shelf.rest g.S.Shelf.taken g.S.Shelf.faults c.direct.new.reader c.direct.new.shelf) in
+    let m : Moment = moment c.args.reader.now (g.S.Shelf.told c.args.shelf.now) in
+    let k : Moment = moment c.loop.reader (g.S.Shelf.told c.loop.shelf) in
+    let l : Moment = moment c.direct.new.reader (g.S.Shelf.told c.direct.new.shelf) in
     let p = err_from_is_err_and c.from_residual.result c.from_residual.ensures.1 in
     rw (p.1, p.2) (failed-halts Never m l c.in_err-direct.field-0.0 (failed-then m k l _ c.in_err-direct.field-0.0 c.loop.invariant.2.run c.in_err-direct.ensures))
 
 pub returns-in_err-push : goal.returns-in_err-push
 returns-in_err-push g c =
-    let m : Moment = (moment g.S.Shelf.files g.S.Shelf.admits g.S.Shelf.rest g.S.Shelf.taken g.S.Shelf.faults c.args.reader.now c.args.shelf.now) in
-    let k : Moment = (moment g.S.Shelf.files g.S.Shelf.admits g.S.Shelf.rest g.S.Shelf.taken g.S.Shelf.faults c.loop.reader c.loop.shelf) in
-    let l : Moment = (moment g.S.Shelf.files g.S.Shelf.admits g.S.Shelf.rest g.S.Shelf.taken g.S.Shelf.faults c.direct.new.reader c.direct.new.shelf) in
+    let m : Moment = moment c.args.reader.now (g.S.Shelf.told c.args.shelf.now) in
+    let k : Moment = moment c.loop.reader (g.S.Shelf.told c.loop.shelf) in
+    let l : Moment = moment c.direct.new.reader (g.S.Shelf.told c.direct.new.shelf) in
     let p = err_from_is_err_and c.from_residual-in_err-push.result c.from_residual-in_err-push.ensures.1 in
     rw (p.1, p.2) (memory-halts Never m l (run-then m k l _ _ c.loop.invariant.2.run c.in_ok-direct.ensures.0).kept)
 
 pub loop-preserved : goal.loop-preserved
 loop-preserved g c =
     let n : Net = net_of c.args.net.now in
-    let m : Moment = (moment g.S.Shelf.files g.S.Shelf.admits g.S.Shelf.rest g.S.Shelf.taken g.S.Shelf.faults c.args.reader.now c.args.shelf.now) in
-    let k : Moment = (moment g.S.Shelf.files g.S.Shelf.admits g.S.Shelf.rest g.S.Shelf.taken g.S.Shelf.faults c.loop.reader c.loop.shelf) in
-    let l : Moment = (moment g.S.Shelf.files g.S.Shelf.admits g.S.Shelf.rest g.S.Shelf.taken g.S.Shelf.faults c.direct.new.reader c.direct.new.shelf) in
+    let m : Moment = moment c.args.reader.now (g.S.Shelf.told c.args.shelf.now) in
+    let k : Moment = moment c.loop.reader (g.S.Shelf.told c.loop.shelf) in
+    let l : Moment = moment c.direct.new.reader (g.S.Shelf.told c.direct.new.shelf) in
     let inv = c.loop.invariant in
     let lt : c.loop.counter < n.directs = omega (arith, inv.0, c.loop-test.true) in
     let s : State = directs_left (n.directs - c.loop.counter) in
@@ -68,7 +68,7 @@ loop-preserved g c =
 pub returns : goal.returns
 returns g c =
     let n : Net = net_of c.args.net.now in
-    let k : Moment = (moment g.S.Shelf.files g.S.Shelf.admits g.S.Shelf.rest g.S.Shelf.taken g.S.Shelf.faults c.loop.reader c.loop.shelf) in
+    let k : Moment = moment c.loop.reader (g.S.Shelf.told c.loop.shelf) in
     let inv = c.loop.invariant in
     let all : n.directs - c.loop.counter ≡ 0 = omega (arith, inv.0, inv.1, c.loop-test.false) in
     record {

@@ -9,5 +9,5 @@ use Rattle.cert_checker.proofs.opening.directs.Given as goal
 abbrev pub invariant-loop : goal.invariant-loop
 invariant-loop g l =
     (l.end ≡ (net_of l.net).directs) × (l.counter ≤ (net_of l.net).directs)
-    × IsListed direct (moment g.S.Shelf.files g.S.Shelf.admits g.S.Shelf.rest g.S.Shelf.taken g.S.Shelf.faults l.fn.reader l.fn.shelf)
-    (moment g.S.Shelf.files g.S.Shelf.admits g.S.Shelf.rest g.S.Shelf.taken g.S.Shelf.faults l.reader l.shelf) l.flows.items l.counter (directs_left ((net_of l.net).directs - l.counter))
+    × IsListed direct (moment l.fn.reader (g.S.Shelf.told l.fn.shelf))
+    (moment l.reader (g.S.Shelf.told l.shelf)) l.flows.items l.counter (directs_left ((net_of l.net).directs - l.counter))

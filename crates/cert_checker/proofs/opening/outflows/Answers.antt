@@ -15,7 +15,7 @@ use Rattle.cert_checker.proofs.opening.outflows.Goals as goal
 pub loop-init : goal.loop-init
 loop-init g c =
     let n : Net = net_of c.args.net.now in
-    let m : Moment = (moment g.S.Shelf.files g.S.Shelf.admits g.S.Shelf.rest g.S.Shelf.taken g.S.Shelf.faults c.args.reader.now c.args.shelf.now) in (
+    let m : Moment = moment c.args.reader.now (g.S.Shelf.told c.args.shelf.now) in (
       ap (λ xs. slice_index_or xs 5 0) c.counts.ensures.counts,
       omega arith,
       let more : n.outs ≡ n.outs - 0 = omega arith in listed-none outflow m c.new-flows.result.items
@@ -34,26 +34,26 @@ outflow-requires-clause-used_up g c = c.loop.invariant.2.ready.used_up
 
 pub returns-in_err-outflow : goal.returns-in_err-outflow
 returns-in_err-outflow g c =
-    let m : Moment = (moment g.S.Shelf.files g.S.Shelf.admits g.S.Shelf.rest g.S.Shelf.taken g.S.Shelf.faults c.args.reader.now c.args.shelf.now) in
-    let k : Moment = (moment g.S.Shelf.files g.S.Shelf.admits g.S.Shelf.rest g.S.Shelf.taken g.S.Shelf.faults c.loop.reader c.loop.shelf) in
-    let l : Moment = (moment g.S.Shelf.files g.S.Shelf.admits g.S.Shelf.rest g.S.Shelf.taken g.S.Shelf.faults c.outflow.new.reader c.outflow.new.shelf) in
+    let m : Moment = moment c.args.reader.now (g.S.Shelf.told c.args.shelf.now) in
+    let k : Moment = moment c.loop.reader (g.S.Shelf.told c.loop.shelf) in
+    let l : Moment = moment c.outflow.new.reader (g.S.Shelf.told c.outflow.new.shelf) in
     let p = err_from_is_err_and c.from_residual.result c.from_residual.ensures.1 in
     rw (p.1, p.2) (failed-halts Never m l c.in_err-outflow.field-0.0 (failed-then m k l _ c.in_err-outflow.field-0.0 c.loop.invariant.2.run c.in_err-outflow.ensures))
 
 pub returns-in_err-push : goal.returns-in_err-push
 returns-in_err-push g c =
-    let m : Moment = (moment g.S.Shelf.files g.S.Shelf.admits g.S.Shelf.rest g.S.Shelf.taken g.S.Shelf.faults c.args.reader.now c.args.shelf.now) in
-    let k : Moment = (moment g.S.Shelf.files g.S.Shelf.admits g.S.Shelf.rest g.S.Shelf.taken g.S.Shelf.faults c.loop.reader c.loop.shelf) in
-    let l : Moment = (moment g.S.Shelf.files g.S.Shelf.admits g.S.Shelf.rest g.S.Shelf.taken g.S.Shelf.faults c.outflow.new.reader c.outflow.new.shelf) in
+    let m : Moment = moment c.args.reader.now (g.S.Shelf.told c.args.shelf.now) in
+    let k : Moment = moment c.loop.reader (g.S.Shelf.told c.loop.shelf) in
+    let l : Moment = moment c.outflow.new.reader (g.S.Shelf.told c.outflow.new.shelf) in
     let p = err_from_is_err_and c.from_residual-in_err-push.result c.from_residual-in_err-push.ensures.1 in
     rw (p.1, p.2) (memory-halts Never m l (run-then m k l _ _ c.loop.invariant.2.run c.in_ok-outflow.ensures.0).kept)
 
 pub loop-preserved : goal.loop-preserved
 loop-preserved g c =
     let n : Net = net_of c.args.net.now in
-    let m : Moment = (moment g.S.Shelf.files g.S.Shelf.admits g.S.Shelf.rest g.S.Shelf.taken g.S.Shelf.faults c.args.reader.now c.args.shelf.now) in
-    let k : Moment = (moment g.S.Shelf.files g.S.Shelf.admits g.S.Shelf.rest g.S.Shelf.taken g.S.Shelf.faults c.loop.reader c.loop.shelf) in
-    let l : Moment = (moment g.S.Shelf.files g.S.Shelf.admits g.S.Shelf.rest g.S.Shelf.taken g.S.Shelf.faults c.outflow.new.reader c.outflow.new.shelf) in
+    let m : Moment = moment c.args.reader.now (g.S.Shelf.told c.args.shelf.now) in
+    let k : Moment = moment c.loop.reader (g.S.Shelf.told c.loop.shelf) in
+    let l : Moment = moment c.outflow.new.reader (g.S.Shelf.told c.outflow.new.shelf) in
     let inv = c.loop.invariant in
     let lt : c.loop.counter < n.outs = omega (arith, inv.0, c.loop-test.true) in
     let s : State = outflows_left (n.outs - c.loop.counter) n.directs in
@@ -66,7 +66,7 @@ loop-preserved g c =
 pub returns : goal.returns
 returns g c =
     let n : Net = net_of c.args.net.now in
-    let k : Moment = (moment g.S.Shelf.files g.S.Shelf.admits g.S.Shelf.rest g.S.Shelf.taken g.S.Shelf.faults c.loop.reader c.loop.shelf) in
+    let k : Moment = moment c.loop.reader (g.S.Shelf.told c.loop.shelf) in
     let inv = c.loop.invariant in
     let all : n.outs - c.loop.counter ≡ 0 = omega (arith, inv.0, inv.1, c.loop-test.false) in
     record {

@@ -10,6 +10,5 @@ use Rattle.cert_checker.proofs.opening.outflows.Given as goal
 abbrev pub invariant-loop : goal.invariant-loop
 invariant-loop g l =
     (l.end ≡ (net_of l.net).outs) × (l.counter ≤ (net_of l.net).outs)
-    × IsListed outflow (moment g.S.Shelf.files g.S.Shelf.admits g.S.Shelf.rest g.S.Shelf.taken g.S.Shelf.faults l.fn.reader l.fn.shelf)
-    (moment g.S.Shelf.files g.S.Shelf.admits g.S.Shelf.rest g.S.Shelf.taken g.S.Shelf.faults l.reader l.shelf) l.flows.items l.counter
+    × IsListed outflow (moment l.fn.reader (g.S.Shelf.told l.fn.shelf)) (moment l.reader (g.S.Shelf.told l.shelf)) l.flows.items l.counter
     (outflows_left ((net_of l.net).outs - l.counter) (net_of l.net).directs)

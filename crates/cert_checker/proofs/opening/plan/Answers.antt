@@ -10,39 +10,39 @@ use Rattle.cert_checker.proofs.opening.plan.Goals as goal
 
 pub returns-in_err-weights : goal.returns-in_err-weights
 returns-in_err-weights g c =
-    let m : Moment = (moment g.S.Shelf.files g.S.Shelf.admits g.S.Shelf.rest g.S.Shelf.taken g.S.Shelf.faults c.args.reader.now c.args.shelf.now) in
-    let k : Moment = (moment g.S.Shelf.files g.S.Shelf.admits g.S.Shelf.rest g.S.Shelf.taken g.S.Shelf.faults c.base_pair.new.reader c.base_pair.new.shelf) in
-    let l : Moment = (moment g.S.Shelf.files g.S.Shelf.admits g.S.Shelf.rest g.S.Shelf.taken g.S.Shelf.faults c.weights.new.reader c.weights.new.shelf) in
+    let m : Moment = moment c.args.reader.now (g.S.Shelf.told c.args.shelf.now) in
+    let k : Moment = moment c.base_pair.new.reader (g.S.Shelf.told c.base_pair.new.shelf) in
+    let l : Moment = moment c.weights.new.reader (g.S.Shelf.told c.weights.new.shelf) in
     let p = err_from_is_err_and c.from_residual-in_err-weights.result c.from_residual-in_err-weights.ensures.1 in
     rw (p.1, p.2) (halts-then Never Never m k l _ c.in_err-weights.field-0.0 (λ rest r x. x) c.in_ok-base.ensures.0 c.in_err-weights.ensures)
 
 pub returns-in_err-outflows : goal.returns-in_err-outflows
 returns-in_err-outflows g c =
-    let m : Moment = (moment g.S.Shelf.files g.S.Shelf.admits g.S.Shelf.rest g.S.Shelf.taken g.S.Shelf.faults c.args.reader.now c.args.shelf.now) in
-    let k : Moment = (moment g.S.Shelf.files g.S.Shelf.admits g.S.Shelf.rest g.S.Shelf.taken g.S.Shelf.faults c.base_pair.new.reader c.base_pair.new.shelf) in
-    let l : Moment = (moment g.S.Shelf.files g.S.Shelf.admits g.S.Shelf.rest g.S.Shelf.taken g.S.Shelf.faults c.weights.new.reader c.weights.new.shelf) in
-    let j : Moment = (moment g.S.Shelf.files g.S.Shelf.admits g.S.Shelf.rest g.S.Shelf.taken g.S.Shelf.faults c.outflows.new.reader c.outflows.new.shelf) in
+    let m : Moment = moment c.args.reader.now (g.S.Shelf.told c.args.shelf.now) in
+    let k : Moment = moment c.base_pair.new.reader (g.S.Shelf.told c.base_pair.new.shelf) in
+    let l : Moment = moment c.weights.new.reader (g.S.Shelf.told c.weights.new.shelf) in
+    let j : Moment = moment c.outflows.new.reader (g.S.Shelf.told c.outflows.new.shelf) in
     let p = err_from_is_err_and c.from_residual-in_err-outflows.result c.from_residual-in_err-outflows.ensures.1 in
     rw (p.1, p.2) (halts-then Never Never m l j _ c.in_err-outflows.field-0.0 (λ rest r x. x) (run-then m k l _ _ c.in_ok-base.ensures.0 c.in_ok-weights.ensures.run) c.in_err-outflows.ensures)
 
 pub returns-in_err-direct : goal.returns-in_err-direct
 returns-in_err-direct g c =
-    let m : Moment = (moment g.S.Shelf.files g.S.Shelf.admits g.S.Shelf.rest g.S.Shelf.taken g.S.Shelf.faults c.args.reader.now c.args.shelf.now) in
-    let k : Moment = (moment g.S.Shelf.files g.S.Shelf.admits g.S.Shelf.rest g.S.Shelf.taken g.S.Shelf.faults c.base_pair.new.reader c.base_pair.new.shelf) in
-    let l : Moment = (moment g.S.Shelf.files g.S.Shelf.admits g.S.Shelf.rest g.S.Shelf.taken g.S.Shelf.faults c.weights.new.reader c.weights.new.shelf) in
-    let j : Moment = (moment g.S.Shelf.files g.S.Shelf.admits g.S.Shelf.rest g.S.Shelf.taken g.S.Shelf.faults c.outflows.new.reader c.outflows.new.shelf) in
-    let i : Moment = (moment g.S.Shelf.files g.S.Shelf.admits g.S.Shelf.rest g.S.Shelf.taken g.S.Shelf.faults c.directs.new.reader c.directs.new.shelf) in
+    let m : Moment = moment c.args.reader.now (g.S.Shelf.told c.args.shelf.now) in
+    let k : Moment = moment c.base_pair.new.reader (g.S.Shelf.told c.base_pair.new.shelf) in
+    let l : Moment = moment c.weights.new.reader (g.S.Shelf.told c.weights.new.shelf) in
+    let j : Moment = moment c.outflows.new.reader (g.S.Shelf.told c.outflows.new.shelf) in
+    let i : Moment = moment c.directs.new.reader (g.S.Shelf.told c.directs.new.shelf) in
     let p = err_from_is_err_and c.from_residual-in_err-direct.result c.from_residual-in_err-direct.ensures.1 in
     rw (p.1, p.2) (halts-then Never Never m j i _ c.in_err-direct.field-0.0 (λ rest r x. x)
     (run-then m k j _ _ c.in_ok-base.ensures.0 (run-then k l j _ _ c.in_ok-weights.ensures.run c.in_ok-outflows.ensures.run)) c.in_err-direct.ensures)
 
 pub returns : goal.returns
 returns g c =
-    let m : Moment = (moment g.S.Shelf.files g.S.Shelf.admits g.S.Shelf.rest g.S.Shelf.taken g.S.Shelf.faults c.args.reader.now c.args.shelf.now) in
-    let k : Moment = (moment g.S.Shelf.files g.S.Shelf.admits g.S.Shelf.rest g.S.Shelf.taken g.S.Shelf.faults c.base_pair.new.reader c.base_pair.new.shelf) in
-    let l : Moment = (moment g.S.Shelf.files g.S.Shelf.admits g.S.Shelf.rest g.S.Shelf.taken g.S.Shelf.faults c.weights.new.reader c.weights.new.shelf) in
-    let j : Moment = (moment g.S.Shelf.files g.S.Shelf.admits g.S.Shelf.rest g.S.Shelf.taken g.S.Shelf.faults c.outflows.new.reader c.outflows.new.shelf) in
-    let i : Moment = (moment g.S.Shelf.files g.S.Shelf.admits g.S.Shelf.rest g.S.Shelf.taken g.S.Shelf.faults c.directs.new.reader c.directs.new.shelf) in
+    let m : Moment = moment c.args.reader.now (g.S.Shelf.told c.args.shelf.now) in
+    let k : Moment = moment c.base_pair.new.reader (g.S.Shelf.told c.base_pair.new.shelf) in
+    let l : Moment = moment c.weights.new.reader (g.S.Shelf.told c.weights.new.shelf) in
+    let j : Moment = moment c.outflows.new.reader (g.S.Shelf.told c.outflows.new.shelf) in
+    let i : Moment = moment c.directs.new.reader (g.S.Shelf.told c.directs.new.shelf) in
     let ws = c.in_ok-weights.ensures in
     let os = c.in_ok-outflows.ensures in
     let ds = c.in_ok-direct.ensures in

@@ -15,7 +15,7 @@ use Rattle.cert_checker.proofs.opening.weights.Goals as goal
 pub loop-init : goal.loop-init
 loop-init g c =
     let n : Net = net_of c.args.net.now in
-    let m : Moment = (moment g.S.Shelf.files g.S.Shelf.admits g.S.Shelf.rest g.S.Shelf.taken g.S.Shelf.faults c.args.reader.now c.args.shelf.now) in (
+    let m : Moment = moment c.args.reader.now (g.S.Shelf.told c.args.shelf.now) in (
       ap (λ xs. slice_index_or xs 4 0) c.counts.ensures.counts,
       omega arith,
       let more : n.feeds ≡ n.feeds - 0 = omega arith in listed-none weight m c.new-weights.result.items
@@ -35,26 +35,26 @@ weight-requires-clause-used_up g c = c.loop.invariant.2.ready.used_up
 
 pub returns-in_err-weight : goal.returns-in_err-weight
 returns-in_err-weight g c =
-    let m : Moment = (moment g.S.Shelf.files g.S.Shelf.admits g.S.Shelf.rest g.S.Shelf.taken g.S.Shelf.faults c.args.reader.now c.args.shelf.now) in
-    let k : Moment = (moment g.S.Shelf.files g.S.Shelf.admits g.S.Shelf.rest g.S.Shelf.taken g.S.Shelf.faults c.loop.reader c.loop.shelf) in
-    let l : Moment = (moment g.S.Shelf.files g.S.Shelf.admits g.S.Shelf.rest g.S.Shelf.taken g.S.Shelf.faults c.weight.new.reader c.weight.new.shelf) in
+    let m : Moment = moment c.args.reader.now (g.S.Shelf.told c.args.shelf.now) in
+    let k : Moment = moment c.loop.reader (g.S.Shelf.told c.loop.shelf) in
+    let l : Moment = moment c.weight.new.reader (g.S.Shelf.told c.weight.new.shelf) in
     let p = err_from_is_err_and c.from_residual.result c.from_residual.ensures.1 in
     rw (p.1, p.2) (failed-halts Never m l c.in_err-weight.field-0.0 (failed-then m k l _ c.in_err-weight.field-0.0 c.loop.invariant.2.run c.in_err-weight.ensures))
 
 pub returns-in_err-push : goal.returns-in_err-push
 returns-in_err-push g c =
-    let m : Moment = (moment g.S.Shelf.files g.S.Shelf.admits g.S.Shelf.rest g.S.Shelf.taken g.S.Shelf.faults c.args.reader.now c.args.shelf.now) in
-    let k : Moment = (moment g.S.Shelf.files g.S.Shelf.admits g.S.Shelf.rest g.S.Shelf.taken g.S.Shelf.faults c.loop.reader c.loop.shelf) in
-    let l : Moment = (moment g.S.Shelf.files g.S.Shelf.admits g.S.Shelf.rest g.S.Shelf.taken g.S.Shelf.faults c.weight.new.reader c.weight.new.shelf) in
+    let m : Moment = moment c.args.reader.now (g.S.Shelf.told c.args.shelf.now) in
+    let k : Moment = moment c.loop.reader (g.S.Shelf.told c.loop.shelf) in
+    let l : Moment = moment c.weight.new.reader (g.S.Shelf.told c.weight.new.shelf) in
     let p = err_from_is_err_and c.from_residual-in_err-push.result c.from_residual-in_err-push.ensures.1 in
     rw (p.1, p.2) (memory-halts Never m l (run-then m k l _ _ c.loop.invariant.2.run c.in_ok-weight.ensures.0).kept)
 
 pub loop-preserved : goal.loop-preserved
 loop-preserved g c =
     let n : Net = net_of c.args.net.now in
-    let m : Moment = (moment g.S.Shelf.files g.S.Shelf.admits g.S.Shelf.rest g.S.Shelf.taken g.S.Shelf.faults c.args.reader.now c.args.shelf.now) in
-    let k : Moment = (moment g.S.Shelf.files g.S.Shelf.admits g.S.Shelf.rest g.S.Shelf.taken g.S.Shelf.faults c.loop.reader c.loop.shelf) in
-    let l : Moment = (moment g.S.Shelf.files g.S.Shelf.admits g.S.Shelf.rest g.S.Shelf.taken g.S.Shelf.faults c.weight.new.reader c.weight.new.shelf) in
+    let m : Moment = moment c.args.reader.now (g.S.Shelf.told c.args.shelf.now) in
+    let k : Moment = moment c.loop.reader (g.S.Shelf.told c.loop.shelf) in
+    let l : Moment = moment c.weight.new.reader (g.S.Shelf.told c.weight.new.shelf) in
     let inv = c.loop.invariant in
     let lt : c.loop.counter < n.feeds = omega (arith, inv.0, c.loop-test.true) in
     let s : State = weights_left (n.feeds - c.loop.counter) n.outs n.directs in
@@ -67,7 +67,7 @@ loop-preserved g c =
 pub returns : goal.returns
 returns g c =
     let n : Net = net_of c.args.net.now in
-    let k : Moment = (moment g.S.Shelf.files g.S.Shelf.admits g.S.Shelf.rest g.S.Shelf.taken g.S.Shelf.faults c.loop.reader c.loop.shelf) in
+    let k : Moment = moment c.loop.reader (g.S.Shelf.told c.loop.shelf) in
     let inv = c.loop.invariant in
     let all : n.feeds - c.loop.counter ≡ 0 = omega (arith, inv.0, inv.1, c.loop-test.false) in
     record {

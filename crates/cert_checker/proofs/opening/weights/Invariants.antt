@@ -10,6 +10,5 @@ use Rattle.cert_checker.proofs.opening.weights.Given as goal
 abbrev pub invariant-loop : goal.invariant-loop
 invariant-loop g l =
     (l.end ≡ (net_of l.net).feeds) × (l.counter ≤ (net_of l.net).feeds)
-    × IsListed weight (moment g.S.Shelf.files g.S.Shelf.admits g.S.Shelf.rest g.S.Shelf.taken g.S.Shelf.faults l.fn.reader l.fn.shelf)
-    (moment g.S.Shelf.files g.S.Shelf.admits g.S.Shelf.rest g.S.Shelf.taken g.S.Shelf.faults l.reader l.shelf) l.weights.items l.counter
+    × IsListed weight (moment l.fn.reader (g.S.Shelf.told l.fn.shelf)) (moment l.reader (g.S.Shelf.told l.shelf)) l.weights.items l.counter
     (weights_left ((net_of l.net).feeds - l.counter) (net_of l.net).outs (net_of l.net).directs)

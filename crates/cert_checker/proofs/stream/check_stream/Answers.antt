@@ -8,7 +8,7 @@ use Rattle.cert_checker.proofs.stream.check_stream.Goals as goal
 pub returns-in_err-reader-clause-checked : goal.returns-in_err-reader-clause-checked
 returns-in_err-reader-clause-checked g c =
     let r = err_from_is_err_and c.from_residual.result c.from_residual.ensures.1 in
-    rw (r.1, r.2) (answer-memory (net_of c.args.net.now) c.args.most (g.S.Shelf.rest c.args.shelf.now))
+    rw (r.1, r.2) (answer-memory (net_of c.args.net.now) c.args.most (g.S.Shelf.told c.args.shelf.now).rest)
 
 pub returns-in_err-reader-clause-valid : goal.returns-in_err-reader-clause-valid
 returns-in_err-reader-clause-valid g c =
@@ -38,7 +38,7 @@ returns-clause-checked g c = let is = c.answer.ensures c.args.most c.in_ok-reade
 
 pub returns-clause-valid : goal.returns-clause-valid
 returns-clause-valid g c = let is = c.answer.ensures c.args.most c.in_ok-reader.ensures in λ bytes cert told short spelled valid. streamed (net_of c.args.net.now) c.args.most
-    (g.S.Shelf.rest c.args.shelf.now) bytes cert c.answer.result is.checked told short spelled valid is.no_memory_refusal
+    (g.S.Shelf.told c.args.shelf.now).rest bytes cert c.answer.result is.checked told short spelled valid is.no_memory_refusal
 
 pub returns-clause-too_long : goal.returns-clause-too_long
 returns-clause-too_long g c = let is = c.answer.ensures c.args.most c.in_ok-reader.ensures in is.too_long
@@ -49,17 +49,5 @@ returns-clause-read g c = let is = c.answer.ensures c.args.most c.in_ok-reader.e
 pub returns-clause-no_memory_refusal : goal.returns-clause-no_memory_refusal
 returns-clause-no_memory_refusal g c = let is = c.answer.ensures c.args.most c.in_ok-reader.ensures in is.no_memory_refusal
 
-pub returns-clause-same_files : goal.returns-clause-same_files
-returns-clause-same_files g c = let is = c.answer.ensures c.args.most c.in_ok-reader.ensures in is.kept.same_files
-
-pub returns-clause-same_names : goal.returns-clause-same_names
-returns-clause-same_names g c = let is = c.answer.ensures c.args.most c.in_ok-reader.ensures in is.kept.same_names
-
-pub returns-clause-same_telling : goal.returns-clause-same_telling
-returns-clause-same_telling g c = let is = c.answer.ensures c.args.most c.in_ok-reader.ensures in is.kept.same_telling
-
-pub returns-clause-taken_grows : goal.returns-clause-taken_grows
-returns-clause-taken_grows g c = let is = c.answer.ensures c.args.most c.in_ok-reader.ensures in is.kept.taken_grows
-
-pub returns-clause-faults_grow : goal.returns-clause-faults_grow
-returns-clause-faults_grow g c = let is = c.answer.ensures c.args.most c.in_ok-reader.ensures in is.kept.faults_grow
+pub returns-clause-kept : goal.returns-clause-kept
+returns-clause-kept g c = let is = c.answer.ensures c.args.most c.in_ok-reader.ensures in is.kept

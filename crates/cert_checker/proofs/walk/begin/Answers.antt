@@ -16,14 +16,14 @@ use Rattle.cert_checker.proofs.walk.begin.Goals as goal
 pub returns-in_err-kind-clause-begun : goal.returns-in_err-kind-clause-begun
 returns-in_err-kind-clause-begun g c =
     let n : Net = net_of c.args.net.now in
-    let m : Moment = (moment g.S.Shelf.files g.S.Shelf.admits g.S.Shelf.rest g.S.Shelf.taken g.S.Shelf.faults c.args.reader.now c.args.shelf.now) in
-    let h : Moment = (moment g.S.Shelf.files g.S.Shelf.admits g.S.Shelf.rest g.S.Shelf.taken g.S.Shelf.faults c.kind.new.reader c.kind.new.shelf) in
+    let m : Moment = moment c.args.reader.now (g.S.Shelf.told c.args.shelf.now) in
+    let h : Moment = moment c.kind.new.reader (g.S.Shelf.told c.kind.new.shelf) in
     let p = err_from_is_err_and c.from_residual.result c.from_residual.ensures.1 in
     rw (p.1, p.2) (failed-halts (IsRefusedFront n) m h c.in_err-kind.field-0.0 c.in_err-kind.ensures)
 
 pub shape-requires-clause-asks : goal.shape-requires-clause-asks
 shape-requires-clause-asks g c =
-    let h : Moment = (moment g.S.Shelf.files g.S.Shelf.admits g.S.Shelf.rest g.S.Shelf.taken g.S.Shelf.faults c.kind.new.reader c.kind.new.shelf) in
+    let h : Moment = moment c.kind.new.reader (g.S.Shelf.told c.kind.new.shelf) in
     let number = c.in_ok-kind.kind in
     let headed : IsReady h (states.Shape (kind_of number)) = subst (λ (s : State). IsReady h (behind_item s (kind number))) c.requires.ready.at c.in_ok-kind.ensures.1 in
     (kind_of number, headed.at)
@@ -31,18 +31,18 @@ shape-requires-clause-asks g c =
 pub returns-in_err-shape-clause-begun : goal.returns-in_err-shape-clause-begun
 returns-in_err-shape-clause-begun g c =
     let n : Net = net_of c.args.net.now in
-    let m : Moment = (moment g.S.Shelf.files g.S.Shelf.admits g.S.Shelf.rest g.S.Shelf.taken g.S.Shelf.faults c.args.reader.now c.args.shelf.now) in
-    let h : Moment = (moment g.S.Shelf.files g.S.Shelf.admits g.S.Shelf.rest g.S.Shelf.taken g.S.Shelf.faults c.kind.new.reader c.kind.new.shelf) in
-    let j : Moment = (moment g.S.Shelf.files g.S.Shelf.admits g.S.Shelf.rest g.S.Shelf.taken g.S.Shelf.faults c.shape.new.reader c.shape.new.shelf) in
+    let m : Moment = moment c.args.reader.now (g.S.Shelf.told c.args.shelf.now) in
+    let h : Moment = moment c.kind.new.reader (g.S.Shelf.told c.kind.new.shelf) in
+    let j : Moment = moment c.shape.new.reader (g.S.Shelf.told c.shape.new.shelf) in
     let p = err_from_is_err_and c.from_residual-in_err-shape.result c.from_residual-in_err-shape.ensures.1 in
     rw (p.1, p.2) (failed-halts (IsRefusedFront n) m j c.in_err-shape.field-0.0 (failed-then m h j _ c.in_err-shape.field-0.0 c.in_ok-kind.ensures.0 c.in_err-shape.ensures))
 
 pub returns-then-ne-clause-begun : goal.returns-then-ne-clause-begun
 returns-then-ne-clause-begun g c =
     let n : Net = net_of c.args.net.now in
-    let m : Moment = (moment g.S.Shelf.files g.S.Shelf.admits g.S.Shelf.rest g.S.Shelf.taken g.S.Shelf.faults c.args.reader.now c.args.shelf.now) in
-    let h : Moment = (moment g.S.Shelf.files g.S.Shelf.admits g.S.Shelf.rest g.S.Shelf.taken g.S.Shelf.faults c.kind.new.reader c.kind.new.shelf) in
-    let j : Moment = (moment g.S.Shelf.files g.S.Shelf.admits g.S.Shelf.rest g.S.Shelf.taken g.S.Shelf.faults c.shape.new.reader c.shape.new.shelf) in
+    let m : Moment = moment c.args.reader.now (g.S.Shelf.told c.args.shelf.now) in
+    let h : Moment = moment c.kind.new.reader (g.S.Shelf.told c.kind.new.shelf) in
+    let j : Moment = moment c.shape.new.reader (g.S.Shelf.told c.shape.new.shelf) in
     let number = c.in_ok-kind.kind in
     let headed : IsReady h (states.Shape (kind_of number)) = subst (λ (s : State). IsReady h (behind_item s (kind number))) c.requires.ready.at c.in_ok-kind.ensures.1 in
     let counts = c.in_ok-shape.shape in
@@ -54,9 +54,9 @@ returns-then-ne-clause-begun g c =
 pub returns-clause-begun : goal.returns-clause-begun
 returns-clause-begun g c =
     let n : Net = net_of c.args.net.now in
-    let m : Moment = (moment g.S.Shelf.files g.S.Shelf.admits g.S.Shelf.rest g.S.Shelf.taken g.S.Shelf.faults c.args.reader.now c.args.shelf.now) in
-    let h : Moment = (moment g.S.Shelf.files g.S.Shelf.admits g.S.Shelf.rest g.S.Shelf.taken g.S.Shelf.faults c.kind.new.reader c.kind.new.shelf) in
-    let j : Moment = (moment g.S.Shelf.files g.S.Shelf.admits g.S.Shelf.rest g.S.Shelf.taken g.S.Shelf.faults c.shape.new.reader c.shape.new.shelf) in
+    let m : Moment = moment c.args.reader.now (g.S.Shelf.told c.args.shelf.now) in
+    let h : Moment = moment c.kind.new.reader (g.S.Shelf.told c.kind.new.shelf) in
+    let j : Moment = moment c.shape.new.reader (g.S.Shelf.told c.shape.new.shelf) in
     let number = c.in_ok-kind.kind in
     let headed : IsReady h (states.Shape (kind_of number)) = subst (λ (s : State). IsReady h (behind_item s (kind number))) c.requires.ready.at c.in_ok-kind.ensures.1 in
     let counts = c.in_ok-shape.shape in

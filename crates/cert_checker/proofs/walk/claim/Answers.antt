@@ -16,27 +16,27 @@ use Rattle.cert_checker.proofs.walk.claim.Goals as goal
 
 pub returns-in_err-bound-in-Gap : goal.returns-in_err-bound-in-Gap
 returns-in_err-bound-in-Gap g c =
-    let m : Moment = (moment g.S.Shelf.files g.S.Shelf.admits g.S.Shelf.rest g.S.Shelf.taken g.S.Shelf.faults c.args.reader.now c.args.shelf.now) in
-    let k : Moment = (moment g.S.Shelf.files g.S.Shelf.admits g.S.Shelf.rest g.S.Shelf.taken g.S.Shelf.faults c.cost_pair.new.reader c.cost_pair.new.shelf) in
-    let l : Moment = (moment g.S.Shelf.files g.S.Shelf.admits g.S.Shelf.rest g.S.Shelf.taken g.S.Shelf.faults c.bound_number.new.reader c.bound_number.new.shelf) in
+    let m : Moment = moment c.args.reader.now (g.S.Shelf.told c.args.shelf.now) in
+    let k : Moment = moment c.cost_pair.new.reader (g.S.Shelf.told c.cost_pair.new.shelf) in
+    let l : Moment = moment c.bound_number.new.reader (g.S.Shelf.told c.bound_number.new.shelf) in
     let p = err_from_is_err_and c.from_residual-in_err-bound-in-Gap.result c.from_residual-in_err-bound-in-Gap.ensures.1 in
     rw (p.1, p.2) (failed-then m k l _ c.in_err-bound-in-Gap.field-0.0 c.in_ok-cost-in-Gap.ensures.0 c.in_err-bound-in-Gap.ensures)
 
 pub returns-in_err-gap-in-Gap : goal.returns-in_err-gap-in-Gap
 returns-in_err-gap-in-Gap g c =
-    let m : Moment = (moment g.S.Shelf.files g.S.Shelf.admits g.S.Shelf.rest g.S.Shelf.taken g.S.Shelf.faults c.args.reader.now c.args.shelf.now) in
-    let k : Moment = (moment g.S.Shelf.files g.S.Shelf.admits g.S.Shelf.rest g.S.Shelf.taken g.S.Shelf.faults c.cost_pair.new.reader c.cost_pair.new.shelf) in
-    let l : Moment = (moment g.S.Shelf.files g.S.Shelf.admits g.S.Shelf.rest g.S.Shelf.taken g.S.Shelf.faults c.bound_number.new.reader c.bound_number.new.shelf) in
-    let j : Moment = (moment g.S.Shelf.files g.S.Shelf.admits g.S.Shelf.rest g.S.Shelf.taken g.S.Shelf.faults c.gap_number.new.reader c.gap_number.new.shelf) in
+    let m : Moment = moment c.args.reader.now (g.S.Shelf.told c.args.shelf.now) in
+    let k : Moment = moment c.cost_pair.new.reader (g.S.Shelf.told c.cost_pair.new.shelf) in
+    let l : Moment = moment c.bound_number.new.reader (g.S.Shelf.told c.bound_number.new.shelf) in
+    let j : Moment = moment c.gap_number.new.reader (g.S.Shelf.told c.gap_number.new.shelf) in
     let p = err_from_is_err_and c.from_residual-in_err-gap-in-Gap.result c.from_residual-in_err-gap-in-Gap.ensures.1 in
     rw (p.1, p.2) (failed-then m l j _ c.in_err-gap-in-Gap.field-0.0 (run-then m k l _ _ c.in_ok-cost-in-Gap.ensures.0 c.in_ok-bound-in-Gap.ensures.0) c.in_err-gap-in-Gap.ensures)
 
 pub returns-in_ok-gap-in-Gap : goal.returns-in_ok-gap-in-Gap
 returns-in_ok-gap-in-Gap g c =
-    let m : Moment = (moment g.S.Shelf.files g.S.Shelf.admits g.S.Shelf.rest g.S.Shelf.taken g.S.Shelf.faults c.args.reader.now c.args.shelf.now) in
-    let k : Moment = (moment g.S.Shelf.files g.S.Shelf.admits g.S.Shelf.rest g.S.Shelf.taken g.S.Shelf.faults c.cost_pair.new.reader c.cost_pair.new.shelf) in
-    let l : Moment = (moment g.S.Shelf.files g.S.Shelf.admits g.S.Shelf.rest g.S.Shelf.taken g.S.Shelf.faults c.bound_number.new.reader c.bound_number.new.shelf) in
-    let j : Moment = (moment g.S.Shelf.files g.S.Shelf.admits g.S.Shelf.rest g.S.Shelf.taken g.S.Shelf.faults c.gap_number.new.reader c.gap_number.new.shelf) in
+    let m : Moment = moment c.args.reader.now (g.S.Shelf.told c.args.shelf.now) in
+    let k : Moment = moment c.cost_pair.new.reader (g.S.Shelf.told c.cost_pair.new.shelf) in
+    let l : Moment = moment c.bound_number.new.reader (g.S.Shelf.told c.bound_number.new.shelf) in
+    let j : Moment = moment c.gap_number.new.reader (g.S.Shelf.told c.gap_number.new.shelf) in
     let run = run-then m k j _ _ c.in_ok-cost-in-Gap.ensures.0 (run-then k l j _ _ c.in_ok-bound-in-Gap.ensures.0 c.in_ok-gap-in-Gap.ensures.0) in
     let n = c.in_ok-cost-in-Gap.cost in
     let b = c.in_ok-cost-in-Gap.base in
@@ -54,7 +54,7 @@ returns-in_ok-gap-in-Gap g c =
 
 pub returns-in-NoPlan : goal.returns-in-NoPlan
 returns-in-NoPlan g c =
-    let m : Moment = (moment g.S.Shelf.files g.S.Shelf.admits g.S.Shelf.rest g.S.Shelf.taken g.S.Shelf.faults c.args.reader.now c.args.shelf.now) in
+    let m : Moment = moment c.args.reader.now (g.S.Shelf.told c.args.shelf.now) in
     record {
       run = run-none m c.requires.ready.used_up;
       ready = subst (λ (o : Opening). IsReady m (claim_state (opening_kind o))) c.in-NoPlan.is c.requires.ready;

@@ -16,8 +16,8 @@ use Rattle.cert_checker.proofs.walk.tree.Goals as goal
 
 pub cut-requires-clause-asks : goal.cut-requires-clause-asks
 cut-requires-clause-asks g c =
-    let m : Moment = (moment g.S.Shelf.files g.S.Shelf.admits g.S.Shelf.rest g.S.Shelf.taken g.S.Shelf.faults c.args.reader.now c.args.shelf.now) in
-    let j : Moment = (moment g.S.Shelf.files g.S.Shelf.admits g.S.Shelf.rest g.S.Shelf.taken g.S.Shelf.faults c.loop-t.reader c.loop-t.shelf) in
+    let m : Moment = moment c.args.reader.now (g.S.Shelf.told c.args.shelf.now) in
+    let j : Moment = moment c.loop-t.reader (g.S.Shelf.told c.loop-t.shelf) in
     let kind : Kind = c.requires.asks.0 in
     let at = c.requires.asks.1.at in
     (kind, c.in_ok-count.count - (c.loop-t.t + 1), cut-asks (net_of c.args.net.now) kind m j c.in_ok-count.count c.loop-t.t c.loop-t.tree (c.loop-t.invariant kind at) c.loop-t-test.true)
@@ -27,9 +27,9 @@ judge-requires g c = (c.loop-t.invariant c.requires.asks.0 c.requires.asks.1.at)
 
 pub returns-in_err-split : goal.returns-in_err-split
 returns-in_err-split g c =
-    let m : Moment = (moment g.S.Shelf.files g.S.Shelf.admits g.S.Shelf.rest g.S.Shelf.taken g.S.Shelf.faults c.args.reader.now c.args.shelf.now) in
-    let j : Moment = (moment g.S.Shelf.files g.S.Shelf.admits g.S.Shelf.rest g.S.Shelf.taken g.S.Shelf.faults c.loop-t.reader c.loop-t.shelf) in
-    let l : Moment = (moment g.S.Shelf.files g.S.Shelf.admits g.S.Shelf.rest g.S.Shelf.taken g.S.Shelf.faults c.cut.new.reader c.cut.new.shelf) in
+    let m : Moment = moment c.args.reader.now (g.S.Shelf.told c.args.shelf.now) in
+    let j : Moment = moment c.loop-t.reader (g.S.Shelf.told c.loop-t.shelf) in
+    let l : Moment = moment c.cut.new.reader (g.S.Shelf.told c.cut.new.shelf) in
     let n : Net = net_of c.args.net.now in
     let count = c.in_ok-count.count in
     let p = err_from_is_err_and c.from_residual-in_err-split.result c.from_residual-in_err-split.ensures.1 in
@@ -37,9 +37,9 @@ returns-in_err-split g c =
 
 pub returns-in_err-push-in-Ok : goal.returns-in_err-push-in-Ok
 returns-in_err-push-in-Ok g c =
-    let m : Moment = (moment g.S.Shelf.files g.S.Shelf.admits g.S.Shelf.rest g.S.Shelf.taken g.S.Shelf.faults c.args.reader.now c.args.shelf.now) in
-    let j : Moment = (moment g.S.Shelf.files g.S.Shelf.admits g.S.Shelf.rest g.S.Shelf.taken g.S.Shelf.faults c.loop-t.reader c.loop-t.shelf) in
-    let l : Moment = (moment g.S.Shelf.files g.S.Shelf.admits g.S.Shelf.rest g.S.Shelf.taken g.S.Shelf.faults c.cut.new.reader c.cut.new.shelf) in
+    let m : Moment = moment c.args.reader.now (g.S.Shelf.told c.args.shelf.now) in
+    let j : Moment = moment c.loop-t.reader (g.S.Shelf.told c.loop-t.shelf) in
+    let l : Moment = moment c.cut.new.reader (g.S.Shelf.told c.cut.new.shelf) in
     let n : Net = net_of c.args.net.now in
     let count = c.in_ok-count.count in
     let p = err_from_is_err_and c.from_residual-in_err-push-in-Ok.result c.from_residual-in_err-push-in-Ok.ensures.1 in
@@ -47,9 +47,9 @@ returns-in_err-push-in-Ok g c =
 
 pub returns-in-Err : goal.returns-in-Err
 returns-in-Err g c =
-    let m : Moment = (moment g.S.Shelf.files g.S.Shelf.admits g.S.Shelf.rest g.S.Shelf.taken g.S.Shelf.faults c.args.reader.now c.args.shelf.now) in
-    let j : Moment = (moment g.S.Shelf.files g.S.Shelf.admits g.S.Shelf.rest g.S.Shelf.taken g.S.Shelf.faults c.loop-t.reader c.loop-t.shelf) in
-    let l : Moment = (moment g.S.Shelf.files g.S.Shelf.admits g.S.Shelf.rest g.S.Shelf.taken g.S.Shelf.faults c.cut.new.reader c.cut.new.shelf) in
+    let m : Moment = moment c.args.reader.now (g.S.Shelf.told c.args.shelf.now) in
+    let j : Moment = moment c.loop-t.reader (g.S.Shelf.told c.loop-t.shelf) in
+    let l : Moment = moment c.cut.new.reader (g.S.Shelf.told c.cut.new.shelf) in
     let n : Net = net_of c.args.net.now in
     let count = c.in_ok-count.count in
     λ kind at.
@@ -60,9 +60,9 @@ returns-in-Err g c =
 
 pub loop-t-preserved : goal.loop-t-preserved
 loop-t-preserved g c =
-    let m : Moment = (moment g.S.Shelf.files g.S.Shelf.admits g.S.Shelf.rest g.S.Shelf.taken g.S.Shelf.faults c.args.reader.now c.args.shelf.now) in
-    let j : Moment = (moment g.S.Shelf.files g.S.Shelf.admits g.S.Shelf.rest g.S.Shelf.taken g.S.Shelf.faults c.loop-t.reader c.loop-t.shelf) in
-    let l : Moment = (moment g.S.Shelf.files g.S.Shelf.admits g.S.Shelf.rest g.S.Shelf.taken g.S.Shelf.faults c.cut.new.reader c.cut.new.shelf) in
+    let m : Moment = moment c.args.reader.now (g.S.Shelf.told c.args.shelf.now) in
+    let j : Moment = moment c.loop-t.reader (g.S.Shelf.told c.loop-t.shelf) in
+    let l : Moment = moment c.cut.new.reader (g.S.Shelf.told c.cut.new.shelf) in
     let n : Net = net_of c.args.net.now in
     let count = c.in_ok-count.count in
     λ kind at.
@@ -74,6 +74,6 @@ loop-t-preserved g c =
 
 pub returns : goal.returns
 returns g c =
-    let m : Moment = (moment g.S.Shelf.files g.S.Shelf.admits g.S.Shelf.rest g.S.Shelf.taken g.S.Shelf.faults c.args.reader.now c.args.shelf.now) in
-    let j : Moment = (moment g.S.Shelf.files g.S.Shelf.admits g.S.Shelf.rest g.S.Shelf.taken g.S.Shelf.faults c.loop-t.reader c.loop-t.shelf) in
+    let m : Moment = moment c.args.reader.now (g.S.Shelf.told c.args.shelf.now) in
+    let j : Moment = moment c.loop-t.reader (g.S.Shelf.told c.loop-t.shelf) in
     λ kind at. cut-all (net_of c.args.net.now) kind m j c.in_ok-count.count c.loop-t.t c.loop-t.tree (c.loop-t.invariant kind at) (λ lt. omega (arith, lt, c.loop-t-test.false))

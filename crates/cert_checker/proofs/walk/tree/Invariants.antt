@@ -9,5 +9,4 @@ use Rattle.cert_checker.proofs.walk.tree.Given as goal
 -- so many splits are taken
 abbrev pub invariant-loop-t : goal.invariant-loop-t
 invariant-loop-t g l = (k : Kind) → l.fn.reader.state ≡ states.Splits k
-    → AreCut (net_of l.net) k (moment g.S.Shelf.files g.S.Shelf.admits g.S.Shelf.rest g.S.Shelf.taken g.S.Shelf.faults l.fn.reader l.fn.shelf)
-    (moment g.S.Shelf.files g.S.Shelf.admits g.S.Shelf.rest g.S.Shelf.taken g.S.Shelf.faults l.reader l.shelf) l.count l.t l.tree
+    → AreCut (net_of l.net) k (moment l.fn.reader (g.S.Shelf.told l.fn.shelf)) (moment l.reader (g.S.Shelf.told l.shelf)) l.count l.t l.tree

@@ -5,12 +5,12 @@ use Rattle.certificate_commands.proofs.checking.check_file.Goals as goal
 
 pub returns-in-Ok-clause-took : goal.returns-in-Ok-clause-took
 returns-in-Ok-clause-took g c = λ net reads.
-    took-file (g.S.Shelf.files c.args.shelf.now) net c.args.cert.now c.args.network.now (g.S.Shelf.rest c.open_read.new.self) c.in-Ok.ensures.opened reads
+    took-file (g.S.Shelf.told c.args.shelf.now).files net c.args.cert.now c.args.network.now (g.S.Shelf.told c.open_read.new.self).rest c.in-Ok.ensures.opened reads
     (check_status c.check_opened.result) (g.K.Sink.taken c.args.out.now) (g.K.Sink.taken c.check_opened.new.out) c.check_opened.ensures.took
 
 pub returns-in-Ok-clause-ends : goal.returns-in-Ok-clause-ends
 returns-in-Ok-clause-ends g c = λ net before reads grows.
-    let opened = g.S.Shelf.taken c.open_read.new.self in
-    ends-file (g.S.Shelf.files c.args.shelf.now) net c.args.cert.now c.args.network.now (g.S.Shelf.rest c.open_read.new.self) c.in-Ok.ensures.opened reads
-    before opened (g.S.Shelf.taken c.check_opened.new.shelf) (check_status c.check_opened.result)
-    (grows-then before (g.S.Shelf.taken c.args.shelf.now) opened grows c.open_read.ensures.taken_grows) c.check_opened.ensures.ends
+    let opened = (g.S.Shelf.told c.open_read.new.self).taken in
+    ends-file (g.S.Shelf.told c.args.shelf.now).files net c.args.cert.now c.args.network.now (g.S.Shelf.told c.open_read.new.self).rest c.in-Ok.ensures.opened reads
+    before opened (g.S.Shelf.told c.check_opened.new.shelf).taken (check_status c.check_opened.result)
+    (grows-then before (g.S.Shelf.told c.args.shelf.now).taken opened grows c.open_read.ensures.kept.taken_grows) c.check_opened.ensures.ends

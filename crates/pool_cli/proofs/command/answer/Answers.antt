@@ -30,14 +30,14 @@ solve-requires-clause-journal g c = (rw c.in-Solve.is at c.requires).2
 pub check-requires-clause-certificate : goal.check-requires-clause-certificate
 check-requires-clause-certificate g c = λ network reads.
     let admits = rw c.in-Check.is at c.requires in
-    subst (λ (name : List ℕ). IsTrue (g.S.Shelf.admits c.args.shelf.now name)) (sym c.as_str-in-Check.ensures.value)
-    (admits.1 network (subst (λ (name : List ℕ). ReadsUnder (g.S.Shelf.files c.args.shelf.now) name network) c.as_str.ensures.value reads))
+    subst (λ (name : List ℕ). IsTrue ((g.S.Shelf.told c.args.shelf.now).admits name)) (sym c.as_str-in-Check.ensures.value)
+    (admits.1 network (subst (λ (name : List ℕ). ReadsUnder (g.S.Shelf.told c.args.shelf.now).files name network) c.as_str.ensures.value reads))
 
 pub report-requires-clause-certificate : goal.report-requires-clause-certificate
 report-requires-clause-certificate g c = λ network reads.
     let admits = rw c.in-Report.is at c.requires in
-    subst (λ (name : List ℕ). IsTrue (g.S.Shelf.admits c.args.shelf.now name)) (sym c.as_str-in-Report-2.ensures.value)
-    (admits.1 network (subst (λ (name : List ℕ). ReadsUnder (g.S.Shelf.files c.args.shelf.now) name network) c.as_str-in-Report.ensures.value reads))
+    subst (λ (name : List ℕ). IsTrue ((g.S.Shelf.told c.args.shelf.now).admits name)) (sym c.as_str-in-Report-2.ensures.value)
+    (admits.1 network (subst (λ (name : List ℕ). ReadsUnder (g.S.Shelf.told c.args.shelf.now).files name network) c.as_str-in-Report.ensures.value reads))
 
 -- ---- solve
 
@@ -45,13 +45,13 @@ pub returns-in-Solve-clause-took : goal.returns-in-Solve-clause-took
 returns-in-Solve-clause-took g c =
     took_as (shown_request c.args.request) (solve (shown_solving c.in-Solve.words)) c.from.result (solve_status c.solve.result)
     (ap shown_request c.in-Solve.is) c.from.ensures
-    (g.S.Shelf.files c.args.shelf.now) (g.K.Sink.taken c.args.out.now) (g.K.Sink.taken c.solve.new.out) c.solve.ensures.took
+    (g.S.Shelf.told c.args.shelf.now).files (g.K.Sink.taken c.args.out.now) (g.K.Sink.taken c.solve.new.out) c.solve.ensures.took
 
 pub returns-in-Solve-clause-ends : goal.returns-in-Solve-clause-ends
 returns-in-Solve-clause-ends g c =
     ends_as (shown_request c.args.request) (solve (shown_solving c.in-Solve.words)) c.from.result (solve_status c.solve.result)
     (ap shown_request c.in-Solve.is) c.from.ensures
-    (g.S.Shelf.files c.args.shelf.now) (g.S.Shelf.taken c.args.shelf.now) (g.S.Shelf.taken c.solve.new.shelf) c.solve.ensures.ends
+    (g.S.Shelf.told c.args.shelf.now).files (g.S.Shelf.told c.args.shelf.now).taken (g.S.Shelf.told c.solve.new.shelf).taken c.solve.ensures.ends
 
 pub returns-in-Solve-clause-journal : goal.returns-in-Solve-clause-journal
 returns-in-Solve-clause-journal g c = λ tells.
@@ -59,7 +59,7 @@ returns-in-Solve-clause-journal g c = λ tells.
     let new = c.solve.new.disk in
     journals_as (shown_request c.args.request) (solve (shown_solving c.in-Solve.words)) c.from.result (solve_status c.solve.result)
     (ap shown_request c.in-Solve.is) c.from.ensures
-    (λ status s. Journaled (g.S.Shelf.files c.args.shelf.now) s
+    (λ status s. Journaled (g.S.Shelf.told c.args.shelf.now).files s
     (LeavesOnly g.D.Disk.moment g.D.Disk.left_since old new) (g.D.Disk.may_leave old) (g.D.Disk.reads new) (g.D.Disk.may_leave new)
     status (λ k. g.K.Sink.taken c.solve.new.out ≡ behind (g.K.Sink.taken c.args.out.now) (text_of k)))
     (λ file named. c.solve.ensures.journal file named tells)
@@ -70,13 +70,13 @@ pub returns-in-Check-clause-took : goal.returns-in-Check-clause-took
 returns-in-Check-clause-took g c =
     took_as (shown_request c.args.request) (check c.as_str.result.now c.as_str-in-Check.result.now) c.from-in-Check.result (check_status c.check.result)
     (ap shown_request c.in-Check.is ∙ ap₂ check (sym c.as_str.ensures.value) (sym c.as_str-in-Check.ensures.value)) c.from-in-Check.ensures
-    (g.S.Shelf.files c.args.shelf.now) (g.K.Sink.taken c.args.out.now) (g.K.Sink.taken c.check.new.out) c.check.ensures.took
+    (g.S.Shelf.told c.args.shelf.now).files (g.K.Sink.taken c.args.out.now) (g.K.Sink.taken c.check.new.out) c.check.ensures.took
 
 pub returns-in-Check-clause-ends : goal.returns-in-Check-clause-ends
 returns-in-Check-clause-ends g c =
     ends_as (shown_request c.args.request) (check c.as_str.result.now c.as_str-in-Check.result.now) c.from-in-Check.result (check_status c.check.result)
     (ap shown_request c.in-Check.is ∙ ap₂ check (sym c.as_str.ensures.value) (sym c.as_str-in-Check.ensures.value)) c.from-in-Check.ensures
-    (g.S.Shelf.files c.args.shelf.now) (g.S.Shelf.taken c.args.shelf.now) (g.S.Shelf.taken c.check.new.shelf) c.check.ensures.ends
+    (g.S.Shelf.told c.args.shelf.now).files (g.S.Shelf.told c.args.shelf.now).taken (g.S.Shelf.told c.check.new.shelf).taken c.check.ensures.ends
 
 -- ---- report
 
@@ -84,13 +84,13 @@ pub returns-in-Report-clause-took : goal.returns-in-Report-clause-took
 returns-in-Report-clause-took g c =
     took_as (shown_request c.args.request) (report c.as_str-in-Report.result.now c.as_str-in-Report-2.result.now) c.from-in-Report.result (report_status c.report.result)
     (ap shown_request c.in-Report.is ∙ ap₂ report (sym c.as_str-in-Report.ensures.value) (sym c.as_str-in-Report-2.ensures.value)) c.from-in-Report.ensures
-    (g.S.Shelf.files c.args.shelf.now) (g.K.Sink.taken c.args.out.now) (g.K.Sink.taken c.report.new.out) c.report.ensures.took
+    (g.S.Shelf.told c.args.shelf.now).files (g.K.Sink.taken c.args.out.now) (g.K.Sink.taken c.report.new.out) c.report.ensures.took
 
 pub returns-in-Report-clause-ends : goal.returns-in-Report-clause-ends
 returns-in-Report-clause-ends g c =
     ends_as (shown_request c.args.request) (report c.as_str-in-Report.result.now c.as_str-in-Report-2.result.now) c.from-in-Report.result (report_status c.report.result)
     (ap shown_request c.in-Report.is ∙ ap₂ report (sym c.as_str-in-Report.ensures.value) (sym c.as_str-in-Report-2.ensures.value)) c.from-in-Report.ensures
-    (g.S.Shelf.files c.args.shelf.now) (g.S.Shelf.taken c.args.shelf.now) (g.S.Shelf.taken c.report.new.shelf) c.report.ensures.ends
+    (g.S.Shelf.told c.args.shelf.now).files (g.S.Shelf.told c.args.shelf.now).taken (g.S.Shelf.told c.report.new.shelf).taken c.report.ensures.ends
 
 -- ---- formulate
 
@@ -98,13 +98,13 @@ pub returns-in-Formulate-clause-took : goal.returns-in-Formulate-clause-took
 returns-in-Formulate-clause-took g c =
     took_as (shown_request c.args.request) (formulate c.as_str-in-Formulate.result.now c.in-Formulate.form) c.from-in-Formulate.result (formulate_status c.formulate.result)
     (ap shown_request c.in-Formulate.is ∙ ap (λ n. formulate n c.in-Formulate.form) (sym c.as_str-in-Formulate.ensures.value)) c.from-in-Formulate.ensures
-    (g.S.Shelf.files c.args.shelf.now) (g.K.Sink.taken c.args.out.now) (g.K.Sink.taken c.formulate.new.out) c.formulate.ensures.took
+    (g.S.Shelf.told c.args.shelf.now).files (g.K.Sink.taken c.args.out.now) (g.K.Sink.taken c.formulate.new.out) c.formulate.ensures.took
 
 pub returns-in-Formulate-clause-ends : goal.returns-in-Formulate-clause-ends
 returns-in-Formulate-clause-ends g c =
     ends_as (shown_request c.args.request) (formulate c.as_str-in-Formulate.result.now c.in-Formulate.form) c.from-in-Formulate.result (formulate_status c.formulate.result)
     (ap shown_request c.in-Formulate.is ∙ ap (λ n. formulate n c.in-Formulate.form) (sym c.as_str-in-Formulate.ensures.value)) c.from-in-Formulate.ensures
-    (g.S.Shelf.files c.args.shelf.now) (g.S.Shelf.taken c.args.shelf.now) (g.S.Shelf.taken c.formulate.new.shelf) c.formulate.ensures.ends
+    (g.S.Shelf.told c.args.shelf.now).files (g.S.Shelf.told c.args.shelf.now).taken (g.S.Shelf.told c.formulate.new.shelf).taken c.formulate.ensures.ends
 
 -- ---- make
 
@@ -112,13 +112,13 @@ pub returns-in-Make-clause-took : goal.returns-in-Make-clause-took
 returns-in-Make-clause-took g c =
     took_as (shown_request c.args.request) (make c.in-Make.number) c.from-in-Make.result (make_status c.make.result)
     (ap shown_request c.in-Make.is) c.from-in-Make.ensures
-    (g.S.Shelf.files c.args.shelf.now) (g.K.Sink.taken c.args.out.now) (g.K.Sink.taken c.make.new.out) c.make.ensures.took
+    (g.S.Shelf.told c.args.shelf.now).files (g.K.Sink.taken c.args.out.now) (g.K.Sink.taken c.make.new.out) c.make.ensures.took
 
 pub returns-in-Make-clause-ends : goal.returns-in-Make-clause-ends
 returns-in-Make-clause-ends g c =
     ends_as (shown_request c.args.request) (make c.in-Make.number) c.from-in-Make.result (make_status c.make.result)
     (ap shown_request c.in-Make.is) c.from-in-Make.ensures
-    (g.S.Shelf.files c.args.shelf.now) (g.S.Shelf.taken c.args.shelf.now) (g.S.Shelf.taken c.args.shelf.now) c.make.ensures.ends
+    (g.S.Shelf.told c.args.shelf.now).files (g.S.Shelf.told c.args.shelf.now).taken (g.S.Shelf.told c.args.shelf.now).taken c.make.ensures.ends
 
 -- ---- trial
 
@@ -126,10 +126,10 @@ pub returns-in-Trial-clause-took : goal.returns-in-Trial-clause-took
 returns-in-Trial-clause-took g c =
     took_as (shown_request c.args.request) (trial c.in-Trial.number) c.from-in-Trial.result (trial_status c.trial.result)
     (ap shown_request c.in-Trial.is) c.from-in-Trial.ensures
-    (g.S.Shelf.files c.args.shelf.now) (g.K.Sink.taken c.args.out.now) (g.K.Sink.taken c.trial.new.out) c.trial.ensures.took
+    (g.S.Shelf.told c.args.shelf.now).files (g.K.Sink.taken c.args.out.now) (g.K.Sink.taken c.trial.new.out) c.trial.ensures.took
 
 pub returns-in-Trial-clause-ends : goal.returns-in-Trial-clause-ends
 returns-in-Trial-clause-ends g c =
     ends_as (shown_request c.args.request) (trial c.in-Trial.number) c.from-in-Trial.result (trial_status c.trial.result)
     (ap shown_request c.in-Trial.is) c.from-in-Trial.ensures
-    (g.S.Shelf.files c.args.shelf.now) (g.S.Shelf.taken c.args.shelf.now) (g.S.Shelf.taken c.args.shelf.now) c.trial.ensures.ends
+    (g.S.Shelf.told c.args.shelf.now).files (g.S.Shelf.told c.args.shelf.now).taken (g.S.Shelf.told c.args.shelf.now).taken c.trial.ensures.ends

@@ -17,8 +17,8 @@ use Rattle.pool_cli.proofs.command.run.Goals as goal
 
 pub answer-requires : goal.answer-requires
 answer-requires g c =
-    admitted (Asks (map string_bytes c.args.words.now)) (λ name. IsTrue (g.S.Shelf.admits c.args.shelf.now name)) (λ name. IsTrue (g.D.Disk.admits c.args.disk.now name))
-    (g.S.Shelf.files c.args.shelf.now) (gap-asked (map string_bytes c.args.words.now)) c.requires.solve c.requires.journal c.requires.check c.requires.certificate c.requires.report
+    admitted (Asks (map string_bytes c.args.words.now)) (λ name. IsTrue ((g.S.Shelf.told c.args.shelf.now).admits name)) (λ name. IsTrue (g.D.Disk.admits c.args.disk.now name))
+    (g.S.Shelf.told c.args.shelf.now).files (gap-asked (map string_bytes c.args.words.now)) c.requires.solve c.requires.journal c.requires.check c.requires.certificate c.requires.report
     c.requires.reported c.requires.formulate (shown_request c.in-Ok.request) c.in-Ok.ensures.asks
 
 -- ---- a request was read
@@ -26,16 +26,16 @@ answer-requires g c =
 pub returns-in-Ok-clause-took : goal.returns-in-Ok-clause-took
 returns-in-Ok-clause-took g c = λ asked asks.
     took_as asked (shown_request c.in-Ok.request) c.answer.result c.answer.result (c.in-Ok.ensures.only asked asks) refl
-    (g.S.Shelf.files c.args.shelf.now) (g.K.Sink.taken c.args.out.now) (g.K.Sink.taken c.answer.new.out) c.answer.ensures.took
+    (g.S.Shelf.told c.args.shelf.now).files (g.K.Sink.taken c.args.out.now) (g.K.Sink.taken c.answer.new.out) c.answer.ensures.took
 
 pub returns-in-Ok-clause-unanswered : goal.returns-in-Ok-clause-unanswered
 returns-in-Ok-clause-unanswered g c = λ un.
-    nothing_told (AnswersAs (g.S.Shelf.files c.args.shelf.now) (shown_request c.in-Ok.request)) c.answer.result
+    nothing_told (AnswersAs (g.S.Shelf.told c.args.shelf.now).files (shown_request c.in-Ok.request)) c.answer.result
     (g.K.Sink.taken c.args.out.now) (g.K.Sink.taken c.answer.new.out) un c.answer.ensures.took
 
 pub returns-in-Ok-clause-usage : goal.returns-in-Ok-clause-usage
 returns-in-Ok-clause-usage g c = λ is.
-    absurd (no_usage (g.S.Shelf.files c.args.shelf.now) (g.S.Shelf.taken c.args.shelf.now) (g.S.Shelf.taken c.answer.new.shelf)
+    absurd (no_usage (g.S.Shelf.told c.args.shelf.now).files (g.S.Shelf.told c.args.shelf.now).taken (g.S.Shelf.told c.answer.new.shelf).taken
     (shown_request c.in-Ok.request) c.answer.result c.answer.ensures.ends is)
 
 pub returns-in-Ok-clause-asked : goal.returns-in-Ok-clause-asked
@@ -44,13 +44,13 @@ returns-in-Ok-clause-asked g c = inr (shown_request c.in-Ok.request, c.in-Ok.ens
 pub returns-in-Ok-clause-ends : goal.returns-in-Ok-clause-ends
 returns-in-Ok-clause-ends g c = λ asked asks.
     ends_as asked (shown_request c.in-Ok.request) c.answer.result c.answer.result (c.in-Ok.ensures.only asked asks) refl
-    (g.S.Shelf.files c.args.shelf.now) (g.S.Shelf.taken c.args.shelf.now) (g.S.Shelf.taken c.answer.new.shelf) c.answer.ensures.ends
+    (g.S.Shelf.told c.args.shelf.now).files (g.S.Shelf.told c.args.shelf.now).taken (g.S.Shelf.told c.answer.new.shelf).taken c.answer.ensures.ends
 
 pub returns-in-Ok-clause-decided : goal.returns-in-Ok-clause-decided
 returns-in-Ok-clause-decided g c = λ told asked is asks.
-    let files = g.S.Shelf.files c.args.shelf.now in
-    let before = g.S.Shelf.taken c.args.shelf.now in
-    let after = g.S.Shelf.taken c.answer.new.shelf in
+    let files = (g.S.Shelf.told c.args.shelf.now).files in
+    let before = (g.S.Shelf.told c.args.shelf.now).taken in
+    let after = (g.S.Shelf.told c.answer.new.shelf).taken in
     decided files told before after asked c.answer.result is
     (ends_as asked (shown_request c.in-Ok.request) c.answer.result c.answer.result (c.in-Ok.ensures.only asked asks) refl files before after c.answer.ensures.ends)
 
@@ -59,7 +59,7 @@ returns-in-Ok-clause-journal g c = λ s file asks named tells.
     let old = c.args.disk.now in
     let new = c.answer.new.disk in
     subst
-    (JournalsAs (λ t. Journaled (g.S.Shelf.files c.args.shelf.now) t
+    (JournalsAs (λ t. Journaled (g.S.Shelf.told c.args.shelf.now).files t
     (LeavesOnly g.D.Disk.moment g.D.Disk.left_since old new) (g.D.Disk.may_leave old) (g.D.Disk.reads new) (g.D.Disk.may_leave new)
     c.answer.result (λ k. g.K.Sink.taken c.answer.new.out ≡ behind (g.K.Sink.taken c.args.out.now) (text_of k))))
     (sym (c.in-Ok.ensures.only (solve s) asks)) (c.answer.ensures.journal tells) file named
@@ -74,7 +74,7 @@ returns-in-Ok-clause-unasked g c = λ none. absurd (none (shown_request c.in-Ok.
 
 pub returns-in-Err-clause-took : goal.returns-in-Err-clause-took
 returns-in-Err-clause-took g c = λ asked asks.
-    rw c.status_of_words.ensures (words_took (AnswersAs (g.S.Shelf.files c.args.shelf.now) asked) c.in-Err.fault (g.K.Sink.taken c.args.out.now))
+    rw c.status_of_words.ensures (words_took (AnswersAs (g.S.Shelf.told c.args.shelf.now).files asked) c.in-Err.fault (g.K.Sink.taken c.args.out.now))
 
 pub returns-in-Err-clause-usage : goal.returns-in-Err-clause-usage
 returns-in-Err-clause-usage g c = λ is. c.in-Err.ensures.usage (ap (λ f. Err f) (words_usage c.in-Err.fault (sym c.status_of_words.ensures ∙ is)))
@@ -84,15 +84,15 @@ returns-in-Err-clause-asked g c = inl (subst IsUnanswered (sym c.status_of_words
 
 pub returns-in-Err-clause-ends : goal.returns-in-Err-clause-ends
 returns-in-Err-clause-ends g c = λ asked asks.
-    let files = g.S.Shelf.files c.args.shelf.now in
-    let taken = g.S.Shelf.taken c.args.shelf.now in
+    let files = (g.S.Shelf.told c.args.shelf.now).files in
+    let taken = (g.S.Shelf.told c.args.shelf.now).taken in
     subst (EndsAs files taken taken asked) (sym c.status_of_words.ensures)
     (words_ends files taken taken c.in-Err.fault asked (λ e. c.in-Err.ensures.usage (ap (λ f. Err f) e) asked asks))
 
 pub returns-in-Err-clause-decided : goal.returns-in-Err-clause-decided
 returns-in-Err-clause-decided g c = λ told asked is asks.
-    let files = g.S.Shelf.files c.args.shelf.now in
-    let taken = g.S.Shelf.taken c.args.shelf.now in
+    let files = (g.S.Shelf.told c.args.shelf.now).files in
+    let taken = (g.S.Shelf.told c.args.shelf.now).taken in
     decided files told taken taken asked c.status_of_words.result is
     (subst (EndsAs files taken taken asked) (sym c.status_of_words.ensures)
     (words_ends files taken taken c.in-Err.fault asked (λ e. c.in-Err.ensures.usage (ap (λ f. Err f) e) asked asks)))

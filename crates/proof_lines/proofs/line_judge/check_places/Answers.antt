@@ -14,7 +14,7 @@ use Rattle.proof_lines.proofs.line_judge.check_places.Goals as goal
 
 pub loop-k-init : goal.loop-k-init
 loop-k-init g c =
-    let m : Moment = (moment g.S.Shelf.files g.S.Shelf.admits g.S.Shelf.rest g.S.Shelf.taken g.S.Shelf.faults c.args.reader.now c.args.shelf.now) in (
+    let m : Moment = moment c.args.reader.now (g.S.Shelf.told c.args.shelf.now) in (
       omega arith,
       c.requires.order,
       λ kind at. record { at = at; used_up = c.requires.asks.1.used_up },
@@ -23,9 +23,9 @@ loop-k-init g c =
 
 pub returns-in_err-line : goal.returns-in_err-line
 returns-in_err-line g c =
-    let m : Moment = (moment g.S.Shelf.files g.S.Shelf.admits g.S.Shelf.rest g.S.Shelf.taken g.S.Shelf.faults c.args.reader.now c.args.shelf.now) in
-    let j : Moment = (moment g.S.Shelf.files g.S.Shelf.admits g.S.Shelf.rest g.S.Shelf.taken g.S.Shelf.faults c.loop-k.reader c.loop-k.shelf) in
-    let h : Moment = (moment g.S.Shelf.files g.S.Shelf.admits g.S.Shelf.rest g.S.Shelf.taken g.S.Shelf.faults c.head.new.reader c.head.new.shelf) in
+    let m : Moment = moment c.args.reader.now (g.S.Shelf.told c.args.shelf.now) in
+    let j : Moment = moment c.loop-k.reader (g.S.Shelf.told c.loop-k.shelf) in
+    let h : Moment = moment c.head.new.reader (g.S.Shelf.told c.head.new.shelf) in
     let count = c.args.count in
     let k = c.loop-k.k in
     let inv = c.loop-k.invariant in
@@ -36,9 +36,9 @@ returns-in_err-line g c =
 
 pub returns-in_err-least : goal.returns-in_err-least
 returns-in_err-least g c =
-    let m : Moment = (moment g.S.Shelf.files g.S.Shelf.admits g.S.Shelf.rest g.S.Shelf.taken g.S.Shelf.faults c.args.reader.now c.args.shelf.now) in
-    let j : Moment = (moment g.S.Shelf.files g.S.Shelf.admits g.S.Shelf.rest g.S.Shelf.taken g.S.Shelf.faults c.loop-k.reader c.loop-k.shelf) in
-    let h : Moment = (moment g.S.Shelf.files g.S.Shelf.admits g.S.Shelf.rest g.S.Shelf.taken g.S.Shelf.faults c.head.new.reader c.head.new.shelf) in
+    let m : Moment = moment c.args.reader.now (g.S.Shelf.told c.args.shelf.now) in
+    let j : Moment = moment c.loop-k.reader (g.S.Shelf.told c.loop-k.shelf) in
+    let h : Moment = moment c.head.new.reader (g.S.Shelf.told c.head.new.shelf) in
     let count = c.args.count in
     let k = c.loop-k.k in
     let inv = c.loop-k.invariant in
@@ -53,14 +53,14 @@ returns-in_err-least g c =
 
 pub returns-in_err-skip_parts : goal.returns-in_err-skip_parts
 returns-in_err-skip_parts g c =
-    let m : Moment = (moment g.S.Shelf.files g.S.Shelf.admits g.S.Shelf.rest g.S.Shelf.taken g.S.Shelf.faults c.args.reader.now c.args.shelf.now) in
-    let j : Moment = (moment g.S.Shelf.files g.S.Shelf.admits g.S.Shelf.rest g.S.Shelf.taken g.S.Shelf.faults c.loop-k.reader c.loop-k.shelf) in
-    let h : Moment = (moment g.S.Shelf.files g.S.Shelf.admits g.S.Shelf.rest g.S.Shelf.taken g.S.Shelf.faults c.head.new.reader c.head.new.shelf) in
+    let m : Moment = moment c.args.reader.now (g.S.Shelf.told c.args.shelf.now) in
+    let j : Moment = moment c.loop-k.reader (g.S.Shelf.told c.loop-k.shelf) in
+    let h : Moment = moment c.head.new.reader (g.S.Shelf.told c.head.new.shelf) in
     let count = c.args.count in
     let k = c.loop-k.k in
     let inv = c.loop-k.invariant in
     let lt : k < count = c.loop-k-test.true in
-    let l : Moment = (moment g.S.Shelf.files g.S.Shelf.admits g.S.Shelf.rest g.S.Shelf.taken g.S.Shelf.faults c.skip_parts.new.reader c.skip_parts.new.shelf) in
+    let l : Moment = moment c.skip_parts.new.reader (g.S.Shelf.told c.skip_parts.new.shelf) in
     let p = err_from_is_err_and c.from_residual-in_err-skip_parts.result c.from_residual-in_err-skip_parts.ensures.1 in
     rw (p.1, p.2) (λ kind list before at those long placed.
     let line = c.in_ok-line.line in
@@ -72,14 +72,14 @@ returns-in_err-skip_parts g c =
 
 pub loop-k-preserved : goal.loop-k-preserved
 loop-k-preserved g c =
-    let m : Moment = (moment g.S.Shelf.files g.S.Shelf.admits g.S.Shelf.rest g.S.Shelf.taken g.S.Shelf.faults c.args.reader.now c.args.shelf.now) in
-    let j : Moment = (moment g.S.Shelf.files g.S.Shelf.admits g.S.Shelf.rest g.S.Shelf.taken g.S.Shelf.faults c.loop-k.reader c.loop-k.shelf) in
-    let h : Moment = (moment g.S.Shelf.files g.S.Shelf.admits g.S.Shelf.rest g.S.Shelf.taken g.S.Shelf.faults c.head.new.reader c.head.new.shelf) in
+    let m : Moment = moment c.args.reader.now (g.S.Shelf.told c.args.shelf.now) in
+    let j : Moment = moment c.loop-k.reader (g.S.Shelf.told c.loop-k.shelf) in
+    let h : Moment = moment c.head.new.reader (g.S.Shelf.told c.head.new.shelf) in
     let count = c.args.count in
     let k = c.loop-k.k in
     let inv = c.loop-k.invariant in
     let lt : k < count = c.loop-k-test.true in
-    let l : Moment = (moment g.S.Shelf.files g.S.Shelf.admits g.S.Shelf.rest g.S.Shelf.taken g.S.Shelf.faults c.skip_parts.new.reader c.skip_parts.new.shelf) in (
+    let l : Moment = moment c.skip_parts.new.reader (g.S.Shelf.told c.skip_parts.new.shelf) in (
       omega (arith, inv.0),
       omega (arith, lt),
       λ kind at.
@@ -101,8 +101,8 @@ loop-k-preserved g c =
 
 pub returns : goal.returns
 returns g c =
-    let m : Moment = (moment g.S.Shelf.files g.S.Shelf.admits g.S.Shelf.rest g.S.Shelf.taken g.S.Shelf.faults c.args.reader.now c.args.shelf.now) in
-    let j : Moment = (moment g.S.Shelf.files g.S.Shelf.admits g.S.Shelf.rest g.S.Shelf.taken g.S.Shelf.faults c.loop-k.reader c.loop-k.shelf) in
+    let m : Moment = moment c.args.reader.now (g.S.Shelf.told c.args.shelf.now) in
+    let j : Moment = moment c.loop-k.reader (g.S.Shelf.told c.loop-k.shelf) in
     let inv = c.loop-k.invariant in
     let last : c.loop-k.k ≡ c.args.count = omega (arith, inv.1, c.loop-k-test.false) in
     λ kind list before at those long placed. gone-all list kind before m j c.args.count c.loop-k.least

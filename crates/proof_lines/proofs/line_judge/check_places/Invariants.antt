@@ -14,8 +14,7 @@ abbrev pub invariant-loop-k : goal.invariant-loop-k
 invariant-loop-k g l =
     (l.first ≤ l.k) × (l.k ≤ l.count)
     × ((kind : Kind) → l.fn.reader.state ≡ proofs_left kind (l.count - l.first)
-    → IsReady (moment g.S.Shelf.files g.S.Shelf.admits g.S.Shelf.rest g.S.Shelf.taken g.S.Shelf.faults l.reader l.shelf) (proofs_left kind (l.count - l.k)))
+    → IsReady (moment l.reader (g.S.Shelf.told l.shelf)) (proofs_left kind (l.count - l.k)))
     × ((kind : Kind) (list : List Split) (before : List NodeProof) → l.fn.reader.state ≡ proofs_left kind (l.count - l.first) → l.nodes ≡ trees.nodes list
     → length before ≡ l.first → ArePlacedTo list before l.fn.least
-    → AreGone list kind before (moment g.S.Shelf.files g.S.Shelf.admits g.S.Shelf.rest g.S.Shelf.taken g.S.Shelf.faults l.fn.reader l.fn.shelf)
-    (moment g.S.Shelf.files g.S.Shelf.admits g.S.Shelf.rest g.S.Shelf.taken g.S.Shelf.faults l.reader l.shelf) l.count l.k l.least)
+    → AreGone list kind before (moment l.fn.reader (g.S.Shelf.told l.fn.shelf)) (moment l.reader (g.S.Shelf.told l.shelf)) l.count l.k l.least)

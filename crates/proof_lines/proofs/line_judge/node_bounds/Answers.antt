@@ -11,13 +11,14 @@ use Rattle.proof_lines.specs.Lines.{AreLinesTaken}
 use Rattle.proof_lines.specs.Parts.{IsWrongLineList}
 use Rattle.proof_lines.specs.Runs.{Moment, moment}
 use Rattle.proof_lines.proofs.Judged.{lines-none, lines-all}
-use Rattle.proof_lines.proofs.Running.{kept-same, memory-halts}
+use Rattle.shelf_calls.proofs.Keeping.{keeps-same}
+use Rattle.proof_lines.proofs.Running.{memory-halts}
 use Rattle.proof_lines.proofs.line_judge.node_bounds.Goals as goal
 
 pub loop-k-init : goal.loop-k-init
 loop-k-init g c =
     let n : Net = net_of c.args.net.now in
-    let m : Moment = (moment g.S.Shelf.files g.S.Shelf.admits g.S.Shelf.rest g.S.Shelf.taken g.S.Shelf.faults c.args.reader.now c.args.shelf.now) in
+    let m : Moment = moment c.args.reader.now (g.S.Shelf.told c.args.shelf.now) in
     let new = c.in_ok-judge.ensures in (
       ap length new.none,
       new.unread,
@@ -35,20 +36,20 @@ next_line-requires-clause-asks g c =
 pub returns-in_err-judge : goal.returns-in_err-judge
 returns-in_err-judge g c =
     let n : Net = net_of c.args.net.now in
-    let m : Moment = (moment g.S.Shelf.files g.S.Shelf.admits g.S.Shelf.rest g.S.Shelf.taken g.S.Shelf.faults c.args.reader.now c.args.shelf.now) in
+    let m : Moment = moment c.args.reader.now (g.S.Shelf.told c.args.shelf.now) in
     let p = err_from_is_err_and c.from_residual.result c.from_residual.ensures.1 in
-    rw (p.1, p.2, c.in_err-judge.ensures.memory) (λ kind at. memory-halts (IsWrongLineList n c.args.tree.now.list c.args.count) m m (kept-same m))
+    rw (p.1, p.2, c.in_err-judge.ensures.memory) (λ kind at. memory-halts (IsWrongLineList n c.args.tree.now.list c.args.count) m m (keeps-same m.shelf))
 
 pub returns-in_err-least : goal.returns-in_err-least
 returns-in_err-least g c =
     let n : Net = net_of c.args.net.now in
-    let m : Moment = (moment g.S.Shelf.files g.S.Shelf.admits g.S.Shelf.rest g.S.Shelf.taken g.S.Shelf.faults c.args.reader.now c.args.shelf.now) in
+    let m : Moment = moment c.args.reader.now (g.S.Shelf.told c.args.shelf.now) in
     let p = err_from_is_err_and c.from_residual-in_err-least.result c.from_residual-in_err-least.ensures.1 in
     rw (p.1, p.2) (λ kind at. c.in_err-least.ensures.taken kind m (c.loop-k.invariant.6 kind at))
 
 pub loop-k-preserved : goal.loop-k-preserved
 loop-k-preserved g c =
-    let m : Moment = (moment g.S.Shelf.files g.S.Shelf.admits g.S.Shelf.rest g.S.Shelf.taken g.S.Shelf.faults c.args.reader.now c.args.shelf.now) in
+    let m : Moment = moment c.args.reader.now (g.S.Shelf.told c.args.shelf.now) in
     let is = c.in_ok-least.ensures in (
       is.bounds,
       is.next,
@@ -62,16 +63,16 @@ loop-k-preserved g c =
 pub returns-in_err-go_on : goal.returns-in_err-go_on
 returns-in_err-go_on g c =
     let n : Net = net_of c.args.net.now in
-    let m : Moment = (moment g.S.Shelf.files g.S.Shelf.admits g.S.Shelf.rest g.S.Shelf.taken g.S.Shelf.faults c.args.reader.now c.args.shelf.now) in
-    let q : Moment = (moment g.S.Shelf.files g.S.Shelf.admits g.S.Shelf.rest g.S.Shelf.taken g.S.Shelf.faults c.loop-k.reader c.loop-k.shelf) in
+    let m : Moment = moment c.args.reader.now (g.S.Shelf.told c.args.shelf.now) in
+    let q : Moment = moment c.loop-k.reader (g.S.Shelf.told c.loop-k.shelf) in
     let p = err_from_is_err_and c.from_residual-in_err-go_on.result c.from_residual-in_err-go_on.ensures.1 in
     rw (p.1, p.2) (λ kind at. memory-halts (IsWrongLineList n c.args.tree.now.list c.args.count) m q (c.loop-k.invariant.6 kind at).run.kept)
 
 pub returns : goal.returns
 returns g c =
     let n : Net = net_of c.args.net.now in
-    let m : Moment = (moment g.S.Shelf.files g.S.Shelf.admits g.S.Shelf.rest g.S.Shelf.taken g.S.Shelf.faults c.args.reader.now c.args.shelf.now) in
-    let q : Moment = (moment g.S.Shelf.files g.S.Shelf.admits g.S.Shelf.rest g.S.Shelf.taken g.S.Shelf.faults c.loop-k.reader c.loop-k.shelf) in
+    let m : Moment = moment c.args.reader.now (g.S.Shelf.told c.args.shelf.now) in
+    let q : Moment = moment c.loop-k.reader (g.S.Shelf.told c.loop-k.shelf) in
     let list : List Split = c.args.tree.now.list in
     let count = c.args.count in
     let inv = c.loop-k.invariant in

@@ -14,5 +14,4 @@ invariant-loop-k g l =
     (length l.judge.judge.bounds.items ≡ l.least) × (l.judge.judge.next ≡ l.k) × HasRoom (net_of l.net) l.judge × Fits (net_of l.net) l.judge.judge.scratch
     × (l.k ≤ l.count) × (l.least ≤ trees.nodes l.tree.list)
     × ((kind : Kind) → l.fn.reader.state ≡ proofs_left kind l.count
-    → AreLinesTaken (net_of l.net) l.tree.list kind (moment g.S.Shelf.files g.S.Shelf.admits g.S.Shelf.rest g.S.Shelf.taken g.S.Shelf.faults l.fn.reader l.fn.shelf)
-    (moment g.S.Shelf.files g.S.Shelf.admits g.S.Shelf.rest g.S.Shelf.taken g.S.Shelf.faults l.reader l.shelf) l.count l.k l.least l.judge.judge)
+    → AreLinesTaken (net_of l.net) l.tree.list kind (moment l.fn.reader (g.S.Shelf.told l.fn.shelf)) (moment l.reader (g.S.Shelf.told l.shelf)) l.count l.k l.least l.judge.judge)

@@ -13,7 +13,7 @@ use Rattle.proof_lines.proofs.line_judge.skip_parts.Goals as goal
 
 pub loop-init : goal.loop-init
 loop-init g c =
-    let m : Moment = (moment g.S.Shelf.files g.S.Shelf.admits g.S.Shelf.rest g.S.Shelf.taken g.S.Shelf.faults c.args.reader.now c.args.shelf.now) in
+    let m : Moment = moment c.args.reader.now (g.S.Shelf.told c.args.shelf.now) in
     let count = c.args.count in
     let more : count ≡ count - 0 = omega arith in (
       omega arith,
@@ -33,17 +33,17 @@ part-requires-clause-used_up g c = (c.loop.invariant.1 c.requires.asks.0 c.requi
 
 pub returns-in_err-part : goal.returns-in_err-part
 returns-in_err-part g c =
-    let m : Moment = (moment g.S.Shelf.files g.S.Shelf.admits g.S.Shelf.rest g.S.Shelf.taken g.S.Shelf.faults c.args.reader.now c.args.shelf.now) in
-    let j : Moment = (moment g.S.Shelf.files g.S.Shelf.admits g.S.Shelf.rest g.S.Shelf.taken g.S.Shelf.faults c.loop.reader c.loop.shelf) in
-    let l : Moment = (moment g.S.Shelf.files g.S.Shelf.admits g.S.Shelf.rest g.S.Shelf.taken g.S.Shelf.faults c.part.new.reader c.part.new.shelf) in
+    let m : Moment = moment c.args.reader.now (g.S.Shelf.told c.args.shelf.now) in
+    let j : Moment = moment c.loop.reader (g.S.Shelf.told c.loop.shelf) in
+    let l : Moment = moment c.part.new.reader (g.S.Shelf.told c.part.new.shelf) in
     let p = err_from_is_err_and c.from_residual.result c.from_residual.ensures.1 in
     rw (p.1, p.2) (λ kind behind at. failed-then m j l _ c.in_err-part.field-0.0 (c.loop.invariant.1 kind behind at).run c.in_err-part.ensures)
 
 pub loop-preserved : goal.loop-preserved
 loop-preserved g c =
-    let m : Moment = (moment g.S.Shelf.files g.S.Shelf.admits g.S.Shelf.rest g.S.Shelf.taken g.S.Shelf.faults c.args.reader.now c.args.shelf.now) in
-    let j : Moment = (moment g.S.Shelf.files g.S.Shelf.admits g.S.Shelf.rest g.S.Shelf.taken g.S.Shelf.faults c.loop.reader c.loop.shelf) in
-    let l : Moment = (moment g.S.Shelf.files g.S.Shelf.admits g.S.Shelf.rest g.S.Shelf.taken g.S.Shelf.faults c.part.new.reader c.part.new.shelf) in
+    let m : Moment = moment c.args.reader.now (g.S.Shelf.told c.args.shelf.now) in
+    let j : Moment = moment c.loop.reader (g.S.Shelf.told c.loop.shelf) in
+    let l : Moment = moment c.part.new.reader (g.S.Shelf.told c.part.new.shelf) in
     let count = c.args.count in
     let i = c.loop.counter in
     let lt : i < count = c.loop-test.true in (
@@ -57,8 +57,8 @@ loop-preserved g c =
 
 pub returns : goal.returns
 returns g c =
-    let m : Moment = (moment g.S.Shelf.files g.S.Shelf.admits g.S.Shelf.rest g.S.Shelf.taken g.S.Shelf.faults c.args.reader.now c.args.shelf.now) in
-    let j : Moment = (moment g.S.Shelf.files g.S.Shelf.admits g.S.Shelf.rest g.S.Shelf.taken g.S.Shelf.faults c.loop.reader c.loop.shelf) in
+    let m : Moment = moment c.args.reader.now (g.S.Shelf.told c.args.shelf.now) in
+    let j : Moment = moment c.loop.reader (g.S.Shelf.told c.loop.shelf) in
     let count = c.args.count in
     let last : c.loop.counter ≡ count = omega (arith, c.loop.invariant.0, c.loop-test.false) in
     let none : count - c.loop.counter ≡ 0 = omega (arith, last) in

@@ -9,6 +9,4 @@ use Rattle.proof_lines.proofs.line_judge.skip_parts.Given as goal
 abbrev pub invariant-loop : goal.invariant-loop
 invariant-loop g l =
     (l.counter ≤ l.count) × ((kind : Kind) (behind : ℕ) → l.fn.reader.state ≡ parts_left kind l.count behind
-    → ArePartsSkipped l.counter (parts_left kind (l.count - l.counter) behind)
-    (moment g.S.Shelf.files g.S.Shelf.admits g.S.Shelf.rest g.S.Shelf.taken g.S.Shelf.faults l.fn.reader l.fn.shelf)
-    (moment g.S.Shelf.files g.S.Shelf.admits g.S.Shelf.rest g.S.Shelf.taken g.S.Shelf.faults l.reader l.shelf))
+    → ArePartsSkipped l.counter (parts_left kind (l.count - l.counter) behind) (moment l.fn.reader (g.S.Shelf.told l.fn.shelf)) (moment l.reader (g.S.Shelf.told l.shelf)))

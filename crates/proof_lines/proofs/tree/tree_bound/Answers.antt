@@ -17,23 +17,23 @@ use Rattle.proof_lines.proofs.tree.tree_bound.Goals as goal
 pub returns-in_err-count-clause-bound : goal.returns-in_err-count-clause-bound
 returns-in_err-count-clause-bound g c =
     let n : Net = net_of c.args.net.now in
-    let m : Moment = (moment g.S.Shelf.files g.S.Shelf.admits g.S.Shelf.rest g.S.Shelf.taken g.S.Shelf.faults c.args.reader.now c.args.shelf.now) in
-    let h : Moment = (moment g.S.Shelf.files g.S.Shelf.admits g.S.Shelf.rest g.S.Shelf.taken g.S.Shelf.faults c.proofs.new.reader c.proofs.new.shelf) in
+    let m : Moment = moment c.args.reader.now (g.S.Shelf.told c.args.shelf.now) in
+    let h : Moment = moment c.proofs.new.reader (g.S.Shelf.told c.proofs.new.shelf) in
     let p = err_from_is_err_and c.from_residual.result c.from_residual.ensures.1 in
     rw (p.1, p.2) (λ kind at. failed-halts (AreWrongProofs n c.args.tree.now.list) m h c.in_err-count.field-0.0 c.in_err-count.ensures)
 
 pub node_bounds-requires-clause-asks : goal.node_bounds-requires-clause-asks
 node_bounds-requires-clause-asks g c =
-    let h : Moment = (moment g.S.Shelf.files g.S.Shelf.admits g.S.Shelf.rest g.S.Shelf.taken g.S.Shelf.faults c.proofs.new.reader c.proofs.new.shelf) in
+    let h : Moment = moment c.proofs.new.reader (g.S.Shelf.told c.proofs.new.shelf) in
     let kind : Kind = c.requires.asks.0 in
     (kind, subst (λ (s : State). IsReady h (behind_item s (proofs c.in_ok-count.count))) c.requires.asks.1.at c.in_ok-count.ensures.1)
 
 pub returns-in_err-bounds-clause-bound : goal.returns-in_err-bounds-clause-bound
 returns-in_err-bounds-clause-bound g c =
     let n : Net = net_of c.args.net.now in
-    let m : Moment = (moment g.S.Shelf.files g.S.Shelf.admits g.S.Shelf.rest g.S.Shelf.taken g.S.Shelf.faults c.args.reader.now c.args.shelf.now) in
-    let h : Moment = (moment g.S.Shelf.files g.S.Shelf.admits g.S.Shelf.rest g.S.Shelf.taken g.S.Shelf.faults c.proofs.new.reader c.proofs.new.shelf) in
-    let q : Moment = (moment g.S.Shelf.files g.S.Shelf.admits g.S.Shelf.rest g.S.Shelf.taken g.S.Shelf.faults c.node_bounds.new.reader c.node_bounds.new.shelf) in
+    let m : Moment = moment c.args.reader.now (g.S.Shelf.told c.args.shelf.now) in
+    let h : Moment = moment c.proofs.new.reader (g.S.Shelf.told c.proofs.new.shelf) in
+    let q : Moment = moment c.node_bounds.new.reader (g.S.Shelf.told c.node_bounds.new.shelf) in
     let p = err_from_is_err_and c.from_residual-in_err-bounds.result c.from_residual-in_err-bounds.ensures.1 in
     rw (p.1, p.2) (λ kind at.
     let ready : IsReady h (proofs_left kind c.in_ok-count.count) = subst (λ (s : State). IsReady h (behind_item s (proofs c.in_ok-count.count))) at c.in_ok-count.ensures.1 in
@@ -42,8 +42,8 @@ returns-in_err-bounds-clause-bound g c =
 pub least_bound-requires : goal.least_bound-requires
 least_bound-requires g c =
     let n : Net = net_of c.args.net.now in
-    let h : Moment = (moment g.S.Shelf.files g.S.Shelf.admits g.S.Shelf.rest g.S.Shelf.taken g.S.Shelf.faults c.proofs.new.reader c.proofs.new.shelf) in
-    let q : Moment = (moment g.S.Shelf.files g.S.Shelf.admits g.S.Shelf.rest g.S.Shelf.taken g.S.Shelf.faults c.node_bounds.new.reader c.node_bounds.new.shelf) in
+    let h : Moment = moment c.proofs.new.reader (g.S.Shelf.told c.proofs.new.shelf) in
+    let q : Moment = moment c.node_bounds.new.reader (g.S.Shelf.told c.node_bounds.new.shelf) in
     let kind : Kind = c.requires.asks.0 in
     let ready : IsReady h (proofs_left kind c.in_ok-count.count) = subst (λ (s : State). IsReady h (behind_item s (proofs c.in_ok-count.count))) c.requires.asks.1.at c.in_ok-count.ensures.1 in
     subst (λ (b : List (Option ℤ)). length b < 2 ^ 32) (sym c.as_slice.ensures.value)
@@ -52,9 +52,9 @@ least_bound-requires g c =
 pub returns-clause-bound : goal.returns-clause-bound
 returns-clause-bound g c =
     let n : Net = net_of c.args.net.now in
-    let m : Moment = (moment g.S.Shelf.files g.S.Shelf.admits g.S.Shelf.rest g.S.Shelf.taken g.S.Shelf.faults c.args.reader.now c.args.shelf.now) in
-    let h : Moment = (moment g.S.Shelf.files g.S.Shelf.admits g.S.Shelf.rest g.S.Shelf.taken g.S.Shelf.faults c.proofs.new.reader c.proofs.new.shelf) in
-    let q : Moment = (moment g.S.Shelf.files g.S.Shelf.admits g.S.Shelf.rest g.S.Shelf.taken g.S.Shelf.faults c.node_bounds.new.reader c.node_bounds.new.shelf) in
+    let m : Moment = moment c.args.reader.now (g.S.Shelf.told c.args.shelf.now) in
+    let h : Moment = moment c.proofs.new.reader (g.S.Shelf.told c.proofs.new.shelf) in
+    let q : Moment = moment c.node_bounds.new.reader (g.S.Shelf.told c.node_bounds.new.shelf) in
     λ kind at.
     let ready : IsReady h (proofs_left kind c.in_ok-count.count) = subst (λ (s : State). IsReady h (behind_item s (proofs c.in_ok-count.count))) at c.in_ok-count.ensures.1 in
     proofs-of n c.args.tree.now kind m h q c.in_ok-count.count c.in_ok-bounds.bounds c.least_bound.result c.requires.tree c.in_ok-count.ensures.0 (c.in_ok-bounds.ensures kind ready.at)

@@ -6,18 +6,18 @@ use Rattle.solve_command.proofs.solving.solve.Goals as goal
 
 pub returns-in-Ok-clause-took : goal.returns-in-Ok-clause-took
 returns-in-Ok-clause-took g c =
-    c.solve_network.ensures.took (g.S.Shelf.files c.args.shelf.now)
-    (subst (λ (name : List ℕ). ReadsUnder (g.S.Shelf.files c.args.shelf.now) name c.in-Ok.net) c.as_str.ensures.value c.in-Ok.ensures.reads)
+    c.solve_network.ensures.took (g.S.Shelf.told c.args.shelf.now).files
+    (subst (λ (name : List ℕ). ReadsUnder (g.S.Shelf.told c.args.shelf.now).files name c.in-Ok.net) c.as_str.ensures.value c.in-Ok.ensures.reads)
 
 pub returns-in-Ok-clause-ends : goal.returns-in-Ok-clause-ends
 returns-in-Ok-clause-ends g c =
-    c.solve_network.ensures.ends (g.S.Shelf.files c.args.shelf.now) _ _
-    (subst (λ (name : List ℕ). ReadsUnder (g.S.Shelf.files c.args.shelf.now) name c.in-Ok.net) c.as_str.ensures.value c.in-Ok.ensures.reads)
+    c.solve_network.ensures.ends (g.S.Shelf.told c.args.shelf.now).files _ _
+    (subst (λ (name : List ℕ). ReadsUnder (g.S.Shelf.told c.args.shelf.now).files name c.in-Ok.net) c.as_str.ensures.value c.in-Ok.ensures.reads)
 
 pub returns-in-Ok-clause-journal : goal.returns-in-Ok-clause-journal
 returns-in-Ok-clause-journal g c = λ file named tells.
-    c.solve_network.ensures.journal (g.S.Shelf.files c.args.shelf.now) file
-    (subst (λ (name : List ℕ). ReadsUnder (g.S.Shelf.files c.args.shelf.now) name c.in-Ok.net) c.as_str.ensures.value c.in-Ok.ensures.reads) named tells
+    c.solve_network.ensures.journal (g.S.Shelf.told c.args.shelf.now).files file
+    (subst (λ (name : List ℕ). ReadsUnder (g.S.Shelf.told c.args.shelf.now).files name c.in-Ok.net) c.as_str.ensures.value c.in-Ok.ensures.reads) named tells
 
 pub returns-in-Err-clause-journal : goal.returns-in-Err-clause-journal
 returns-in-Err-clause-journal g c = λ file named tells.

@@ -1,14 +1,14 @@
 use Rattle.std.proofs.Common.{◌+◌, ◌-◌, length}
 use Rattle.edge_io.specs.Counts.{RoseBy}
-use Rattle.cert_stream.proofs.Calls.{RanOn, Stays}
+use Rattle.shelf_calls.specs.Told.{Keeps}
+use Rattle.cert_stream.proofs.Calls.{RanOn}
 use Rattle.cert_stream.proofs.cert_reader.CertReader.finish.Given as goal
 
 abbrev pub invariant-loop-self : goal.invariant-loop-self
 invariant-loop-self g l =
-    RanOn l.fn.self (g.S.Shelf.rest l.fn.shelf) l.self (g.S.Shelf.rest l.shelf)
-    × RoseBy (l.fn.self.left - l.self.left) (g.S.Shelf.taken l.fn.shelf) (g.S.Shelf.taken l.shelf)
-    × Stays (g.S.Shelf.files l.fn.shelf) (g.S.Shelf.files l.shelf) (g.S.Shelf.admits l.fn.shelf) (g.S.Shelf.admits l.shelf) (g.S.Shelf.rest l.fn.shelf) (g.S.Shelf.rest l.shelf)
-    (g.S.Shelf.taken l.fn.shelf) (g.S.Shelf.taken l.shelf) (g.S.Shelf.faults l.fn.shelf) (g.S.Shelf.faults l.shelf)
+    RanOn l.fn.self (g.S.Shelf.told l.fn.shelf).rest l.self (g.S.Shelf.told l.shelf).rest
+    × RoseBy (l.fn.self.left - l.self.left) (g.S.Shelf.told l.fn.shelf).taken (g.S.Shelf.told l.shelf).taken
+    × Keeps (g.S.Shelf.told l.fn.shelf) (g.S.Shelf.told l.shelf)
 
 abbrev pub decreases-loop-self : goal.decreases-loop-self
 decreases-loop-self g l = length l.self.held + l.self.left

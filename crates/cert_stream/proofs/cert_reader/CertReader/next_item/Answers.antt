@@ -29,6 +29,6 @@ returns-in-Ok-2-clause-item g c =
 pub returns-in_ok-drain-in-Err-clause-text : goal.returns-in_ok-drain-in-Err-clause-text
 returns-in_ok-drain-in-Err-clause-text g c = λ f e.
     let same : c.in-Err.fault ≡ f = same-text Item c.in-Err.fault f e in
-    let took : Took c.fill.new.self (g.S.Shelf.rest c.fill.new.shelf) c.drain.new.self (g.S.Shelf.rest c.drain.new.shelf) =
-    subst (λ (r : Reader). Took r (g.S.Shelf.rest c.fill.new.shelf) c.drain.new.self (g.S.Shelf.rest c.drain.new.shelf)) c.in-Err.ensures.unchanged c.in_ok-drain-in-Err.ensures.took in
+    let took : Took c.fill.new.self (g.S.Shelf.told c.fill.new.shelf).rest c.drain.new.self (g.S.Shelf.told c.drain.new.shelf).rest =
+    subst (λ (r : Reader). Took r (g.S.Shelf.told c.fill.new.shelf).rest c.drain.new.self (g.S.Shelf.told c.drain.new.shelf).rest) c.in-Err.ensures.unchanged c.in_ok-drain-in-Err.ensures.took in
     gives-fault f c.requires.going c.in_ok-fill.ensures.filled (λ more m. c.in-Err.ensures.fault more m ∙ ap (λ (x : TextFault). Err x.line) same) took c.in_ok-drain-in-Err.ensures.ended

@@ -11,8 +11,8 @@ returns-in-Ok-eq0-clause-filled g c =
     let s : Reader = record { state = i.state; line = i.line; held = c.take_from.new.self; left = i.left; ended = true } in
     let none = c.in-Ok-eq0.field-0-test in
     let going : r.ended ≡ false = subst (λ (q : Reader). q.ended ≡ false) (sym c.self.view_is) c.requires.going in
-    subst (λ (q : Reader). Filled q (g.S.Shelf.rest c.args.shelf.now) s (g.S.Shelf.rest c.take_from.new.shelf)) c.self.view_is
-    (filled-piece r s (g.S.Shelf.rest c.args.shelf.now) (g.S.Shelf.rest c.take_from.new.shelf) c.in-Ok-eq0.field-0 going c.in-Ok-eq0.ensures.handed (omega (arith, none)) (λ _. none) refl refl)
+    subst (λ (q : Reader). Filled q (g.S.Shelf.told c.args.shelf.now).rest s (g.S.Shelf.told c.take_from.new.shelf).rest) c.self.view_is
+    (filled-piece r s (g.S.Shelf.told c.args.shelf.now).rest (g.S.Shelf.told c.take_from.new.shelf).rest c.in-Ok-eq0.field-0 going c.in-Ok-eq0.ensures.handed (omega (arith, none)) (λ _. none) refl refl)
 
 pub returns-in-Ok-2-clause-filled : goal.returns-in-Ok-2-clause-filled
 returns-in-Ok-2-clause-filled g c =
@@ -21,6 +21,6 @@ returns-in-Ok-2-clause-filled g c =
     let r : Reader = record { state = i.state; line = i.line; held = i.held; left = i.left; ended = i.ended } in
     let s : Reader = record { state = i.state; line = i.line; held = c.take_from.new.self; left = i.left - n; ended = i.ended } in
     let going : r.ended ≡ false = subst (λ (q : Reader). q.ended ≡ false) (sym c.self.view_is) c.requires.going in
-    subst (λ (q : Reader). Filled q (g.S.Shelf.rest c.args.shelf.now) s (g.S.Shelf.rest c.take_from.new.shelf)) c.self.view_is
-    (filled-piece r s (g.S.Shelf.rest c.args.shelf.now) (g.S.Shelf.rest c.take_from.new.shelf) n going c.in-Ok.ensures.handed
+    subst (λ (q : Reader). Filled q (g.S.Shelf.told c.args.shelf.now).rest s (g.S.Shelf.told c.take_from.new.shelf).rest) c.self.view_is
+    (filled-piece r s (g.S.Shelf.told c.args.shelf.now).rest (g.S.Shelf.told c.take_from.new.shelf).rest n going c.in-Ok.ensures.handed
     (omega (arith, c.if-count-self.false)) (λ e. absurd (false≢true (sym going ∙ e))) refl refl)

@@ -20,8 +20,8 @@ use Rattle.proof_lines.proofs.line_judge.LineJudge.next_line.Goals as goal
 pub returns-in_err-line-clause-taken : goal.returns-in_err-line-clause-taken
 returns-in_err-line-clause-taken g c =
     let n : Net = net_of c.args.net.now in
-    let j : Moment = (moment g.S.Shelf.files g.S.Shelf.admits g.S.Shelf.rest g.S.Shelf.taken g.S.Shelf.faults c.args.reader.now c.args.shelf.now) in
-    let h : Moment = (moment g.S.Shelf.files g.S.Shelf.admits g.S.Shelf.rest g.S.Shelf.taken g.S.Shelf.faults c.head.new.reader c.head.new.shelf) in
+    let j : Moment = moment c.args.reader.now (g.S.Shelf.told c.args.shelf.now) in
+    let h : Moment = moment c.head.new.reader (g.S.Shelf.told c.head.new.shelf) in
     let p = err_from_is_err_and c.from_residual.result c.from_residual.ensures.1 in
     rw (p.1, p.2) (λ kind m are.
     failed-halts (IsWrongLineList n c.args.tree.now.list c.args.count) m h c.in_err-line.field-0.0 (failed-then m j h _ c.in_err-line.field-0.0 are.run c.in_err-line.ensures))
@@ -30,8 +30,8 @@ pub returns-in_err-least-clause-taken : goal.returns-in_err-least-clause-taken
 returns-in_err-least-clause-taken g c =
     let n : Net = net_of c.args.net.now in
     let list : List Split = c.args.tree.now.list in
-    let j : Moment = (moment g.S.Shelf.files g.S.Shelf.admits g.S.Shelf.rest g.S.Shelf.taken g.S.Shelf.faults c.args.reader.now c.args.shelf.now) in
-    let h : Moment = (moment g.S.Shelf.files g.S.Shelf.admits g.S.Shelf.rest g.S.Shelf.taken g.S.Shelf.faults c.head.new.reader c.head.new.shelf) in
+    let j : Moment = moment c.args.reader.now (g.S.Shelf.told c.args.shelf.now) in
+    let h : Moment = moment c.head.new.reader (g.S.Shelf.told c.head.new.shelf) in
     let count = c.args.count in
     let k = c.args.k in
     let p = err_from_is_err_and c.from_residual-in_err-least.result c.from_residual-in_err-least.ensures.1 in
@@ -44,7 +44,7 @@ returns-in_err-least-clause-taken g c =
 
 pub read_parts-requires-clause-asks : goal.read_parts-requires-clause-asks
 read_parts-requires-clause-asks g c =
-    let h : Moment = (moment g.S.Shelf.files g.S.Shelf.admits g.S.Shelf.rest g.S.Shelf.taken g.S.Shelf.faults c.head.new.reader c.head.new.shelf) in
+    let h : Moment = moment c.head.new.reader (g.S.Shelf.told c.head.new.shelf) in
     let count = c.args.count in
     let k = c.args.k in
     let kind : Kind = c.requires.asks.0 in
@@ -56,9 +56,9 @@ read_parts-requires-clause-asks g c =
 pub returns-in_err-excess-clause-taken : goal.returns-in_err-excess-clause-taken
 returns-in_err-excess-clause-taken g c =
     let n : Net = net_of c.args.net.now in
-    let j : Moment = (moment g.S.Shelf.files g.S.Shelf.admits g.S.Shelf.rest g.S.Shelf.taken g.S.Shelf.faults c.args.reader.now c.args.shelf.now) in
-    let h : Moment = (moment g.S.Shelf.files g.S.Shelf.admits g.S.Shelf.rest g.S.Shelf.taken g.S.Shelf.faults c.head.new.reader c.head.new.shelf) in
-    let l : Moment = (moment g.S.Shelf.files g.S.Shelf.admits g.S.Shelf.rest g.S.Shelf.taken g.S.Shelf.faults c.read_parts.new.reader c.read_parts.new.shelf) in
+    let j : Moment = moment c.args.reader.now (g.S.Shelf.told c.args.shelf.now) in
+    let h : Moment = moment c.head.new.reader (g.S.Shelf.told c.head.new.shelf) in
+    let l : Moment = moment c.read_parts.new.reader (g.S.Shelf.told c.read_parts.new.shelf) in
     let count = c.args.count in
     let k = c.args.k in
     let p = err_from_is_err_and c.from_residual-in_err-excess.result c.from_residual-in_err-excess.ensures.1 in
@@ -71,7 +71,7 @@ returns-in_err-excess-clause-taken g c =
 
 pub check_places-requires-clause-asks : goal.check_places-requires-clause-asks
 check_places-requires-clause-asks g c =
-    let h : Moment = (moment g.S.Shelf.files g.S.Shelf.admits g.S.Shelf.rest g.S.Shelf.taken g.S.Shelf.faults c.head.new.reader c.head.new.shelf) in
+    let h : Moment = moment c.head.new.reader (g.S.Shelf.told c.head.new.shelf) in
     let count = c.args.count in
     let k = c.args.k in
     let kind : Kind = c.requires.asks.0 in
@@ -84,10 +84,10 @@ pub returns-in_err-check_places-clause-taken : goal.returns-in_err-check_places-
 returns-in_err-check_places-clause-taken g c =
     let n : Net = net_of c.args.net.now in
     let list : List Split = c.args.tree.now.list in
-    let j : Moment = (moment g.S.Shelf.files g.S.Shelf.admits g.S.Shelf.rest g.S.Shelf.taken g.S.Shelf.faults c.args.reader.now c.args.shelf.now) in
-    let h : Moment = (moment g.S.Shelf.files g.S.Shelf.admits g.S.Shelf.rest g.S.Shelf.taken g.S.Shelf.faults c.head.new.reader c.head.new.shelf) in
-    let l : Moment = (moment g.S.Shelf.files g.S.Shelf.admits g.S.Shelf.rest g.S.Shelf.taken g.S.Shelf.faults c.read_parts.new.reader c.read_parts.new.shelf) in
-    let q : Moment = (moment g.S.Shelf.files g.S.Shelf.admits g.S.Shelf.rest g.S.Shelf.taken g.S.Shelf.faults c.check_places.new.reader c.check_places.new.shelf) in
+    let j : Moment = moment c.args.reader.now (g.S.Shelf.told c.args.shelf.now) in
+    let h : Moment = moment c.head.new.reader (g.S.Shelf.told c.head.new.shelf) in
+    let l : Moment = moment c.read_parts.new.reader (g.S.Shelf.told c.read_parts.new.shelf) in
+    let q : Moment = moment c.check_places.new.reader (g.S.Shelf.told c.check_places.new.shelf) in
     let count = c.args.count in
     let k = c.args.k in
     let line = c.in_ok-line.line in
@@ -113,10 +113,10 @@ pub returns-in-Err-clause-taken : goal.returns-in-Err-clause-taken
 returns-in-Err-clause-taken g c =
     let n : Net = net_of c.args.net.now in
     let list : List Split = c.args.tree.now.list in
-    let j : Moment = (moment g.S.Shelf.files g.S.Shelf.admits g.S.Shelf.rest g.S.Shelf.taken g.S.Shelf.faults c.args.reader.now c.args.shelf.now) in
-    let h : Moment = (moment g.S.Shelf.files g.S.Shelf.admits g.S.Shelf.rest g.S.Shelf.taken g.S.Shelf.faults c.head.new.reader c.head.new.shelf) in
-    let l : Moment = (moment g.S.Shelf.files g.S.Shelf.admits g.S.Shelf.rest g.S.Shelf.taken g.S.Shelf.faults c.read_parts.new.reader c.read_parts.new.shelf) in
-    let q : Moment = (moment g.S.Shelf.files g.S.Shelf.admits g.S.Shelf.rest g.S.Shelf.taken g.S.Shelf.faults c.check_places.new.reader c.check_places.new.shelf) in
+    let j : Moment = moment c.args.reader.now (g.S.Shelf.told c.args.shelf.now) in
+    let h : Moment = moment c.head.new.reader (g.S.Shelf.told c.head.new.shelf) in
+    let l : Moment = moment c.read_parts.new.reader (g.S.Shelf.told c.read_parts.new.shelf) in
+    let q : Moment = moment c.check_places.new.reader (g.S.Shelf.told c.check_places.new.shelf) in
     let count = c.args.count in
     let k = c.args.k in
     let line = c.in_ok-line.line in
@@ -140,9 +140,9 @@ pub returns-clause-taken : goal.returns-clause-taken
 returns-clause-taken g c =
     let n : Net = net_of c.args.net.now in
     let list : List Split = c.args.tree.now.list in
-    let j : Moment = (moment g.S.Shelf.files g.S.Shelf.admits g.S.Shelf.rest g.S.Shelf.taken g.S.Shelf.faults c.args.reader.now c.args.shelf.now) in
-    let h : Moment = (moment g.S.Shelf.files g.S.Shelf.admits g.S.Shelf.rest g.S.Shelf.taken g.S.Shelf.faults c.head.new.reader c.head.new.shelf) in
-    let l : Moment = (moment g.S.Shelf.files g.S.Shelf.admits g.S.Shelf.rest g.S.Shelf.taken g.S.Shelf.faults c.read_parts.new.reader c.read_parts.new.shelf) in
+    let j : Moment = moment c.args.reader.now (g.S.Shelf.told c.args.shelf.now) in
+    let h : Moment = moment c.head.new.reader (g.S.Shelf.told c.head.new.shelf) in
+    let l : Moment = moment c.read_parts.new.reader (g.S.Shelf.told c.read_parts.new.shelf) in
     let count = c.args.count in
     let k = c.args.k in
     let line = c.in_ok-line.line in

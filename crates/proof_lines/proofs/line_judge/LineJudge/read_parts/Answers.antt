@@ -12,7 +12,7 @@ use Rattle.proof_lines.proofs.line_judge.LineJudge.read_parts.Goals as goal
 
 pub loop-i-init : goal.loop-i-init
 loop-i-init g c =
-    let m : Moment = (moment g.S.Shelf.files g.S.Shelf.admits g.S.Shelf.rest g.S.Shelf.taken g.S.Shelf.faults c.args.reader.now c.args.shelf.now) in (
+    let m : Moment = moment c.args.reader.now (g.S.Shelf.told c.args.shelf.now) in (
       refl,
       refl,
       refl,
@@ -24,23 +24,23 @@ loop-i-init g c =
 
 pub returns-in_err-part-clause-read : goal.returns-in_err-part-clause-read
 returns-in_err-part-clause-read g c =
-    let m : Moment = (moment g.S.Shelf.files g.S.Shelf.admits g.S.Shelf.rest g.S.Shelf.taken g.S.Shelf.faults c.args.reader.now c.args.shelf.now) in
-    let j : Moment = (moment g.S.Shelf.files g.S.Shelf.admits g.S.Shelf.rest g.S.Shelf.taken g.S.Shelf.faults c.loop-i.reader c.loop-i.shelf) in
+    let m : Moment = moment c.args.reader.now (g.S.Shelf.told c.args.shelf.now) in
+    let j : Moment = moment c.loop-i.reader (g.S.Shelf.told c.loop-i.shelf) in
     let inv = c.loop-i.invariant in
     let count = c.args.line.count in
     let most = c.args.self.now.rows in
-    let l : Moment = (moment g.S.Shelf.files g.S.Shelf.admits g.S.Shelf.rest g.S.Shelf.taken g.S.Shelf.faults c.part.new.reader c.part.new.shelf) in
+    let l : Moment = moment c.part.new.reader (g.S.Shelf.told c.part.new.shelf) in
     let p = err_from_is_err_and c.from_residual.result c.from_residual.ensures.1 in
     rw (p.1, p.2) (λ kind behind at. failed-then m j l _ c.in_err-part.field-0.0 (inv.5 kind behind at).run c.in_err-part.ensures)
 
 pub loop-i-preserved : goal.loop-i-preserved
 loop-i-preserved g c =
-    let m : Moment = (moment g.S.Shelf.files g.S.Shelf.admits g.S.Shelf.rest g.S.Shelf.taken g.S.Shelf.faults c.args.reader.now c.args.shelf.now) in
-    let j : Moment = (moment g.S.Shelf.files g.S.Shelf.admits g.S.Shelf.rest g.S.Shelf.taken g.S.Shelf.faults c.loop-i.reader c.loop-i.shelf) in
+    let m : Moment = moment c.args.reader.now (g.S.Shelf.told c.args.shelf.now) in
+    let j : Moment = moment c.loop-i.reader (g.S.Shelf.told c.loop-i.shelf) in
     let inv = c.loop-i.invariant in
     let count = c.args.line.count in
     let most = c.args.self.now.rows in
-    let l : Moment = (moment g.S.Shelf.files g.S.Shelf.admits g.S.Shelf.rest g.S.Shelf.taken g.S.Shelf.faults c.part.new.reader c.part.new.shelf) in
+    let l : Moment = moment c.part.new.reader (g.S.Shelf.told c.part.new.shelf) in
     let i = c.loop-i.i in
     let part = c.in_ok-part.part in (
       c.keep.ensures.judge ∙ inv.0,
@@ -60,8 +60,8 @@ loop-i-preserved g c =
 
 pub returns-then-rise-clause-read : goal.returns-then-rise-clause-read
 returns-then-rise-clause-read g c =
-    let m : Moment = (moment g.S.Shelf.files g.S.Shelf.admits g.S.Shelf.rest g.S.Shelf.taken g.S.Shelf.faults c.args.reader.now c.args.shelf.now) in
-    let j : Moment = (moment g.S.Shelf.files g.S.Shelf.admits g.S.Shelf.rest g.S.Shelf.taken g.S.Shelf.faults c.loop-i.reader c.loop-i.shelf) in
+    let m : Moment = moment c.args.reader.now (g.S.Shelf.told c.args.shelf.now) in
+    let j : Moment = moment c.loop-i.reader (g.S.Shelf.told c.loop-i.shelf) in
     let inv = c.loop-i.invariant in
     let count = c.args.line.count in
     let most = c.args.self.now.rows in
@@ -74,8 +74,8 @@ returns-then-rise-clause-read g c =
 
 pub returns-else-rise-clause-read : goal.returns-else-rise-clause-read
 returns-else-rise-clause-read g c =
-    let m : Moment = (moment g.S.Shelf.files g.S.Shelf.admits g.S.Shelf.rest g.S.Shelf.taken g.S.Shelf.faults c.args.reader.now c.args.shelf.now) in
-    let j : Moment = (moment g.S.Shelf.files g.S.Shelf.admits g.S.Shelf.rest g.S.Shelf.taken g.S.Shelf.faults c.loop-i.reader c.loop-i.shelf) in
+    let m : Moment = moment c.args.reader.now (g.S.Shelf.told c.args.shelf.now) in
+    let j : Moment = moment c.loop-i.reader (g.S.Shelf.told c.loop-i.shelf) in
     let inv = c.loop-i.invariant in
     let count = c.args.line.count in
     let most = c.args.self.now.rows in

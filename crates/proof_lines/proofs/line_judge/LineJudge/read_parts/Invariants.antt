@@ -11,5 +11,5 @@ invariant-loop-i g l =
     (l.self.judge ≡ l.fn.self.judge) × (l.self.root ≡ l.fn.self.root) × (l.self.ends ≡ l.fn.self.ends) × (l.self.rows ≡ l.fn.self.rows)
     × (vec_capacity l.self.proof.parts ≡ vec_capacity l.fn.self.proof.parts)
     × ((kind : Kind) (behind : ℕ) → l.fn.reader.state ≡ parts_left kind l.line.count behind
-    → ArePartsRead kind behind (moment g.S.Shelf.files g.S.Shelf.admits g.S.Shelf.rest g.S.Shelf.taken g.S.Shelf.faults l.fn.reader l.fn.shelf)
-    (moment g.S.Shelf.files g.S.Shelf.admits g.S.Shelf.rest g.S.Shelf.taken g.S.Shelf.faults l.reader l.shelf) l.line.count l.i l.fn.self.rows l.line.scale l.self.proof l.rise l.least)
+    → ArePartsRead kind behind (moment l.fn.reader (g.S.Shelf.told l.fn.shelf))
+    (moment l.reader (g.S.Shelf.told l.shelf)) l.line.count l.i l.fn.self.rows l.line.scale l.self.proof l.rise l.least)
