@@ -1,10 +1,10 @@
 //! The program: real files and streams round the top call.
 #![tactic(auto)]
 
-use disk_model::FileDisk;
+use disk_calls::FileDisk;
 use edge_io::StdSink;
-use shelf_calls::FileShelf;
 use pool_cli::{Status, run, write_message};
+use shelf_calls::FileShelf;
 use std::io::ErrorKind;
 use std::process::ExitCode;
 use std::rt::{Env, Files};

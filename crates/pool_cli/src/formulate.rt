@@ -9,9 +9,9 @@ ghost use Rattle.run_status.specs.Took.{Took};
 use blend_network::Network;
 use box_space::Form;
 use edge_io::Sink;
-use shelf_calls::Shelf;
 use program_text::{FormulationFault, write_formulation};
 use run_status::{Status, Unread, network_under};
+use shelf_calls::Shelf;
 use std::alloc::Global;
 
 /// How `formulate` ended.
