@@ -2,7 +2,7 @@
 use Rattle.std.proofs.Common.{◌≡◌, ℕ, ◌+◌, ◌≤◌, min, List, ◌∷◌, ◌++◌, length, get_or, take, drop, Option, Some, None}
 use Rattle.std.proofs.Common.{Result, Ok, Err, IfSome, OnErr, option_map, refl, sym, ◌∙◌, ap, subst, arith, length-take, length-drop}
 use Rattle.std.proofs.lemmas.List.{take-append-drop, take_all, take_min, drop_all, drop_more, append-nil}
-use Rattle.disk_calls.specs.Disks.{written, Torn, Shortened, Follows, Among, Only, Reaches, IsOneOf}
+use Rattle.disk_calls.specs.Disks.{written, Torn, Shortened, Follows, Among, Only, IsWithin, IsOneOf}
 
 -- ---- one image
 
@@ -70,19 +70,10 @@ pub behind-all : (old since P : List ℕ → Type 0) (file : List ℕ) (at n : �
 behind-all old since P file at n crash only is here =
     only-all (Torn at n) old since P file crash only (λ c torn. let parts = torn_behind at n file c is torn in subst P (sym parts.2) (here parts.0 parts.1))
 
-pub byte-all : (old since P : List ℕ → Type 0) (file : List ℕ) (at : ℕ) → Follows (Torn at 1) old since → Only file old → at + 1 ≤ length file
-    → ((byte : ℕ) → P (take at file ++ byte ∷ drop (at + 1) file)) → (c : List ℕ) → since c → P c
-byte-all old since P file at crash only within here = only-all (Torn at 1) old since P file crash only (λ c torn. let parts = torn_byte at file c within torn in subst P (sym parts.1) (here parts.0))
-
-pub cut-all : (old since P : List ℕ → Type 0) (file : List ℕ) (to : ℕ) → Follows (Shortened to) old since → Only file old → to ≤ length file
-    → ((n : ℕ) → to ≤ n → n ≤ length file → P (take n file)) → (c : List ℕ) → since c → P c
-cut-all old since P file to crash only within here =
-    only-all (Shortened to) old since P file crash only (λ c cut. let parts = cut_front to file c within cut in subst P (sym parts.3) (here parts.0 parts.1 parts.2))
-
 -- ---- what a read gives
 
 -- where a place is reached the file is known
-pub reaches-file : (reads : Option (List ℕ)) (place : ℕ) → Reaches reads place → (file : List ℕ) × (reads ≡ Some file) × (place ≤ length file)
+pub reaches-file : (reads : Option (List ℕ)) (place : ℕ) → IsWithin reads place → (file : List ℕ) × (reads ≡ Some file) × (place ≤ length file)
 reaches-file None place reached = absurd reached
 reaches-file (Some file) place reached = (file, refl, reached)
 

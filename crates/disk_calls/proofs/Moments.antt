@@ -1,64 +1,87 @@
 -- How a run of calls of a disk goes on: what holds of each image since its start still holds after one call more.
-use Rattle.std.proofs.Common.{◌≡◌, inl, inr, ⊎_elim, ℕ, ◌+◌, ◌≤◌, List, ◌∷◌, ◌++◌, length, take, drop, arith}
-use Rattle.disk_calls.specs.Disks.{Torn, Shortened, Follows, Among, Only, Elapses, LeavesOnly}
-use Rattle.disk_calls.proofs.Calling.{among-all, behind-all, byte-all, cut-all}
+use Rattle.std.proofs.Common.{◌≡◌, ◌⊎◌, inl, inr, ⊎_elim, ℕ, ◌≤◌, List, ◌++◌, length, refl, ◌∙◌, arith}
+use Rattle.edge_io.proofs.Counting.{grows-same, grows-then}
+use Rattle.disk_calls.specs.Disks.{DiskTold, Torn, Only, LeavesBy, LeavesNothingNew, GoesOn, IsSameDisk, LeavesOnly}
+use Rattle.disk_calls.proofs.Calling.{among-all, behind-all}
 
-module _ {D : Type 0} (moment : D → ℕ) (left_since : D → ℕ → List ℕ → Type 0) where
-  -- before the first call
-  pub started : (old : D) (P : List ℕ → Type 0) → ((c : List ℕ) → left_since old (moment old) c → P c) → LeavesOnly moment left_since old old P
-  started old P here = record { later = omega arith; each = here; before = λ t c le left. inl left }
+-- ---- one disk
 
-  -- one call more, since whose start each image has P
-  pub goes_on : (old mid new : D) (P : List ℕ → Type 0) → LeavesOnly moment left_since old mid P
-      → Elapses (moment mid) (moment new) (left_since mid) (left_since new) → ((c : List ℕ) → left_since new (moment mid) c → P c) → LeavesOnly moment left_since old new P
-  goes_on old mid new P so_far time here = record {
-    later = omega (arith, so_far.later, time.later);
-    each = λ c left. ⊎_elim (so_far.each c) (here c) (time.nothing_else (moment old) c so_far.later left);
-    before = λ t c le left. ⊎_elim (so_far.before t c le) (λ now. inr (here c now)) (time.nothing_else t c (omega (arith, le, so_far.later)) left);
-  }
+pub same_disk-same : (d : DiskTold) → IsSameDisk d d
+same_disk-same d = record { faults_grow = grows-same d.faults; same_telling = refl; same_names = refl }
 
-  -- one run after another
-  pub goes_further : (old mid new : D) (P : List ℕ → Type 0) → LeavesOnly moment left_since old mid P → LeavesOnly moment left_since mid new P → LeavesOnly moment left_since old new P
-  goes_further old mid new P first second = record {
-    later = omega (arith, first.later, second.later);
-    each = λ c left. ⊎_elim (first.each c) (λ has. has) (second.before (moment old) c first.later left);
-    before = λ t c le left. ⊎_elim (first.before t c le) (λ has. inr has) (second.before t c (omega (arith, le, first.later)) left);
-  }
+pub same_disk-then : (old mid new : DiskTold) → IsSameDisk old mid → IsSameDisk mid new → IsSameDisk old new
+same_disk-then old mid new first second = record {
+  faults_grow = grows-then old.faults mid.faults new.faults first.faults_grow second.faults_grow;
+  same_telling = second.same_telling ∙ first.same_telling;
+  same_names = second.same_names ∙ first.same_names;
+}
 
-  -- less of each image
-  pub leaves-weaker : (old new : D) (P Q : List ℕ → Type 0) → ((c : List ℕ) → P c → Q c) → LeavesOnly moment left_since old new P → LeavesOnly moment left_since old new Q
-  leaves-weaker old new P Q less run = record {
-    later = run.later;
-    each = λ c left. less c (run.each c left);
-    before = λ t c le left. ⊎_elim (λ past. inl past) (λ has. inr (less c has)) (run.before t c le left);
-  }
+-- ---- a call behind which a quiet one comes
 
-  module _ (may_leave : D → List ℕ → Type 0) where
-    -- what holds of each image since a moment holds of those of now
-    pub now-has : ((disk : D) (t : ℕ) (c : List ℕ) → t ≤ moment disk → may_leave disk c → left_since disk t c) → (old new : D) (P : List ℕ → Type 0)
-        → LeavesOnly moment left_since old new P → (c : List ℕ) → may_leave new c → P c
-    now-has counts_now old new P run c now = run.each c (counts_now new (moment old) c run.later now)
+-- what every call keeps
+pub goes_on-then : (old mid new : DiskTold) → GoesOn old mid → GoesOn mid new → LeavesNothingNew mid new → GoesOn old new
+goes_on-then old mid new first second quiet = record {
+  time = record {
+    later = omega (arith, first.time.later, second.time.later);
+    nothing_else = λ t c le left. ⊎_elim (λ past. on_the_way t c le past)
+        (λ now. on_the_way t c le (mid.counts_now t c (omega (arith, le, first.time.later)) (quiet c now)))
+        (second.time.nothing_else t c (omega (arith, le, first.time.later)) left);
+    keeps = λ t c le left. second.time.keeps t c (omega (arith, le, first.time.later)) (first.time.keeps t c le left);
+  };
+  same_disk = same_disk-then old mid new first.same_disk second.same_disk;
+}
+  where
+    on_the_way : (t : ℕ) (c : List ℕ) → t ≤ old.moment → mid.left_since t c → old.left_since t c ⊎ new.left_since old.moment c
+    on_the_way t c le left = ⊎_elim (λ past. inl past) (λ since. inr (second.time.keeps old.moment c first.time.later since)) (first.time.nothing_else t c le left)
 
-    -- a call that brings no new image: attach, len, read_at, sync
-    pub goes_on-kept : (old mid new : D) (P : List ℕ → Type 0) → LeavesOnly moment left_since old mid P
-        → Elapses (moment mid) (moment new) (left_since mid) (left_since new) → Among (may_leave mid) (left_since new (moment mid))
-        → ((c : List ℕ) → may_leave mid c → P c) → LeavesOnly moment left_since old new P
-    goes_on-kept old mid new P so_far time crash here = goes_on old mid new P so_far time (among-all (may_leave mid) (left_since new (moment mid)) P crash here)
+-- what a crash leaves on the way
+pub leaves_by-then : (step : List ℕ → List ℕ → Type 0) (old mid new : DiskTold) → LeavesBy step old mid → GoesOn old mid → GoesOn mid new → LeavesNothingNew mid new → LeavesBy step old new
+leaves_by-then step old mid new by first second quiet c left =
+    by c (⊎_elim (λ past. past) (λ now. mid.counts_now old.moment c first.time.later (quiet c now)) (second.time.nothing_else old.moment c first.time.later left))
 
-    -- a write behind the end of a file that is on the disk
-    pub goes_on-behind : (old mid new : D) (P : List ℕ → Type 0) (file : List ℕ) (at n : ℕ) → LeavesOnly moment left_since old mid P
-        → Elapses (moment mid) (moment new) (left_since mid) (left_since new) → Follows (Torn at n) (may_leave mid) (left_since new (moment mid)) → Only file (may_leave mid) → at ≡ length file
-        → ((rest : List ℕ) → length rest ≤ n → P (file ++ rest)) → LeavesOnly moment left_since old new P
-    goes_on-behind old mid new P file at n so_far time crash only is here = goes_on old mid new P so_far time (behind-all (may_leave mid) (left_since new (moment mid)) P file at n crash only is here)
+pub nothing_new-then : (old mid new : DiskTold) → LeavesNothingNew old mid → GoesOn old mid → GoesOn mid new → LeavesNothingNew mid new → LeavesNothingNew old new
+nothing_new-then old mid new none first second quiet c left =
+    none c (⊎_elim (λ past. past) (λ now. mid.counts_now old.moment c first.time.later (quiet c now)) (second.time.nothing_else old.moment c first.time.later left))
 
-    -- a write of one byte of a file that is on the disk
-    pub goes_on-byte : (old mid new : D) (P : List ℕ → Type 0) (file : List ℕ) (at : ℕ) → LeavesOnly moment left_since old mid P
-        → Elapses (moment mid) (moment new) (left_since mid) (left_since new) → Follows (Torn at 1) (may_leave mid) (left_since new (moment mid)) → Only file (may_leave mid) → at + 1 ≤ length file
-        → ((byte : ℕ) → P (take at file ++ byte ∷ drop (at + 1) file)) → LeavesOnly moment left_since old new P
-    goes_on-byte old mid new P file at so_far time crash only within here = goes_on old mid new P so_far time (byte-all (may_leave mid) (left_since new (moment mid)) P file at crash only within here)
+-- ---- images since the start of a run
 
-    -- a cut of a file that is on the disk
-    pub goes_on-cut : (old mid new : D) (P : List ℕ → Type 0) (file : List ℕ) (to : ℕ) → LeavesOnly moment left_since old mid P
-        → Elapses (moment mid) (moment new) (left_since mid) (left_since new) → Follows (Shortened to) (may_leave mid) (left_since new (moment mid)) → Only file (may_leave mid) → to ≤ length file
-        → ((n : ℕ) → to ≤ n → n ≤ length file → P (take n file)) → LeavesOnly moment left_since old new P
-    goes_on-cut old mid new P file to so_far time crash only within here = goes_on old mid new P so_far time (cut-all (may_leave mid) (left_since new (moment mid)) P file to crash only within here)
+-- before the first call
+pub started : (d : DiskTold) (P : List ℕ → Type 0) → ((c : List ℕ) → d.may_leave c → P c) → LeavesOnly d d P
+started d P here = record { later = omega arith; each = λ c left. here c (d.only_now c left); before = λ t c le left. inl left }
+
+-- one call more, since whose start each image has P
+pub goes_on : (old mid new : DiskTold) (P : List ℕ → Type 0) → LeavesOnly old mid P → GoesOn mid new → ((c : List ℕ) → new.left_since mid.moment c → P c) → LeavesOnly old new P
+goes_on old mid new P so_far call here = record {
+  later = omega (arith, so_far.later, call.time.later);
+  each = λ c left. ⊎_elim (so_far.each c) (here c) (call.time.nothing_else old.moment c so_far.later left);
+  before = λ t c le left. ⊎_elim (so_far.before t c le) (λ now. inr (here c now)) (call.time.nothing_else t c (omega (arith, le, so_far.later)) left);
+}
+
+-- one run after another
+pub goes_further : (old mid new : DiskTold) (P : List ℕ → Type 0) → LeavesOnly old mid P → LeavesOnly mid new P → LeavesOnly old new P
+goes_further old mid new P first second = record {
+  later = omega (arith, first.later, second.later);
+  each = λ c left. ⊎_elim (first.each c) (λ has. has) (second.before old.moment c first.later left);
+  before = λ t c le left. ⊎_elim (first.before t c le) (λ has. inr has) (second.before t c (omega (arith, le, first.later)) left);
+}
+
+-- less of each image
+pub leaves-weaker : (old new : DiskTold) (P Q : List ℕ → Type 0) → ((c : List ℕ) → P c → Q c) → LeavesOnly old new P → LeavesOnly old new Q
+leaves-weaker old new P Q less run = record {
+  later = run.later;
+  each = λ c left. less c (run.each c left);
+  before = λ t c le left. ⊎_elim (λ past. inl past) (λ has. inr (less c has)) (run.before t c le left);
+}
+
+-- what holds of each image since a moment holds of those of now
+pub now-has : (old new : DiskTold) (P : List ℕ → Type 0) → LeavesOnly old new P → (c : List ℕ) → new.may_leave c → P c
+now-has old new P run c now = run.each c (new.counts_now old.moment c run.later now)
+
+-- a call that brings no new image: attach, len, read_at, sync
+pub goes_on-kept : (old mid new : DiskTold) (P : List ℕ → Type 0) → LeavesOnly old mid P → GoesOn mid new → LeavesNothingNew mid new → LeavesOnly old new P
+goes_on-kept old mid new P so_far call crash = goes_on old mid new P so_far call (among-all mid.may_leave (new.left_since mid.moment) P crash (now-has old mid P so_far))
+
+-- a write behind the end of a file that is on the disk
+pub goes_on-behind : (old mid new : DiskTold) (P : List ℕ → Type 0) (file : List ℕ) (at n : ℕ) → LeavesOnly old mid P → GoesOn mid new → LeavesBy (Torn at n) mid new
+    → Only file mid.may_leave → at ≡ length file → ((rest : List ℕ) → length rest ≤ n → P (file ++ rest)) → LeavesOnly old new P
+goes_on-behind old mid new P file at n so_far call crash only is here = goes_on old mid new P so_far call (behind-all mid.may_leave (new.left_since mid.moment) P file at n crash only is here)

@@ -1,5 +1,44 @@
 -- What the calls of a disk do to its file, and what a crash may leave of it.
-use Rattle.std.specs.Prelude.{◌≡◌, ℕ, ◌+◌, ◌≤◌, ◌⊎◌, min, max, List, [], ◌∷◌, ◌++◌, length, take, drop, Option, Some, None}
+use Rattle.std.specs.Prelude.{◌≡◌, ℕ, ◌+◌, ◌≤◌, ◌⊎◌, min, max, Bool, true, false, IsTrue, List, [], ◌∷◌, ◌++◌, length, take, drop, Option, Some, None}
+use Rattle.edge_io.specs.Counts.{Grows, Rose}
+
+-- What there is to know of a disk: what its calls give, and which images of its file a crash leaves.
+pub record DiskTold : Type 1 where
+  -- whether it tells what reads give and what a crash leaves
+  pub tells : Bool
+  -- which names it admits
+  pub admits : List ℕ → Bool
+  -- how many of its calls have failed
+  pub faults : ℕ
+  -- what a read gives now: nothing is known before the first attach, and after a failure until the next
+  pub reads : Option (List ℕ)
+  -- the moment now, a number that never falls
+  pub moment : ℕ
+  -- the images that a crash now may leave
+  pub may_leave : List ℕ → Type 0
+  -- the images that a crash at some moment since that one may have left, during a call or between two
+  pub left_since : ℕ → List ℕ → Type 0
+  -- what a read gives is one of the images of now
+  pub reads_image : (file : List ℕ) → reads ≡ Some file → may_leave file
+  -- an image of now is one since each moment up to now
+  pub counts_now : (t : ℕ) (c : List ℕ) → t ≤ moment → may_leave c → left_since t c
+  -- since this moment there is no other
+  pub only_now : (c : List ℕ) → left_since moment c → may_leave c
+
+-- What there is to know of a disk that tells nothing and of which so many calls have failed: each list of bytes may be an image.
+abbrev pub untold : ℕ → DiskTold
+untold faults = record {
+  tells = false;
+  admits = λ _. true;
+  faults = faults;
+  reads = None;
+  moment = 0;
+  may_leave = λ _. Unit {0};
+  left_since = λ _ _. Unit {0};
+  reads_image = λ _ _. tt;
+  counts_now = λ _ _ _ _. tt;
+  only_now = λ _ _. tt;
+}
 
 -- the file with these bytes in the place of those from `at` on
 abbrev pub written : List ℕ → ℕ → List ℕ → List ℕ
@@ -31,14 +70,28 @@ abbrev pub Only : List ℕ → (List ℕ → Type 0) → Type 0
 Only file images = (c : List ℕ) → images c → c ≡ file
 
 -- what a read gives is known, and this place is within it or at its end
-abbrev pub Reaches : Option (List ℕ) → ℕ → Type 0
-Reaches None place = ⊥
-Reaches (Some file) place = place ≤ length file
+abbrev pub IsWithin : Option (List ℕ) → ℕ → Type 0
+IsWithin None place = ⊥
+IsWithin (Some file) place = place ≤ length file
+
+-- where the disk tells, a read may begin or end at this place
+abbrev pub Reaches : DiskTold → ℕ → Type 0
+Reaches d place = IsTrue d.tells → IsWithin d.reads place
 
 -- what a read gives is known, and it is one of these images
 abbrev pub IsOneOf : Option (List ℕ) → (List ℕ → Type 0) → Type 0
 IsOneOf None images = ⊥
 IsOneOf (Some file) images = images file
+
+-- ---- what a call leaves, keeps, and tells by a failure
+
+-- each image that a crash leaves on the way comes by this step from one of before
+abbrev pub LeavesBy : (List ℕ → List ℕ → Type 0) → DiskTold → DiskTold → Type 0
+LeavesBy step old new = Follows step old.may_leave (new.left_since old.moment)
+
+-- no image that a crash leaves on the way is new
+abbrev pub LeavesNothingNew : DiskTold → DiskTold → Type 0
+LeavesNothingNew old new = Among old.may_leave (new.left_since old.moment)
 
 -- Time goes on: a crash since t left what it might have left before, or what it may leave since the call's start.
 pub record Elapses (before now : ℕ) (past since : ℕ → List ℕ → Type 0) : Type 0 where
@@ -46,12 +99,30 @@ pub record Elapses (before now : ℕ) (past since : ℕ → List ℕ → Type 0)
   pub nothing_else : (t : ℕ) (c : List ℕ) → t ≤ before → since t c → past t c ⊎ since before c
   pub keeps : (t : ℕ) (c : List ℕ) → t ≤ before → past t c → since t c
 
+-- the count of faults never falls, and whether the disk tells and which names it admits stays
+pub record IsSameDisk (old new : DiskTold) : Type 0 where
+  pub faults_grow : Grows old.faults new.faults
+  pub same_telling : new.tells ≡ old.tells
+  pub same_names : new.admits ≡ old.admits
+
+-- what every call keeps
+pub record GoesOn (old new : DiskTold) : Type 0 where
+  pub time : Elapses old.moment new.moment old.left_since new.left_since
+  pub same_disk : IsSameDisk old new
+
+-- what every failure means: it is counted, and what a read gives is not known
+pub record Fails (old new : DiskTold) : Type 0 where
+  pub counted : Rose old.faults new.faults
+  pub unknown : new.reads ≡ None
+
+-- ---- runs of calls
+
 -- a crash at any moment from the one state to the other leaves a file that has P
-pub record LeavesOnly {D : Type 0} (moment : D → ℕ) (left_since : D → ℕ → List ℕ → Type 0) (old new : D) (P : List ℕ → Type 0) : Type 0 where
-  pub later : moment old ≤ moment new
-  pub each : (c : List ℕ) → left_since new (moment old) c → P c
+pub record LeavesOnly (old new : DiskTold) (P : List ℕ → Type 0) : Type 0 where
+  pub later : old.moment ≤ new.moment
+  pub each : (c : List ℕ) → new.left_since old.moment c → P c
   -- for a run that began earlier
-  pub before : (t : ℕ) (c : List ℕ) → t ≤ moment old → left_since new t c → left_since old t c ⊎ P c
+  pub before : (t : ℕ) (c : List ℕ) → t ≤ old.moment → new.left_since t c → old.left_since t c ⊎ P c
 
 -- the file, or the file with one byte more
 abbrev pub IsSameOrLonger : List ℕ → List ℕ → Type 0

@@ -1,8 +1,7 @@
 //! A disk that may crash at any moment.
 
-ghost use Rattle.std.specs.Prelude.{◌≡◌, ◌+◌, ◌^◌, ◌≤◌, ℕ, Bool, List, Option, Some, None, IsTrue, IfOk, IfSome, OnOk, OnErr, length, take, drop, option_map};
-ghost use Rattle.edge_io.specs.Counts.{Grows, Rose};
-ghost use Rattle.disk_calls.specs.Disks.{written, Torn, Shortened, Follows, Among, Only, Reaches, IsOneOf, Elapses};
+ghost use Rattle.std.specs.Prelude.{◌≡◌, ◌+◌, ◌^◌, ◌≤◌, IsTrue, IfOk, IfSome, OnOk, OnErr, length, take, drop, option_map};
+ghost use Rattle.disk_calls.specs.Disks.{DiskTold, written, Torn, Shortened, Only, Reaches, IsOneOf, LeavesBy, LeavesNothingNew, GoesOn, Fails};
 
 /// The longest file, in bytes.
 pub const MAX_LENGTH: u64 = 1 << 62;
@@ -20,112 +19,61 @@ pub struct DiskFailed;
 /// tells and which names it admits is changed by no call. Its count of faults never falls, and stands still at its last
 /// value, `2^64 - 1`.
 pub trait Disk {
-    /// Whether it tells what reads give and what a crash leaves.
-    ghost tells: { Self → Bool };
-
-    /// Which names it admits.
-    ghost admits: { Self → List ℕ → Bool };
-
-    /// How many of its calls have failed.
-    ghost faults: { Self → ℕ };
-
-    /// What a read gives now: nothing is known before the first attach, and after a failure until the next.
-    ghost reads: { Self → Option (List ℕ) };
-
-    /// The moment now, a number that never falls.
-    ghost moment: { Self → ℕ };
-
-    /// The images that a crash now may leave.
-    ghost may_leave: { Self → List ℕ → Type 0 };
-
-    /// The images that a crash at some moment since that one may have left, during a call or between two.
-    ghost left_since: { Self → ℕ → List ℕ → Type 0 };
+    /// What there is to know of it: what its calls give, and which images a crash leaves.
+    ghost told: { Self → DiskTold };
 
     /// Opens the file of that name, and makes it, empty, where there is none.
     fn attach(&mut self, name: &str) -> Result<(), DiskFailed>
-        requires { IsTrue (admits self.old name.now) }
-        ensures open { OnOk result (IsTrue (tells self.old) → IsOneOf (reads self.new) (may_leave self.old)) }
-        ensures crash { Among (may_leave self.old) (left_since self.new (moment self.old)) }
-        ensures time { Elapses (moment self.old) (moment self.new) (left_since self.old) (left_since self.new) }
-        ensures failed { OnErr result (Rose (faults self.old) (faults self.new)) }
-        ensures unknown { OnErr result (reads self.new ≡ None) }
-        ensures faults_grow { Grows (faults self.old) (faults self.new) }
-        ensures same_telling { tells self.new ≡ tells self.old }
-        ensures same_names { admits self.new ≡ admits self.old };
+        requires { IsTrue ((told self.old).admits name.now) }
+        ensures open { OnOk result (IsTrue (told self.old).tells → IsOneOf (told self.new).reads (told self.old).may_leave) }
+        ensures crash { LeavesNothingNew (told self.old) (told self.new) }
+        ensures goes_on { GoesOn (told self.old) (told self.new) }
+        ensures failed { OnErr result (Fails (told self.old) (told self.new)) };
 
     /// The length of the file, which is at most `2^62`.
     fn len(&mut self) -> Result<u64, DiskFailed>
-        ensures length { IfOk result (λ n. IfSome (reads self.old) (λ file. n ≡ length file)) }
+        ensures length { IfOk result (λ n. IfSome (told self.old).reads (λ file. n ≡ length file)) }
         ensures short { IfOk result (λ n. n ≤ 2 ^ 62) }
-        ensures same { OnOk result (reads self.new ≡ reads self.old) }
-        ensures crash { Among (may_leave self.old) (left_since self.new (moment self.old)) }
-        ensures time { Elapses (moment self.old) (moment self.new) (left_since self.old) (left_since self.new) }
-        ensures failed { OnErr result (Rose (faults self.old) (faults self.new)) }
-        ensures unknown { OnErr result (reads self.new ≡ None) }
-        ensures faults_grow { Grows (faults self.old) (faults self.new) }
-        ensures same_telling { tells self.new ≡ tells self.old }
-        ensures same_names { admits self.new ≡ admits self.old };
+        ensures same { OnOk result ((told self.new).reads ≡ (told self.old).reads) }
+        ensures crash { LeavesNothingNew (told self.old) (told self.new) }
+        ensures goes_on { GoesOn (told self.old) (told self.new) }
+        ensures failed { OnErr result (Fails (told self.old) (told self.new)) };
 
     /// Reads the bytes from that place on, as many as there is room for.
     fn read_at(&mut self, at: u64, into: &mut [u8]) -> Result<(), DiskFailed>
-        requires { IsTrue (tells self.old) → Reaches (reads self.old) (at + length into.old) }
+        requires { Reaches (told self.old) (at + length into.old) }
         // Promise: What a read gives and which images a crash may leave, now or since an earlier moment
-        ensures bytes { OnOk result (IfSome (reads self.old) (λ file. into.new ≡ take (length into.old) (drop at file))) }
-        ensures same { OnOk result (reads self.new ≡ reads self.old) }
-        ensures crash { Among (may_leave self.old) (left_since self.new (moment self.old)) }
-        ensures time { Elapses (moment self.old) (moment self.new) (left_since self.old) (left_since self.new) }
-        ensures failed { OnErr result (Rose (faults self.old) (faults self.new)) }
-        ensures unknown { OnErr result (reads self.new ≡ None) }
-        ensures faults_grow { Grows (faults self.old) (faults self.new) }
-        ensures same_telling { tells self.new ≡ tells self.old }
-        ensures same_names { admits self.new ≡ admits self.old };
+        ensures bytes { OnOk result (IfSome (told self.old).reads (λ file. into.new ≡ take (length into.old) (drop at file))) }
+        ensures same { OnOk result ((told self.new).reads ≡ (told self.old).reads) }
+        ensures crash { LeavesNothingNew (told self.old) (told self.new) }
+        ensures goes_on { GoesOn (told self.old) (told self.new) }
+        ensures failed { OnErr result (Fails (told self.old) (told self.new)) };
 
     /// Writes the bytes from that place on, over what is there and past the end. Their end is at most `2^62`.
     fn write_at(&mut self, at: u64, bytes: &[u8]) -> Result<(), DiskFailed>
-        requires { IsTrue (tells self.old) → Reaches (reads self.old) at }
+        requires { Reaches (told self.old) at }
         // Promise: What a read gives and which images a crash may leave, now or since an earlier moment
-        ensures written { OnOk result (reads self.new ≡ option_map (λ file. written file at bytes.now) (reads self.old)) }
+        ensures written { OnOk result ((told self.new).reads ≡ option_map (λ file. written file at bytes.now) (told self.old).reads) }
         ensures short { OnOk result (at + length bytes.now ≤ 2 ^ 62) }
-        ensures crash { Follows (Torn at (length bytes.now)) (may_leave self.old) (left_since self.new (moment self.old)) }
-        ensures time { Elapses (moment self.old) (moment self.new) (left_since self.old) (left_since self.new) }
-        ensures failed { OnErr result (Rose (faults self.old) (faults self.new)) }
-        ensures unknown { OnErr result (reads self.new ≡ None) }
-        ensures faults_grow { Grows (faults self.old) (faults self.new) }
-        ensures same_telling { tells self.new ≡ tells self.old }
-        ensures same_names { admits self.new ≡ admits self.old };
+        ensures crash { LeavesBy (Torn at (length bytes.now)) (told self.old) (told self.new) }
+        ensures goes_on { GoesOn (told self.old) (told self.new) }
+        ensures failed { OnErr result (Fails (told self.old) (told self.new)) };
 
     /// Cuts the file to a length.
     fn cut(&mut self, to: u64) -> Result<(), DiskFailed>
-        requires { IsTrue (tells self.old) → Reaches (reads self.old) to }
+        requires { Reaches (told self.old) to }
         // Promise: What a read gives and which images a crash may leave, now or since an earlier moment
-        ensures cut { OnOk result (reads self.new ≡ option_map (λ file. take to file) (reads self.old)) }
-        ensures crash { Follows (Shortened to) (may_leave self.old) (left_since self.new (moment self.old)) }
-        ensures time { Elapses (moment self.old) (moment self.new) (left_since self.old) (left_since self.new) }
-        ensures failed { OnErr result (Rose (faults self.old) (faults self.new)) }
-        ensures unknown { OnErr result (reads self.new ≡ None) }
-        ensures faults_grow { Grows (faults self.old) (faults self.new) }
-        ensures same_telling { tells self.new ≡ tells self.old }
-        ensures same_names { admits self.new ≡ admits self.old };
+        ensures cut { OnOk result ((told self.new).reads ≡ option_map (λ file. take to file) (told self.old).reads) }
+        ensures crash { LeavesBy (Shortened to) (told self.old) (told self.new) }
+        ensures goes_on { GoesOn (told self.old) (told self.new) }
+        ensures failed { OnErr result (Fails (told self.old) (told self.new)) };
 
     /// Puts the file on the disk: a crash now leaves what a read gives.
     fn sync(&mut self) -> Result<(), DiskFailed>
         // Promise: What a read gives and which images a crash may leave, now or since an earlier moment
-        ensures durable { OnOk result (IfSome (reads self.old) (λ file. Only file (may_leave self.new))) }
-        ensures same { OnOk result (reads self.new ≡ reads self.old) }
-        ensures crash { Among (may_leave self.old) (left_since self.new (moment self.old)) }
-        ensures time { Elapses (moment self.old) (moment self.new) (left_since self.old) (left_since self.new) }
-        ensures failed { OnErr result (Rose (faults self.old) (faults self.new)) }
-        ensures unknown { OnErr result (reads self.new ≡ None) }
-        ensures faults_grow { Grows (faults self.old) (faults self.new) }
-        ensures same_telling { tells self.new ≡ tells self.old }
-        ensures same_names { admits self.new ≡ admits self.old };
-
-    /// What a read gives is one of the images of now.
-    ghost reads_image: { (disk : Self) (file : List ℕ) → reads disk ≡ Some file → may_leave disk file };
-
-    /// An image of now is one since each moment up to now.
-    ghost counts_now: { (disk : Self) (t : ℕ) (c : List ℕ) → t ≤ moment disk → may_leave disk c → left_since disk t c };
-
-    /// Since this moment there is no other.
-    ghost only_now: { (disk : Self) (c : List ℕ) → left_since disk (moment disk) c → may_leave disk c };
+        ensures durable { OnOk result (IfSome (told self.old).reads (λ file. Only file (told self.new).may_leave)) }
+        ensures same { OnOk result ((told self.new).reads ≡ (told self.old).reads) }
+        ensures crash { LeavesNothingNew (told self.old) (told self.new) }
+        ensures goes_on { GoesOn (told self.old) (told self.new) }
+        ensures failed { OnErr result (Fails (told self.old) (told self.new)) };
 }

@@ -1,7 +1,8 @@
 //! A file of the system.
 
-ghost use Rattle.std.specs.Prelude.{◌≡◌, ◌+◌, ◌^◌, ◌≤◌, None, Ok, true, false, length, IfOk, OnOk, OnErr};
+ghost use Rattle.std.specs.Prelude.{◌≡◌, ◌+◌, ◌^◌, ◌≤◌, Ok, length, IfOk, OnOk, OnErr};
 ghost use Rattle.edge_io.specs.Counts.{Grows, Rose};
+ghost use Rattle.disk_calls.specs.Disks.{untold};
 
 use crate::disk::{Disk, DiskFailed, MAX_LENGTH};
 use std::fs::{OpenFile, OpenOptions};
@@ -25,7 +26,7 @@ pub struct FileDisk<R: Files> {
 impl<R: Files> FileDisk<R> {
     /// Over the files of the runtime.
     pub fn new(files: R) -> FileDisk<R>
-        ensures { ⟦<FileDisk<R> as Disk>⟧.faults result ≡ 0 }
+        ensures { (⟦<FileDisk<R> as Disk>⟧.told result).faults ≡ 0 }
     {
         FileDisk {
             files,
@@ -120,25 +121,7 @@ fn cut<F: OpenFile>(file: &F, to: u64) -> io::Result<()> {
 }
 
 impl<R: Files> Disk for FileDisk<R> {
-    ghost tells = { λ _. false };
-
-    ghost admits = { λ _ _. true };
-
-    ghost faults = { λ d. d.faults };
-
-    ghost reads = { λ _. None };
-
-    ghost moment = { λ _. 0 };
-
-    ghost may_leave = { λ _ _. Unit {0} };
-
-    ghost left_since = { λ _ _ _. Unit {0} };
-
-    ghost reads_image = { λ _ _ _. tt };
-
-    ghost counts_now = { λ _ _ _ _ _. tt };
-
-    ghost only_now = { λ _ _ _. tt };
+    ghost told = { λ d. untold d.faults };
 
     fn attach(&mut self, name: &str) -> Result<(), DiskFailed> {
         let outcome = self.open(name);

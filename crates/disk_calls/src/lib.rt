@@ -8,9 +8,9 @@
 //! `FileDisk` is a file of the system, and tells nothing. That it holds what was written is left to the system: no clause speaks
 //! of it. Disks in memory, which tell, are left to the layer above.
 //!
-//! The layer above stands on the clauses and laws of the trait alone. `specs/Disks.antt` has the words of the clauses. The lemmas
-//! of `proofs/Moments.antt` go from "this holds of each image since a moment" over one call more to the same after it, for a write
-//! behind the end, a write of one byte, a cut, a sync and an attach; those of `proofs/Calling.antt` say what one torn write or cut
+//! The layer above stands on the clauses of the trait alone. `specs/Disks.antt` has their words: `DiskTold` is what there is to know of a
+//! disk, `GoesOn` what every call keeps, `Fails` what every failure means. The lemmas of `proofs/Moments.antt` go from "this holds of
+//! each image since a moment" over one call more to the same after it; those of `proofs/Calling.antt` say what one torn write or cut
 //! leaves. `append_byte` is a small call that is proved by them.
 #![tactic(auto)]
 

@@ -1,5 +1,3 @@
-pub use Rattle.disk_calls.proofs.Calling
-pub use Rattle.disk_calls.proofs.Moments
 mod Landing
 mod Calls
 mod Replay

@@ -1,7 +1,7 @@
 -- The steps of a file in memory, gone again.
 use Rattle.std.proofs.Common.{◌≡◌, ℕ, ◌+◌, ◌<◌, List, [], ◌∷◌, ◌++◌, length, take, get_or, refl, sym, ◌∙◌, ap, subst, arith, length-take, get_or-take}
 use Rattle.std.proofs.lemmas.List.{take_more}
-use Rattle.disk_model.specs.Steps.{after_step, file_after, Lands, Leaves, MayLeave, synced_step, synced_after, Replayed, GoesOn}
+use Rattle.disk_model.specs.Steps.{after_step, file_after, Lands, Leaves, MayLeave, synced_step, synced_after, Replayed, Takes}
 use Rattle.disk_model.specs.Images.{file_after-push, image-push}
 use Rattle.disk_model.specs.declared.step.Step.{Step}
 use Rattle.disk_model.specs.declared.step.Step.TheVariants.{Write, Cut, Sync}
@@ -22,9 +22,9 @@ more-of steps xs n k s same lt is =
     take_more steps k s within ∙ ap (λ (x : Step). take k steps ++ x ∷ []) (ap (λ (l : List Step). get_or l k s) (sym same) ∙ sym (get_or-take n xs k s small) ∙ sym is)
 
 -- the step is a sync
-pub goes-sync : (choice : ℕ) (s : Step) (file image next landed : List ℕ) → s ≡ Sync → next ≡ file → landed ≡ file → GoesOn s choice file image next landed
+pub goes-sync : (choice : ℕ) (s : Step) (file image next landed : List ℕ) → s ≡ Sync → next ≡ file → landed ≡ file → Takes s choice file image next landed
 goes-sync choice s file image next landed is same put =
-    subst (λ (w : Step). GoesOn w choice file image next landed) (sym is)
+    subst (λ (w : Step). Takes w choice file image next landed) (sym is)
     (record { file_is = same; leaves = put; synced = λ none. put; written = λ one at. put ∙ sym same })
 
 not-synced : (s : Step) (file synced : List ℕ) → ¬ (s ≡ Sync) → synced_step s file synced ≡ synced
@@ -39,7 +39,7 @@ leaves-other Sync file images i c other here lands = absurd (other refl)
 
 -- the step is a write or a cut, and the image lands in this way
 pub goes-other : (choice way : ℕ) (s : Step) (file image next landed : List ℕ) → ¬ (s ≡ Sync) → (choice ≡ 0 → way ≡ 0) → (choice ≡ 1 → way ≡ 1)
-    → Lands s image landed → (way ≡ 0 → landed ≡ image) → (way ≡ 1 → landed ≡ after_step s image) → next ≡ after_step s file → GoesOn s choice file image next landed
+    → Lands s image landed → (way ≡ 0 → landed ≡ image) → (way ≡ 1 → landed ≡ after_step s image) → next ≡ after_step s file → Takes s choice file image next landed
 goes-other choice way s file image next landed other none one lands not_at_all wholly goes = record {
   file_is = goes;
   leaves = leaves-other s file (λ i. i ≡ image) image landed other refl lands;
@@ -54,7 +54,7 @@ leaves-weaker Sync file P Q c weaker left = left
 
 -- after one step more
 pub replayed-more : (start : List ℕ) (steps : List Step) (choice k : ℕ) (s : Step) (file image next landed : List ℕ)
-    → take (k + 1) steps ≡ take k steps ++ s ∷ [] → Replayed start steps choice k file image → GoesOn s choice file image next landed → Replayed start steps choice (k + 1) next landed
+    → take (k + 1) steps ≡ take k steps ++ s ∷ [] → Replayed start steps choice k file image → Takes s choice file image next landed → Replayed start steps choice (k + 1) next landed
 replayed-more start steps choice k s file image next landed more r goes = record {
   file_is = goes.file_is ∙ ap (after_step s) r.file_is ∙ sym (ap (λ (w : List Step). file_after w start) more ∙ file_after-push ss s start);
   leaves = subst (λ (w : List Step). MayLeave start w landed) (sym more) (image-push ss s start (λ i. i ≡ start) landed (

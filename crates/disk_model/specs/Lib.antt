@@ -1,4 +1,3 @@
-pub use Rattle.disk_calls.specs.Disks
 pub mod Steps
 pub mod Images
 pub mod MemDisks

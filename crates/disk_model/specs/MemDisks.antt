@@ -1,19 +1,28 @@
 -- What a disk in memory holds, and what it was told to do.
-use Rattle.std.specs.Prelude.{ℕ, List, Option, Some, None, length, take, if◌then◌else◌}
+use Rattle.std.specs.Prelude.{◌≡◌, ℕ, ◌+◌, ◌-◌, ◌^◌, min, List, Some, None, true, length, take, if◌then◌else◌}
+use Rattle.disk_calls.specs.Disks.{DiskTold}
 use Rattle.disk_model.specs.Steps.{held, file_after, synced_after, MayLeave, LeftSince}
+use Rattle.disk_model.specs.Images.{reads-held, counts-now, only-now}
 use Rattle.disk_model.specs.declared.mem_disk.MemDisk.{MemDisk}
 
 -- the file's bytes
 abbrev pub bytes_of : MemDisk → List ℕ
 bytes_of d = held d.start.items d.changed
 
--- what a read gives, where that is known
-abbrev pub reads_of : MemDisk → Option (List ℕ)
-reads_of d = if d.attached then Some (bytes_of d) else None
-
--- the moment now: how many steps the file has gone
-abbrev pub moment_of : MemDisk → ℕ
-moment_of d = length d.steps.items
+-- What there is to know of it: it tells all and admits every name, and each step that the file has gone is a moment.
+abbrev pub told_of : MemDisk → DiskTold
+told_of d = record {
+  tells = true;
+  admits = λ _. true;
+  faults = d.faults;
+  reads = if d.attached then Some (bytes_of d) else None;
+  moment = length d.steps.items;
+  may_leave = MayLeave d.start.items d.steps.items;
+  left_since = LeftSince d.start.items d.steps.items;
+  reads_image = λ file is. reads-held d.attached (bytes_of d) d.start.items d.steps.items file d.follows is;
+  counts_now = λ t c le now. counts-now d.start.items d.steps.items t c le now;
+  only_now = λ c left. only-now d.start.items d.steps.items c left;
+}
 
 -- these bytes are an image of that moment
 abbrev pub IsImageAt : MemDisk → ℕ → List ℕ → Type 0
@@ -27,14 +36,6 @@ file_at d moment = file_after (take moment d.steps.items) d.start.items
 abbrev pub synced_at : MemDisk → ℕ → List ℕ
 synced_at d moment = synced_after (take moment d.steps.items) d.start.items d.start.items
 
--- what a crash now may leave
-abbrev pub ImageOf : MemDisk → List ℕ → Type 0
-ImageOf d c = MayLeave d.start.items d.steps.items c
-
--- what a crash at some moment since t may have left
-abbrev pub SinceOf : MemDisk → ℕ → List ℕ → Type 0
-SinceOf d t c = LeftSince d.start.items d.steps.items t c
-
 -- the numbers of the calls that fail
 abbrev pub failing_of : MemDisk → List ℕ
 failing_of d = d.failing.items
@@ -43,6 +44,20 @@ failing_of d = d.failing.items
 abbrev pub calls_of : MemDisk → ℕ
 calls_of d = d.calls
 
--- how many of its calls failed
-abbrev pub faults_of : MemDisk → ℕ
-faults_of d = d.faults
+-- the file has gone no step
+pub record IsSameFile (old new : MemDisk) : Type 0 where
+  pub start : new.start.items ≡ old.start.items
+  pub steps : new.steps.items ≡ old.steps.items
+  pub changed : new.changed ≡ old.changed
+
+-- one call more, and the same calls are to fail
+pub record IsCounted (old new : MemDisk) : Type 0 where
+  pub next : calls_of new ≡ min (calls_of old + 1) (2 ^ 64 - 1)
+  pub same_failing : failing_of new ≡ failing_of old
+
+-- a step of the file leaves the counts, and whether the file is attached
+pub record KeepsCounts (old new : MemDisk) : Type 0 where
+  pub attached : new.attached ≡ old.attached
+  pub failing : new.failing ≡ old.failing
+  pub calls : new.calls ≡ old.calls
+  pub faults : new.faults ≡ old.faults

@@ -66,7 +66,7 @@ pub record Replayed (start : List ℕ) (steps : List Step) (choice k : ℕ) (fil
   pub written : choice ≡ 1 → image ≡ file
 
 -- Over one step the file takes it wholly, and the image is one that a crash may leave; of choice 0 it is what the last sync put on the disk, and of choice 1 the file.
-pub record GoesOn (s : Step) (choice : ℕ) (file image next landed : List ℕ) : Type 0 where
+pub record Takes (s : Step) (choice : ℕ) (file image next landed : List ℕ) : Type 0 where
   pub file_is : next ≡ after_step s file
   pub leaves : Leaves s file (λ i. i ≡ image) landed
   pub synced : choice ≡ 0 → landed ≡ synced_step s file image

@@ -1,10 +1,9 @@
 //! A disk in memory.
 
-ghost use Rattle.std.specs.Prelude.{◌≡◌, ◌+◌, ◌-◌, ◌^◌, ◌<◌, ◌≤◌, ◌⊎◌, [], ◌∷◌, ◌++◌, None, true, false, min, length, take, drop, Contains, IsTrue, IfOk, IfSome, OnOk, OnErr, IsErr, option_map, Some};
+ghost use Rattle.std.specs.Prelude.{◌≡◌, ◌+◌, ◌^◌, ◌<◌, ◌≤◌, ◌⊎◌, [], None, false, length, take, drop, Contains, IsTrue, IfOk, IfSome, OnOk, OnErr, IsErr, option_map, Some};
 ghost use Rattle.edge_io.specs.Counts.{Grows, Rose};
-ghost use Rattle.disk_calls.specs.Disks.{written, Torn, Shortened, Follows, Among, Only, Reaches, IsOneOf, Elapses};
-ghost use Rattle.disk_model.specs.Steps.{held, file_after, after_step, Lands, Replayed, GoesOn};
-ghost use Rattle.disk_model.specs.Images.{reads-held, counts-now, only-now};
+ghost use Rattle.disk_calls.specs.Disks.{written, Torn, Shortened, Only, Reaches, IsOneOf, LeavesBy, LeavesNothingNew, GoesOn, Fails};
+ghost use Rattle.disk_model.specs.Steps.{held, file_after, after_step, Lands, Replayed, Takes};
 
 use crate::step::{Step, WHOLLY};
 use disk_calls::{Disk, DiskFailed, MAX_LENGTH};
@@ -27,28 +26,30 @@ pub struct MemDisk {
 }
 
 impl MemDisk {
-    ghost use Rattle.disk_model.specs.MemDisks.{bytes_of, reads_of, moment_of, ImageOf, SinceOf, IsImageAt, synced_at, file_at, failing_of, calls_of, faults_of};
+    ghost use Rattle.disk_model.specs.MemDisks.{told_of, bytes_of, IsImageAt, synced_at, file_at, failing_of, calls_of, IsSameFile, IsCounted, KeepsCounts};
 
     /// A file with these bytes, all of them on the disk. Nothing is attached yet.
     pub fn new(alloc: Global, bytes: Vec<u8>) -> MemDisk
         ensures file { bytes_of result ≡ bytes.items }
-        ensures durable { Only bytes.items (ImageOf result) }
-        ensures unknown { reads_of result ≡ None }
-        ensures first { moment_of result ≡ 0 }
-        ensures sound { faults_of result ≡ 0 }
+        ensures durable { Only bytes.items (told_of result).may_leave }
+        ensures unknown { (told_of result).reads ≡ None }
+        ensures first { (told_of result).moment ≡ 0 }
+        ensures sound { (told_of result).faults ≡ 0 }
         // Promise: A disk that is told to fail fails there
         ensures told { failing_of result ≡ [] }
     {
         MemDisk::failing(alloc, bytes, Vec::new(alloc))
     }
 
-    /// The same, where the calls of the numbers in `failing`, from 0, fail.
-    pub(crate) fn failing(alloc: Global, bytes: Vec<u8>, failing: Vec<u64>) -> MemDisk
+    /// The same, where the calls of the numbers in `failing`, from 0, fail. A write or a cut that is told to fail has reached the file all
+    /// the same; another call has done nothing.
+    pub fn failing(alloc: Global, bytes: Vec<u8>, failing: Vec<u64>) -> MemDisk
         ensures file { bytes_of result ≡ bytes.items }
-        ensures durable { Only bytes.items (ImageOf result) }
-        ensures unknown { reads_of result ≡ None }
-        ensures first { moment_of result ≡ 0 }
-        ensures sound { faults_of result ≡ 0 }
+        ensures durable { Only bytes.items (told_of result).may_leave }
+        ensures unknown { (told_of result).reads ≡ None }
+        ensures first { (told_of result).moment ≡ 0 }
+        ensures sound { (told_of result).faults ≡ 0 }
+        // Promise: A disk that is told to fail fails there
         ensures told { failing_of result ≡ failing.items }
         ensures no_call { calls_of result ≡ 0 }
     {
@@ -112,26 +113,23 @@ impl MemDisk {
 
     /// The moment now.
     pub fn moment(&self) -> u64
-        ensures { result ≡ moment_of self.now }
+        ensures { result ≡ (told_of self.now).moment }
     {
         self.steps.len() as u64
     }
 
     /// Counts a call, which fails where it did not work or was told to fail: then what reads give is not known from now on.
+    #[tactic(auto, using(crate::proofs::Calls::quiet_crash, crate::proofs::Calls::quiet_goes))]
     fn count(&mut self, worked: bool) -> Result<(), DiskFailed>
         ensures worked { OnOk result (IsTrue worked) }
         ensures same { OnOk result (self.new.attached ≡ self.old.attached) }
-        ensures failed { OnErr result (Rose (faults_of self.old) (faults_of self.new)) }
-        ensures unknown { OnErr result (self.new.attached ≡ false) }
-        ensures faults_grow { Grows (faults_of self.old) (faults_of self.new) }
+        ensures failed { OnErr result (Fails (told_of self.old) (told_of self.new)) }
+        ensures crash { LeavesNothingNew (told_of self.old) (told_of self.new) }
+        ensures goes_on { GoesOn (told_of self.old) (told_of self.new) }
         ensures told { Contains (failing_of self.old) (calls_of self.old) → IsErr result }
         ensures only { OnErr result (Contains (failing_of self.old) (calls_of self.old) ⊎ (worked ≡ false)) }
-        ensures next { calls_of self.new ≡ min (calls_of self.old + 1) (2 ^ 64 - 1) }
-        ensures rest { self.new ≡ record self.old {
-          calls = self.new.calls;
-          faults = self.new.faults;
-          attached = self.new.attached;
-        } }
+        ensures counted { IsCounted self.old self.new }
+        ensures same_file { IsSameFile self.old self.new }
     {
         let call = self.calls;
         self.calls = call.saturating_add(1);
@@ -148,7 +146,10 @@ impl MemDisk {
     fn fail(&mut self) -> DiskFailed
         ensures counted { Rose self.old.faults self.new.faults }
         ensures grows { Grows self.old.faults self.new.faults }
-        ensures rest { self.new ≡ record self.old { faults = self.new.faults; attached = false } }
+        ensures unknown { self.new.attached ≡ false }
+        ensures same_file { IsSameFile self.old self.new }
+        ensures same_failing { self.new.failing ≡ self.old.failing }
+        ensures same_calls { self.new.calls ≡ self.old.calls }
     {
         self.faults = self.faults.saturating_add(1);
         self.attached = false;
@@ -158,15 +159,12 @@ impl MemDisk {
     /// Goes a step.
     fn go(&mut self, step: Step) -> Result<(), AllocError>
         ensures bytes { OnOk result (bytes_of self.new ≡ after_step step (bytes_of self.old)) }
-        ensures crash { Follows (Lands step) (ImageOf self.old) (SinceOf self.new (moment_of self.old)) }
-        ensures time { Elapses (moment_of self.old) (moment_of self.new) (SinceOf self.old) (SinceOf self.new) }
-        ensures durable { OnOk result (step ≡ Step.Sync → Only (bytes_of self.old) (ImageOf self.new)) }
+        ensures crash { LeavesBy (Lands step) (told_of self.old) (told_of self.new) }
+        ensures goes_on { GoesOn (told_of self.old) (told_of self.new) }
+        ensures durable { OnOk result (step ≡ Step.Sync → Only (bytes_of self.old) (told_of self.new).may_leave) }
         ensures unchanged { OnErr result (bytes_of self.new ≡ bytes_of self.old) }
-        ensures next_moment { OnOk result (moment_of self.new ≡ moment_of self.old + 1) }
-        ensures same_attached { self.new.attached ≡ self.old.attached }
-        ensures same_failing { self.new.failing ≡ self.old.failing }
-        ensures same_calls { self.new.calls ≡ self.old.calls }
-        ensures same_faults { self.new.faults ≡ self.old.faults }
+        ensures next_moment { OnOk result ((told_of self.new).moment ≡ (told_of self.old).moment + 1) }
+        ensures kept { KeepsCounts self.old self.new }
     {
         let next = step.land(self.alloc, self.bytes(), WHOLLY)?;
         self.steps.push(step)?;
@@ -178,13 +176,10 @@ impl MemDisk {
     fn put(&mut self, at: u64, bytes: &[u8]) -> bool
         ensures bytes { IsTrue result → bytes_of self.new ≡ written (bytes_of self.old) at bytes.now }
         ensures short { IsTrue result → at + length bytes.now ≤ 2 ^ 62 }
-        ensures crash { Follows (Torn at (length bytes.now)) (ImageOf self.old) (SinceOf self.new (moment_of self.old)) }
-        ensures time { Elapses (moment_of self.old) (moment_of self.new) (SinceOf self.old) (SinceOf self.new) }
-        ensures next_moment { IsTrue result → moment_of self.new ≡ moment_of self.old + 1 }
-        ensures same_attached { self.new.attached ≡ self.old.attached }
-        ensures same_failing { self.new.failing ≡ self.old.failing }
-        ensures same_calls { self.new.calls ≡ self.old.calls }
-        ensures same_faults { self.new.faults ≡ self.old.faults }
+        ensures crash { LeavesBy (Torn at (length bytes.now)) (told_of self.old) (told_of self.new) }
+        ensures goes_on { GoesOn (told_of self.old) (told_of self.new) }
+        ensures next_moment { IsTrue result → (told_of self.new).moment ≡ (told_of self.old).moment + 1 }
+        ensures kept { KeepsCounts self.old self.new }
     {
         if at.saturating_add(bytes.len() as u64) > MAX_LENGTH {
             return false;
@@ -198,14 +193,11 @@ impl MemDisk {
     /// Goes a sync, where the call is not told to fail and memory lasts: whether it did.
     fn settle(&mut self) -> bool
         ensures bytes { bytes_of self.new ≡ bytes_of self.old }
-        ensures durable { IsTrue result → Only (bytes_of self.old) (ImageOf self.new) }
-        ensures crash { Among (ImageOf self.old) (SinceOf self.new (moment_of self.old)) }
-        ensures time { Elapses (moment_of self.old) (moment_of self.new) (SinceOf self.old) (SinceOf self.new) }
-        ensures next_moment { IsTrue result → moment_of self.new ≡ moment_of self.old + 1 }
-        ensures same_attached { self.new.attached ≡ self.old.attached }
-        ensures same_failing { self.new.failing ≡ self.old.failing }
-        ensures same_calls { self.new.calls ≡ self.old.calls }
-        ensures same_faults { self.new.faults ≡ self.old.faults }
+        ensures durable { IsTrue result → Only (bytes_of self.old) (told_of self.new).may_leave }
+        ensures crash { LeavesNothingNew (told_of self.old) (told_of self.new) }
+        ensures goes_on { GoesOn (told_of self.old) (told_of self.new) }
+        ensures next_moment { IsTrue result → (told_of self.new).moment ≡ (told_of self.old).moment + 1 }
+        ensures kept { KeepsCounts self.old self.new }
     {
         if self.failing.contains(&self.calls) {
             return false;
@@ -215,45 +207,23 @@ impl MemDisk {
 }
 
 impl Disk for MemDisk {
-    ghost use Rattle.disk_model.specs.MemDisks.{bytes_of, reads_of, moment_of, ImageOf, SinceOf, failing_of, calls_of, faults_of};
+    ghost use Rattle.disk_model.specs.MemDisks.{told_of, bytes_of, failing_of, calls_of, IsSameFile, IsCounted};
 
-    ghost tells = { λ _. true };
-
-    ghost admits = { λ _ _. true };
-
-    ghost faults = { faults_of };
-
-    ghost reads = { reads_of };
-
-    ghost moment = { moment_of };
-
-    ghost may_leave = { ImageOf };
-
-    ghost left_since = { SinceOf };
-
-    ghost reads_image = { λ d file is. reads-held d.attached (held d.start.items d.changed) d.start.items d.steps.items file d.follows is };
-
-    ghost counts_now = { λ d t c le now. counts-now d.start.items d.steps.items t c le now };
-
-    ghost only_now = { λ d c left. only-now d.start.items d.steps.items c left };
+    ghost told = { told_of };
 
     fn attach(&mut self, _name: &str) -> Result<(), DiskFailed>
         // What every disk does.
-        ensures open { OnOk result (IsOneOf (reads_of self.new) (ImageOf self.old)) }
-        ensures crash { Among (ImageOf self.old) (SinceOf self.new (moment_of self.old)) }
-        ensures time { Elapses (moment_of self.old) (moment_of self.new) (SinceOf self.old) (SinceOf self.new) }
-        ensures failed { OnErr result (Rose (faults_of self.old) (faults_of self.new)) }
-        ensures unknown { OnErr result (reads_of self.new ≡ None) }
-        ensures faults_grow { Grows (faults_of self.old) (faults_of self.new) }
+        ensures open { OnOk result (IsOneOf (told_of self.new).reads (told_of self.old).may_leave) }
+        ensures crash { LeavesNothingNew (told_of self.old) (told_of self.new) }
+        ensures goes_on { GoesOn (told_of self.old) (told_of self.new) }
+        ensures failed { OnErr result (Fails (told_of self.old) (told_of self.new)) }
 
         // What this one gives, and when it fails.
-        ensures whole { OnOk result (reads_of self.new ≡ Some (bytes_of self.old)) }
-        ensures same_moment { moment_of self.new ≡ moment_of self.old }
-        ensures same_bytes { bytes_of self.new ≡ bytes_of self.old }
+        ensures whole { OnOk result ((told_of self.new).reads ≡ Some (bytes_of self.old)) }
+        ensures same_file { IsSameFile self.old self.new }
         ensures told { Contains (failing_of self.old) (calls_of self.old) → IsErr result }
         ensures only { OnErr result (Contains (failing_of self.old) (calls_of self.old) ⊎ (2 ^ 62 < length (bytes_of self.old))) }
-        ensures next { calls_of self.new ≡ min (calls_of self.old + 1) (2 ^ 64 - 1) }
-        ensures same_failing { failing_of self.new ≡ failing_of self.old }
+        ensures counted { IsCounted self.old self.new }
     {
         let short = self.bytes().len() as u64 <= MAX_LENGTH;
         self.count(short)?;
@@ -263,22 +233,18 @@ impl Disk for MemDisk {
 
     fn len(&mut self) -> Result<u64, DiskFailed>
         // What every disk does.
-        ensures length { IfOk result (λ n. IfSome (reads_of self.old) (λ file. n ≡ length file)) }
+        ensures length { IfOk result (λ n. IfSome (told_of self.old).reads (λ file. n ≡ length file)) }
         ensures short { IfOk result (λ n. n ≤ 2 ^ 62) }
-        ensures same { OnOk result (reads_of self.new ≡ reads_of self.old) }
-        ensures crash { Among (ImageOf self.old) (SinceOf self.new (moment_of self.old)) }
-        ensures time { Elapses (moment_of self.old) (moment_of self.new) (SinceOf self.old) (SinceOf self.new) }
-        ensures failed { OnErr result (Rose (faults_of self.old) (faults_of self.new)) }
-        ensures unknown { OnErr result (reads_of self.new ≡ None) }
-        ensures faults_grow { Grows (faults_of self.old) (faults_of self.new) }
+        ensures same { OnOk result ((told_of self.new).reads ≡ (told_of self.old).reads) }
+        ensures crash { LeavesNothingNew (told_of self.old) (told_of self.new) }
+        ensures goes_on { GoesOn (told_of self.old) (told_of self.new) }
+        ensures failed { OnErr result (Fails (told_of self.old) (told_of self.new)) }
 
         // What this one gives, and when it fails.
-        ensures same_moment { moment_of self.new ≡ moment_of self.old }
-        ensures same_bytes { bytes_of self.new ≡ bytes_of self.old }
+        ensures same_file { IsSameFile self.old self.new }
         ensures told { Contains (failing_of self.old) (calls_of self.old) → IsErr result }
         ensures only { OnErr result (Contains (failing_of self.old) (calls_of self.old) ⊎ (2 ^ 62 < length (bytes_of self.old))) }
-        ensures next { calls_of self.new ≡ min (calls_of self.old + 1) (2 ^ 64 - 1) }
-        ensures same_failing { failing_of self.new ≡ failing_of self.old }
+        ensures counted { IsCounted self.old self.new }
     {
         let length = self.bytes().len() as u64;
         self.count(length <= MAX_LENGTH)?;
@@ -286,23 +252,19 @@ impl Disk for MemDisk {
     }
 
     fn read_at(&mut self, at: u64, into: &mut [u8]) -> Result<(), DiskFailed>
-        requires { Reaches (reads_of self.old) (at + length into.old) }
+        requires { Reaches (told_of self.old) (at + length into.old) }
         // What every disk does.
-        ensures bytes { OnOk result (IfSome (reads_of self.old) (λ file. into.new ≡ take (length into.old) (drop at file))) }
-        ensures same { OnOk result (reads_of self.new ≡ reads_of self.old) }
-        ensures crash { Among (ImageOf self.old) (SinceOf self.new (moment_of self.old)) }
-        ensures time { Elapses (moment_of self.old) (moment_of self.new) (SinceOf self.old) (SinceOf self.new) }
-        ensures failed { OnErr result (Rose (faults_of self.old) (faults_of self.new)) }
-        ensures unknown { OnErr result (reads_of self.new ≡ None) }
-        ensures faults_grow { Grows (faults_of self.old) (faults_of self.new) }
+        ensures bytes { OnOk result (IfSome (told_of self.old).reads (λ file. into.new ≡ take (length into.old) (drop at file))) }
+        ensures same { OnOk result ((told_of self.new).reads ≡ (told_of self.old).reads) }
+        ensures crash { LeavesNothingNew (told_of self.old) (told_of self.new) }
+        ensures goes_on { GoesOn (told_of self.old) (told_of self.new) }
+        ensures failed { OnErr result (Fails (told_of self.old) (told_of self.new)) }
 
         // What this one gives, and when it fails.
-        ensures same_moment { moment_of self.new ≡ moment_of self.old }
-        ensures same_bytes { bytes_of self.new ≡ bytes_of self.old }
+        ensures same_file { IsSameFile self.old self.new }
         ensures told { Contains (failing_of self.old) (calls_of self.old) → IsErr result }
         ensures only { OnErr result (Contains (failing_of self.old) (calls_of self.old)) }
-        ensures next { calls_of self.new ≡ min (calls_of self.old + 1) (2 ^ 64 - 1) }
-        ensures same_failing { failing_of self.new ≡ failing_of self.old }
+        ensures counted { IsCounted self.old self.new }
     {
         self.count(true)?;
         let start = at as usize;
@@ -311,41 +273,35 @@ impl Disk for MemDisk {
     }
 
     fn write_at(&mut self, at: u64, bytes: &[u8]) -> Result<(), DiskFailed>
-        requires { Reaches (reads_of self.old) at }
+        requires { Reaches (told_of self.old) at }
         // What every disk does.
-        ensures written { OnOk result (reads_of self.new ≡ option_map (λ file. written file at bytes.now) (reads_of self.old)) }
+        ensures written { OnOk result ((told_of self.new).reads ≡ option_map (λ file. written file at bytes.now) (told_of self.old).reads) }
         ensures short { OnOk result (at + length bytes.now ≤ 2 ^ 62) }
-        ensures crash { Follows (Torn at (length bytes.now)) (ImageOf self.old) (SinceOf self.new (moment_of self.old)) }
-        ensures time { Elapses (moment_of self.old) (moment_of self.new) (SinceOf self.old) (SinceOf self.new) }
-        ensures failed { OnErr result (Rose (faults_of self.old) (faults_of self.new)) }
-        ensures unknown { OnErr result (reads_of self.new ≡ None) }
-        ensures faults_grow { Grows (faults_of self.old) (faults_of self.new) }
+        ensures crash { LeavesBy (Torn at (length bytes.now)) (told_of self.old) (told_of self.new) }
+        ensures goes_on { GoesOn (told_of self.old) (told_of self.new) }
+        ensures failed { OnErr result (Fails (told_of self.old) (told_of self.new)) }
 
         // What this one gives, and when it fails.
-        ensures next_moment { OnOk result (moment_of self.new ≡ moment_of self.old + 1) }
+        ensures next_moment { OnOk result ((told_of self.new).moment ≡ (told_of self.old).moment + 1) }
         ensures told { Contains (failing_of self.old) (calls_of self.old) → IsErr result }
-        ensures next { calls_of self.new ≡ min (calls_of self.old + 1) (2 ^ 64 - 1) }
-        ensures same_failing { failing_of self.new ≡ failing_of self.old }
+        ensures counted { IsCounted self.old self.new }
     {
         let gone = self.put(at, bytes);
         self.count(gone)
     }
 
     fn cut(&mut self, to: u64) -> Result<(), DiskFailed>
-        requires { Reaches (reads_of self.old) to }
+        requires { Reaches (told_of self.old) to }
         // What every disk does.
-        ensures cut { OnOk result (reads_of self.new ≡ option_map (λ file. take to file) (reads_of self.old)) }
-        ensures crash { Follows (Shortened to) (ImageOf self.old) (SinceOf self.new (moment_of self.old)) }
-        ensures time { Elapses (moment_of self.old) (moment_of self.new) (SinceOf self.old) (SinceOf self.new) }
-        ensures failed { OnErr result (Rose (faults_of self.old) (faults_of self.new)) }
-        ensures unknown { OnErr result (reads_of self.new ≡ None) }
-        ensures faults_grow { Grows (faults_of self.old) (faults_of self.new) }
+        ensures cut { OnOk result ((told_of self.new).reads ≡ option_map (λ file. take to file) (told_of self.old).reads) }
+        ensures crash { LeavesBy (Shortened to) (told_of self.old) (told_of self.new) }
+        ensures goes_on { GoesOn (told_of self.old) (told_of self.new) }
+        ensures failed { OnErr result (Fails (told_of self.old) (told_of self.new)) }
 
         // What this one gives, and when it fails.
-        ensures next_moment { OnOk result (moment_of self.new ≡ moment_of self.old + 1) }
+        ensures next_moment { OnOk result ((told_of self.new).moment ≡ (told_of self.old).moment + 1) }
         ensures told { Contains (failing_of self.old) (calls_of self.old) → IsErr result }
-        ensures next { calls_of self.new ≡ min (calls_of self.old + 1) (2 ^ 64 - 1) }
-        ensures same_failing { failing_of self.new ≡ failing_of self.old }
+        ensures counted { IsCounted self.old self.new }
     {
         let gone = self.go(Step::Cut(to as usize)).is_ok();
         self.count(gone)
@@ -353,20 +309,17 @@ impl Disk for MemDisk {
 
     fn sync(&mut self) -> Result<(), DiskFailed>
         // What every disk does.
-        ensures durable { OnOk result (IfSome (reads_of self.old) (λ file. Only file (ImageOf self.new))) }
-        ensures same { OnOk result (reads_of self.new ≡ reads_of self.old) }
-        ensures crash { Among (ImageOf self.old) (SinceOf self.new (moment_of self.old)) }
-        ensures time { Elapses (moment_of self.old) (moment_of self.new) (SinceOf self.old) (SinceOf self.new) }
-        ensures failed { OnErr result (Rose (faults_of self.old) (faults_of self.new)) }
-        ensures unknown { OnErr result (reads_of self.new ≡ None) }
-        ensures faults_grow { Grows (faults_of self.old) (faults_of self.new) }
+        ensures durable { OnOk result (IfSome (told_of self.old).reads (λ file. Only file (told_of self.new).may_leave)) }
+        ensures same { OnOk result ((told_of self.new).reads ≡ (told_of self.old).reads) }
+        ensures crash { LeavesNothingNew (told_of self.old) (told_of self.new) }
+        ensures goes_on { GoesOn (told_of self.old) (told_of self.new) }
+        ensures failed { OnErr result (Fails (told_of self.old) (told_of self.new)) }
 
         // What this one gives, and when it fails.
-        ensures next_moment { OnOk result (moment_of self.new ≡ moment_of self.old + 1) }
+        ensures next_moment { OnOk result ((told_of self.new).moment ≡ (told_of self.old).moment + 1) }
         ensures same_bytes { bytes_of self.new ≡ bytes_of self.old }
         ensures told { Contains (failing_of self.old) (calls_of self.old) → IsErr result }
-        ensures next { calls_of self.new ≡ min (calls_of self.old + 1) (2 ^ 64 - 1) }
-        ensures same_failing { failing_of self.new ≡ failing_of self.old }
+        ensures counted { IsCounted self.old self.new }
     {
         let gone = self.settle();
         self.count(gone)
@@ -382,7 +335,7 @@ fn go_on(
     file: &mut Vec<u8>,
     image: &mut Vec<u8>,
 ) -> Result<(), AllocError>
-    ensures { OnOk result (GoesOn step.now choice file.old.items image.old.items file.new.items image.new.items) }
+    ensures { OnOk result (Takes step.now choice file.old.items image.old.items file.new.items image.new.items) }
 {
     match step {
         Step::Sync => {

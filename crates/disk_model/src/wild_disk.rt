@@ -1,8 +1,7 @@
 //! A disk of which nothing is known.
 
-ghost use Rattle.std.specs.Prelude.{◌≡◌, ◌+◌, ◌^◌, ◌<◌, ◌≤◌, None, Ok, true, false, length, IfOk, OnOk, OnErr, IsOk, IsErr};
-ghost use Rattle.edge_io.specs.Counts.{Grows, Rose};
-ghost use Rattle.disk_calls.specs.Disks.{Torn, Shortened, Follows};
+ghost use Rattle.std.specs.Prelude.{◌≡◌, ◌+◌, ◌^◌, ◌<◌, ◌≤◌, Ok, length, OnOk, OnErr, IsOk, IsErr};
+ghost use Rattle.disk_calls.specs.Disks.{Torn, Shortened, LeavesBy, GoesOn, Fails};
 ghost use Rattle.drawn_numbers.specs.Draws.{draws, state_after};
 
 use disk_calls::{Disk, DiskFailed, MAX_LENGTH};
@@ -22,12 +21,12 @@ pub struct WildDisk {
 }
 
 impl WildDisk {
-    ghost use Rattle.disk_model.specs.WildDisks.{state_of, faults_of};
+    ghost use Rattle.disk_model.specs.WildDisks.{told_of, state_of};
 
     /// The disk of a number.
     pub fn new(number: u64) -> WildDisk
         ensures number { state_of result ≡ number }
-        ensures sound { faults_of result ≡ 0 }
+        ensures sound { (told_of result).faults ≡ 0 }
     {
         WildDisk {
             draws: Draws { state: number },
@@ -37,8 +36,8 @@ impl WildDisk {
 
     /// Counts a failure.
     fn fail(&mut self) -> DiskFailed
-        ensures counted { Rose (faults_of self.old) (faults_of self.new) }
-        ensures grows { Grows (faults_of self.old) (faults_of self.new) }
+        ensures failed { Fails (told_of self.old) (told_of self.new) }
+        ensures goes_on { GoesOn (told_of self.old) (told_of self.new) }
         ensures same { state_of self.new ≡ state_of self.old }
     {
         self.faults = self.faults.saturating_add(1);
@@ -51,8 +50,8 @@ impl WildDisk {
         //   its end, or past the longest length
         ensures within { end ≤ 2 ^ 62 → IsOk result }
         ensures short { OnOk result (end ≤ 2 ^ 62) }
-        ensures failed { OnErr result (Rose (faults_of self.old) (faults_of self.new)) }
-        ensures faults_grow { Grows (faults_of self.old) (faults_of self.new) }
+        ensures failed { OnErr result (Fails (told_of self.old) (told_of self.new)) }
+        ensures goes_on { GoesOn (told_of self.old) (told_of self.new) }
         ensures same { state_of self.new ≡ state_of self.old }
     {
         if end > MAX_LENGTH {
@@ -63,27 +62,9 @@ impl WildDisk {
 }
 
 impl Disk for WildDisk {
-    ghost use Rattle.disk_model.specs.WildDisks.{state_of, faults_of, Anything};
+    ghost use Rattle.disk_model.specs.WildDisks.{told_of, state_of};
 
-    ghost tells = { λ _. false };
-
-    ghost admits = { λ _ _. true };
-
-    ghost faults = { faults_of };
-
-    ghost reads = { λ _. None };
-
-    ghost moment = { λ _. 0 };
-
-    ghost may_leave = { λ _. Anything };
-
-    ghost left_since = { λ _ _. Anything };
-
-    ghost reads_image = { λ _ _ _. tt };
-
-    ghost counts_now = { λ _ _ _ _ _. tt };
-
-    ghost only_now = { λ _ _ _. tt };
+    ghost told = { told_of };
 
     fn attach(&mut self, _name: &str) -> Result<(), DiskFailed>
         ensures works { IsOk result }
@@ -103,8 +84,8 @@ impl Disk for WildDisk {
 
     fn read_at(&mut self, at: u64, into: &mut [u8]) -> Result<(), DiskFailed>
         // What every disk does.
-        ensures failed { OnErr result (Rose (faults_of self.old) (faults_of self.new)) }
-        ensures faults_grow { Grows (faults_of self.old) (faults_of self.new) }
+        ensures failed { OnErr result (Fails (told_of self.old) (told_of self.new)) }
+        ensures goes_on { GoesOn (told_of self.old) (told_of self.new) }
 
         // What this one gives, and when it fails.
         // Promise: A disk that tells nothing and keeps nothing has 300 bytes, which read as those that its number gives; it fails only past
@@ -128,9 +109,9 @@ impl Disk for WildDisk {
     fn write_at(&mut self, at: u64, bytes: &[u8]) -> Result<(), DiskFailed>
         // What every disk does.
         ensures short { OnOk result (at + length bytes.now ≤ 2 ^ 62) }
-        ensures crash { Follows (Torn at (length bytes.now)) Anything Anything }
-        ensures failed { OnErr result (Rose (faults_of self.old) (faults_of self.new)) }
-        ensures faults_grow { Grows (faults_of self.old) (faults_of self.new) }
+        ensures crash { LeavesBy (Torn at (length bytes.now)) (told_of self.old) (told_of self.new) }
+        ensures failed { OnErr result (Fails (told_of self.old) (told_of self.new)) }
+        ensures goes_on { GoesOn (told_of self.old) (told_of self.new) }
 
         // When this one fails, and what stays.
         // Promise: A disk that tells nothing and keeps nothing has 300 bytes, which read as those that its number gives; it fails only past
@@ -143,9 +124,9 @@ impl Disk for WildDisk {
 
     fn cut(&mut self, to: u64) -> Result<(), DiskFailed>
         // What every disk does.
-        ensures crash { Follows (Shortened to) Anything Anything }
-        ensures failed { OnErr result (Rose (faults_of self.old) (faults_of self.new)) }
-        ensures faults_grow { Grows (faults_of self.old) (faults_of self.new) }
+        ensures crash { LeavesBy (Shortened to) (told_of self.old) (told_of self.new) }
+        ensures failed { OnErr result (Fails (told_of self.old) (told_of self.new)) }
+        ensures goes_on { GoesOn (told_of self.old) (told_of self.new) }
 
         // When this one fails, and what stays.
         // Promise: A disk that tells nothing and keeps nothing has 300 bytes, which read as those that its number gives; it fails only past

@@ -4,7 +4,7 @@ ghost use Rattle.std.specs.Prelude.{◌≡◌};
 ghost use Rattle.journal_format.specs.declared.fault.JournalFault.TheVariants as faults;
 ghost use Rattle.journal_format.specs.declared.fault.Unread.TheVariants as unread;
 
-use disk_model::DiskFailed;
+use disk_calls::DiskFailed;
 use std::alloc::{AllocError, AllocFailed};
 
 /// Why a journal is not opened: the first cause in this order. The file may have been put on the disk, or be partly born.

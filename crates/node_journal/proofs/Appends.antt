@@ -3,8 +3,8 @@ use Rattle.std.proofs.Common.{◌≡◌, ◌≢◌, ℕ, zero, suc, ◌+◌, ◌
 use Rattle.std.specs.List.{AllByRecursion}
 use Rattle.std.proofs.lemmas.List.{take-append-drop, take_at, drop_at}
 use Rattle.row_model.specs.Entries.{Entry}
-use Rattle.disk_model.specs.Disks.{written, Torn}
-use Rattle.disk_model.proofs.Calling.{torn_byte, torn-front}
+use Rattle.disk_calls.specs.Disks.{written, Torn}
+use Rattle.disk_calls.proofs.Calling.{torn_byte, torn-front}
 use Rattle.journal_format.specs.Fields.{field}
 use Rattle.journal_format.specs.Payload.{payload}
 use Rattle.journal_format.specs.Files.{header, record_bytes, records, behind_gate, IsRecordable, IsShut, IsKept}

@@ -1,8 +1,8 @@
 -- What a crash leaves while a journal is born.
 use Rattle.std.proofs.Common.{◌≡◌, ℕ, zero, suc, ◌+◌, ◌-◌, ◌≤◌, inl, inr, List, [], ◌∷◌, ◌++◌, length, get_or, take, drop, refl, sym, ap, subst, ◌∙◌, arith}
 use Rattle.std.proofs.lemmas.List.{append-nil, drop_all, take_rest}
-use Rattle.disk_model.specs.Disks.{written, Torn, Shortened}
-use Rattle.disk_model.proofs.Calling.{torn_byte, torn-front, cut_front}
+use Rattle.disk_calls.specs.Disks.{written, Torn, Shortened}
+use Rattle.disk_calls.proofs.Calling.{torn_byte, torn-front, cut_front}
 use Rattle.journal_format.specs.Files.{header, newborn, records, IsShut, IsUnborn, IsZeroed, IsOwn, IsOwnFor}
 use Rattle.journal_format.proofs.OwnFiles.{blank-own, any_birth, born_not}
 

@@ -1,11 +1,11 @@
 -- What a file is when a journal has been opened on it.
-use Rattle.std.proofs.Common.{◌≡◌, ℕ, ◌-◌, ◌^◌, ◌<◌, ◌≤◌, ◌⊎◌, inl, inr, List, [], ◌∷◌, ◌++◌, length, take, drop, Option, refl, sym, ap, subst, ◌∙◌}
+use Rattle.std.proofs.Common.{◌≡◌, ℕ, ◌-◌, ◌^◌, ◌<◌, ◌≤◌, ◌⊎◌, inl, inr, List, [], ◌∷◌, ◌++◌, length, take, drop, refl, sym, ap, subst, ◌∙◌}
 use Rattle.std.proofs.Common.{append_assoc, arith, length-append, length-drop}
 use Rattle.std.specs.List.{AllByRecursion}
 use Rattle.std.proofs.lemmas.List.{take-append-drop, take_at, drop_at, take_all, append_cancel_left}
 use Rattle.row_model.specs.Entries.{Entry}
-use Rattle.disk_model.specs.Disks.{written}
-use Rattle.disk_model.proofs.Calling.{written-behind}
+use Rattle.disk_calls.specs.Disks.{DiskTold, written}
+use Rattle.disk_calls.proofs.Calling.{written-behind}
 use Rattle.journal_format.specs.Fields.{field}
 use Rattle.journal_format.specs.Files.{header, newborn, records, IsRecordable, IsShut, IsClosed, IsUnborn, Holds, IsKept}
 use Rattle.journal_format.specs.Faults.{IsAllowed, IsFree, Has}
@@ -49,9 +49,9 @@ newborn_kept text whole is = record {
   place = omega (arith, ap length is, length-append (header 1 text) (0 ∷ []));
 }
 
-pub born_opened : (text whole : List ℕ) (largest : ℕ) (file : List ℕ) (list : List Entry) (gate : ℕ) (reads : Option (List ℕ)) (images : List ℕ → Type 0) → whole ≡ newborn text → IsUnborn file
-    → IsOnDisk (newborn text) reads images → list ≡ [] → gate ≡ length whole - 1 → IsOpenedAs text largest file list gate reads images
-born_opened text whole largest file list gate reads images is unborn on_disk none place = record {
+pub born_opened : (text whole : List ℕ) (largest : ℕ) (file : List ℕ) (list : List Entry) (gate : ℕ) (d : DiskTold) → whole ≡ newborn text → IsUnborn file
+    → IsOnDisk (newborn text) d → list ≡ [] → gate ≡ length whole - 1 → IsOpenedAs text largest file list gate d
+born_opened text whole largest file list gate d is unborn on_disk none place = record {
   stands = inl (unborn, none);
   allowed = subst (AllByRecursion (IsAllowed largest)) (sym none) tt;
   now = newborn text;
@@ -73,9 +73,9 @@ module _ (text : List ℕ) (start largest : ℕ) (file : List ℕ) (headed : IsH
   holds_of : (list : List Entry) (gate : ℕ) → AreRecordsAt largest start file list gate → Holds text list (drop gate file) file
   holds_of list gate recs = record { parts = parts_of list gate recs; each = all-recordable largest list recs.allowed }
 
-  pub recovered : (list : List Entry) (gate : ℕ) (now : List ℕ) (reads : Option (List ℕ)) (images : List ℕ → Type 0) → AreRecordsAt largest start file list gate → IsClosed (drop gate file)
-      → IsOnDisk now reads images → take gate now ≡ take gate file → IsShut (drop gate now) → IsOpenedAs text largest file list gate reads images
-  recovered list gate now reads images recs closed on_disk same shut =
+  pub recovered : (list : List Entry) (gate : ℕ) (now : List ℕ) (d : DiskTold) → AreRecordsAt largest start file list gate → IsClosed (drop gate file)
+      → IsOnDisk now d → take gate now ≡ take gate file → IsShut (drop gate now) → IsOpenedAs text largest file list gate d
+  recovered list gate now d recs closed on_disk same shut =
       let long : length (header 1 text ++ records list) ≡ gate = omega (arith, length-append (header 1 text) (records list), recs.place, headed.place) in
       let front : take gate file ≡ header 1 text ++ records list =
       ap (take gate) (parts_of list gate recs ∙ sym (append_assoc (header 1 text) (records list) (drop gate file))) ∙ take_at (header 1 text ++ records list) (drop gate file) gate long in

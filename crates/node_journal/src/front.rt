@@ -1,15 +1,15 @@
 //! The state of a file that is on the disk, by what stands before its records.
 
-ghost use Rattle.std.specs.Prelude.{◌≡◌, ◌≤◌, ◌⊎◌, ℕ, List, Some, Ok, length, take, IsTrue, IfOk, IfErr, OnOk, MatchResult, IsErrOf};
+ghost use Rattle.std.specs.Prelude.{◌≡◌, ◌≤◌, ◌⊎◌, ℕ, List, Some, Ok, length, take, IfOk, IfErr, OnOk, MatchResult, IsErrOf};
 ghost use Rattle.edge_io.specs.Counts.{Rose};
-ghost use Rattle.disk_model.specs.Disks.{Reaches, LeavesOnly};
+ghost use Rattle.disk_calls.specs.Disks.{Reaches, IsSameDisk};
 ghost use Rattle.journal_format.specs.Files.{header};
 ghost use Rattle.journal_format.specs.Faults.{Has, IsFree};
 ghost use Rattle.journal_format.specs.States.{IsIn};
-ghost use Rattle.node_journal.specs.Settled.{IsSameDisk};
+ghost use Rattle.node_journal.specs.Settled.{IsQuiet};
 
 use crate::synced::read_back;
-use disk_model::Disk;
+use disk_calls::Disk;
 use journal_format::{JournalFault, State, state_of};
 use std::alloc::Global;
 
@@ -20,15 +20,15 @@ pub(crate) fn find_state<D: Disk>(
     end: u64,
     head: &[u8],
 ) -> Result<State, JournalFault>
-    requires { IsTrue (D.tells disk.old) → Reaches (D.reads disk.old) end }
-    ensures state { (text file : List ℕ) → D.reads disk.old ≡ Some file → end ≡ length file → head.now ≡ header 1 text →
+    requires { Reaches (D.told disk.old) end }
+    ensures state { (text file : List ℕ) → (D.told disk.old).reads ≡ Some file → end ≡ length file → head.now ≡ header 1 text →
         MatchResult result (IsIn text file) (λ e. IsFree e ⊎ ((largest : ℕ) → Has text largest file e)) }
     ensures long { result ≡ Ok State.Born → length head.now ≤ end }
-    ensures same { OnOk result (D.reads disk.new ≡ D.reads disk.old) }
-    ensures kept { IsErrOf result JournalFault.Memory → D.reads disk.new ≡ D.reads disk.old }
-    ensures quiet { LeavesOnly D.moment D.left_since disk.old disk.new (D.may_leave disk.old) }
-    ensures same_disk { IsSameDisk D.faults D.tells D.admits disk.old disk.new }
-    ensures failed { IsErrOf result JournalFault.Disk → Rose (D.faults disk.old) (D.faults disk.new) }
+    ensures same { OnOk result ((D.told disk.new).reads ≡ (D.told disk.old).reads) }
+    ensures kept { IsErrOf result JournalFault.Memory → (D.told disk.new).reads ≡ (D.told disk.old).reads }
+    ensures quiet { IsQuiet (D.told disk.old) (D.told disk.new) }
+    ensures same_disk { IsSameDisk (D.told disk.old) (D.told disk.new) }
+    ensures failed { IsErrOf result JournalFault.Disk → Rose (D.told disk.old).faults (D.told disk.new).faults }
 {
     let front = read_front(alloc, disk, end, head.len())?;
     state_of(&front, head)
@@ -41,15 +41,15 @@ fn read_front<D: Disk>(
     end: u64,
     most: usize,
 ) -> Result<Vec<u8>, JournalFault>
-    requires { IsTrue (D.tells disk.old) → Reaches (D.reads disk.old) end }
-    ensures front { IfOk result (λ v. (file : List ℕ) → D.reads disk.old ≡ Some file → end ≡ length file → v.items ≡ take most file) }
+    requires { Reaches (D.told disk.old) end }
+    ensures front { IfOk result (λ v. (file : List ℕ) → (D.told disk.old).reads ≡ Some file → end ≡ length file → v.items ≡ take most file) }
     ensures size { IfOk result (λ v. length v.items ≤ end) }
     ensures free { IfErr result IsFree }
-    ensures same { OnOk result (D.reads disk.new ≡ D.reads disk.old) }
-    ensures kept { IsErrOf result JournalFault.Memory → D.reads disk.new ≡ D.reads disk.old }
-    ensures quiet { LeavesOnly D.moment D.left_since disk.old disk.new (D.may_leave disk.old) }
-    ensures same_disk { IsSameDisk D.faults D.tells D.admits disk.old disk.new }
-    ensures failed { IsErrOf result JournalFault.Disk → Rose (D.faults disk.old) (D.faults disk.new) }
+    ensures same { OnOk result ((D.told disk.new).reads ≡ (D.told disk.old).reads) }
+    ensures kept { IsErrOf result JournalFault.Memory → (D.told disk.new).reads ≡ (D.told disk.old).reads }
+    ensures quiet { IsQuiet (D.told disk.old) (D.told disk.new) }
+    ensures same_disk { IsSameDisk (D.told disk.old) (D.told disk.new) }
+    ensures failed { IsErrOf result JournalFault.Disk → Rose (D.told disk.old).faults (D.told disk.new).faults }
 {
     let size = end.min(most as u64) as usize;
     let mut front = vec![in alloc; 0_u8; size]?;

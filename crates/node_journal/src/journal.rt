@@ -3,7 +3,7 @@
 ghost use Rattle.std.specs.Prelude.{◌≡◌, ◌+◌, ◌-◌, ◌^◌, ◌<◌, ◌≤◌, ◌⊎◌, [], ◌∷◌, ◌++◌, ℕ, List, Some, false, length, take, drop, map, is_err, IsTrue, IfOk, IfErr, IfSome, OnOk, OnErr, IsErrOf};
 ghost use Rattle.std.specs.List.{AllByRecursion};
 ghost use Rattle.edge_io.specs.Counts.{Rose};
-ghost use Rattle.disk_model.specs.Disks.{Reaches, LeavesOnly};
+ghost use Rattle.disk_calls.specs.Disks.{Reaches, LeavesOnly, IsSameDisk};
 ghost use Rattle.row_model.specs.Entries as entries;
 ghost use Rattle.box_tree.specs.Views.{shown_entry};
 ghost use Rattle.journal_format.specs.Payload.{payload, IsNarrow};
@@ -11,14 +11,14 @@ ghost use Rattle.journal_format.specs.Files.{newborn, behind_gate, IsClosed, IsS
 ghost use Rattle.journal_format.specs.Faults.{Has, IsFree, IsAllowed, IsDecided};
 ghost use Rattle.journal_format.specs.Records.{IsKeptAt, IsHeaded};
 ghost use Rattle.node_journal.specs.Journals.{IsSound, IsLeft, IsBeforeOrAfter, IsOpenedAs};
-ghost use Rattle.node_journal.specs.Settled.{IsOnDisk, IsSettled, IsSameDisk};
+ghost use Rattle.node_journal.specs.Settled.{IsOnDisk, IsSettled, IsQuiet};
 
 use crate::birth::give_birth;
 use crate::front::find_state;
 use crate::records::read_records;
 use crate::synced::{measure, write_synced};
 use box_tree::Entry;
-use disk_model::{Disk, DiskFailed};
+use disk_calls::{Disk, DiskFailed};
 use journal_format::{JournalFault, Page, State, newborn_file, payload_len, put_behind_gate};
 use std::alloc::Global;
 use std::marker::Model;
@@ -64,26 +64,26 @@ impl Journal {
     /// journal has failed, and is opened again. No memory is taken.
     pub fn append<D: Disk>(&mut self, disk: &mut D, entry: &Entry) -> Result<(), DiskFailed>
         // The disk reads as this journal left it, and a crash leaves that.
-        requires left { IsTrue (D.tells disk.old) → IsLeft self.old (D.reads disk.old) (D.may_leave disk.old) }
+        requires left { IsTrue (D.told disk.old).tells → IsLeft self.old (D.told disk.old) }
         requires usable { self.old.failed ≡ false }
         requires short { length (payload (shown_entry entry.now)) ≤ self.old.largest }
         requires narrow { IsNarrow (shown_entry entry.now) }
 
         // Promise: Once an entry is acknowledged, the one file that a crash leaves has it behind those from before
         ensures acknowledged { OnOk result ((text file : List ℕ) (list : List entries.Entry) →
-            IsOnDisk file (D.reads disk.old) (D.may_leave disk.old) → IsKeptAt self.old.gate text list file →
-            (after : List ℕ) × IsOnDisk after (D.reads disk.new) (D.may_leave disk.new) × IsKeptAt self.new.gate text (list ++ shown_entry entry.now ∷ []) after) }
+            IsOnDisk file (D.told disk.old) → IsKeptAt self.old.gate text list file →
+            (after : List ℕ) × IsOnDisk after (D.told disk.new) × IsKeptAt self.new.gate text (list ++ shown_entry entry.now ∷ []) after) }
         // A crash at any moment of the call leaves the entries from before it, with the new one or without.
         // Promise: A crash at any moment of an append leaves the entries from before, with the new one or without, and never a part of one
         ensures any_moment { (text file : List ℕ) (list : List entries.Entry) →
-            IsOnDisk file (D.reads disk.old) (D.may_leave disk.old) → IsKeptAt self.old.gate text list file →
-            LeavesOnly D.moment D.left_since disk.old disk.new (IsBeforeOrAfter text list (shown_entry entry.now)) }
+            IsOnDisk file (D.told disk.old) → IsKeptAt self.old.gate text list file →
+            LeavesOnly (D.told disk.old) (D.told disk.new) (IsBeforeOrAfter text list (shown_entry entry.now)) }
 
         ensures usable { self.new.failed ≡ is_err result }
         ensures same_largest { self.new.largest ≡ self.old.largest }
         // Promise: An append fails only where the disk's count of faults rose, and takes no memory
-        ensures failed { OnErr result (Rose (D.faults disk.old) (D.faults disk.new)) }
-        ensures same_disk { IsSameDisk D.faults D.tells D.admits disk.old disk.new }
+        ensures failed { OnErr result (Rose (D.told disk.old).faults (D.told disk.new).faults) }
+        ensures same_disk { IsSameDisk (D.told disk.old) (D.told disk.new) }
     {
         let gate = self.gate;
         let size = payload_len(entry) as u32;
@@ -108,46 +108,46 @@ impl Journal {
         text: &[u8],
         largest: u32,
     ) -> Result<Opened, JournalFault>
-        requires attached { IsTrue (D.tells disk.old) → Reaches (D.reads disk.old) 0 }
+        requires attached { Reaches (D.told disk.old) 0 }
         requires text { length text.now ≤ 2 ^ 20 }
         requires largest { largest ≤ 2 ^ 20 }
 
         // What the file stands for is what is answered, and it holds that now.
         // Promise: What is answered at an opening is the list that the file stands for
-        ensures entries { IfOk result (λ o. (file : List ℕ) → D.reads disk.old ≡ Some file → Stands file text.now (map shown_entry o.entries.items)) }
-        ensures allowed { IfOk result (λ o. (file : List ℕ) → D.reads disk.old ≡ Some file → AllByRecursion (IsAllowed largest) (map shown_entry o.entries.items)) }
+        ensures entries { IfOk result (λ o. (file : List ℕ) → (D.told disk.old).reads ≡ Some file → Stands file text.now (map shown_entry o.entries.items)) }
+        ensures allowed { IfOk result (λ o. (file : List ℕ) → (D.told disk.old).reads ≡ Some file → AllByRecursion (IsAllowed largest) (map shown_entry o.entries.items)) }
         // Promise: After an opening the file holds the list that it stood for, with a closed gate behind it, and every crash leaves that
         //   file
-        ensures left { IfOk result (λ o. (file : List ℕ) → D.reads disk.old ≡ Some file →
-            (now : List ℕ) × IsOnDisk now (D.reads disk.new) (D.may_leave disk.new) × IsKeptAt o.journal.gate text.now (map shown_entry o.entries.items) now) }
+        ensures left { IfOk result (λ o. (file : List ℕ) → (D.told disk.old).reads ≡ Some file →
+            (now : List ℕ) × IsOnDisk now (D.told disk.new) × IsKeptAt o.journal.gate text.now (map shown_entry o.entries.items) now) }
         ensures usable { IfOk result (λ o. o.journal.failed ≡ false) }
         ensures largest { IfOk result (λ o. o.journal.largest ≡ largest) }
 
         // The fault is one that the file has, or of the disk, or of memory.
         // Promise: The file of a journal is refused only for a fault that it has, or since disk or memory failed
-        ensures refused { IfErr result (λ e. (file : List ℕ) → D.reads disk.old ≡ Some file → IsFree e ⊎ Has text.now largest file e) }
+        ensures refused { IfErr result (λ e. (file : List ℕ) → (D.told disk.old).reads ≡ Some file → IsFree e ⊎ Has text.now largest file e) }
         // A fault that it has is answered, and of a file that stands for entries none but those two can be.
         // Promise: A fault that the file of a journal has is answered: a file has one at most
-        ensures decided { (file : List ℕ) → D.reads disk.old ≡ Some file → IsDecided text.now largest file result }
+        ensures decided { (file : List ℕ) → (D.told disk.old).reads ≡ Some file → IsDecided text.now largest file result }
         // Promise: A file that stands for entries no longer than allowed is not refused
-        ensures taken { (file : List ℕ) (list : List entries.Entry) → D.reads disk.old ≡ Some file → Stands file text.now list → AllByRecursion (IsAllowed largest) list → IfErr result IsFree }
+        ensures taken { (file : List ℕ) (list : List entries.Entry) → (D.told disk.old).reads ≡ Some file → Stands file text.now list → AllByRecursion (IsAllowed largest) list → IfErr result IsFree }
 
         // A crash at any moment leaves what it might have left before, or a file that is the journal's and stands for the same.
         // Promise: A crash at any moment of an opening leaves a file from before it, or one that a journal of this network may leave and
         //   that stands for the same list
-        ensures any_moment { (file : List ℕ) (list : List entries.Entry) → D.reads disk.old ≡ Some file → IsOwn text.now file → Stands file text.now list →
-            LeavesOnly D.moment D.left_since disk.old disk.new (λ c. D.may_leave disk.old c ⊎ IsOwnFor text.now list c) }
+        ensures any_moment { (file : List ℕ) (list : List entries.Entry) → (D.told disk.old).reads ≡ Some file → IsOwn text.now file → Stands file text.now list →
+            LeavesOnly (D.told disk.old) (D.told disk.new) (λ c. (D.told disk.old).may_leave c ⊎ IsOwnFor text.now list c) }
         // A file that is refused is left as it is.
         // Promise: A file that is refused is left as it is
-        ensures untouched { IfErr result (λ e. IsFree e ⊎ LeavesOnly D.moment D.left_since disk.old disk.new (D.may_leave disk.old)) }
+        ensures untouched { IfErr result (λ e. IsFree e ⊎ IsQuiet (D.told disk.old) (D.told disk.new)) }
 
         // Where memory runs out the file reads as it did.
         // Promise: Where memory runs out during an opening, the file reads as it did
-        ensures kept { IsErrOf result JournalFault.Memory → D.reads disk.new ≡ D.reads disk.old }
+        ensures kept { IsErrOf result JournalFault.Memory → (D.told disk.new).reads ≡ (D.told disk.old).reads }
 
         // Promise: A failure of the disk is told only where its count of faults rose
-        ensures failed { IsErrOf result JournalFault.Disk → Rose (D.faults disk.old) (D.faults disk.new) }
-        ensures same_disk { IsSameDisk D.faults D.tells D.admits disk.old disk.new }
+        ensures failed { IsErrOf result JournalFault.Disk → Rose (D.told disk.old).faults (D.told disk.new).faults }
+        ensures same_disk { IsSameDisk (D.told disk.old) (D.told disk.new) }
     {
         let room = vec![in alloc; 0_u8; largest as usize + FRAME]?;
         let whole = newborn_file(alloc, text)?;
@@ -176,23 +176,23 @@ fn open_measured<D: Disk>(
     whole: &[u8],
     room: Vec<u8>,
 ) -> Result<Opened, JournalFault>
-    requires settled { IsTrue (D.tells disk.old) → IsSettled (D.reads disk.old) (D.may_leave disk.old) }
-    requires size { IfSome (D.reads disk.old) (λ file. end ≡ length file) }
+    requires settled { IsTrue (D.told disk.old).tells → IsSettled (D.told disk.old) }
+    requires size { IfSome (D.told disk.old).reads (λ file. end ≡ length file) }
     requires end { end ≤ 2 ^ 62 }
     requires whole { (text : List ℕ) × (whole.now ≡ newborn text) }
     requires short { length whole.now ≤ 2 ^ 21 }
     requires room { IsSound 0 (length room.items) }
-    ensures opened { IfOk result (λ o. (text file : List ℕ) → IsOnDisk file (D.reads disk.old) (D.may_leave disk.old) → whole.now ≡ newborn text →
-        IsOpenedAs text (length room.items - 5) file (map shown_entry o.entries.items) o.journal.gate (D.reads disk.new) (D.may_leave disk.new)) }
+    ensures opened { IfOk result (λ o. (text file : List ℕ) → IsOnDisk file (D.told disk.old) → whole.now ≡ newborn text →
+        IsOpenedAs text (length room.items - 5) file (map shown_entry o.entries.items) o.journal.gate (D.told disk.new)) }
     ensures journal { IfOk result (λ o. o.journal ≡ record { gate = o.journal.gate; largest = length room.items - 5; failed = false }) }
-    ensures refused { IfErr result (λ e. (text file : List ℕ) → IsOnDisk file (D.reads disk.old) (D.may_leave disk.old) → whole.now ≡ newborn text →
+    ensures refused { IfErr result (λ e. (text file : List ℕ) → IsOnDisk file (D.told disk.old) → whole.now ≡ newborn text →
         IsFree e ⊎ Has text (length room.items - 5) file e) }
-    ensures any_moment { (text file : List ℕ) (list : List entries.Entry) → IsOnDisk file (D.reads disk.old) (D.may_leave disk.old) → whole.now ≡ newborn text →
-        IsOwn text file → Stands file text list → LeavesOnly D.moment D.left_since disk.old disk.new (λ c. D.may_leave disk.old c ⊎ IsOwnFor text list c) }
-    ensures untouched { IfErr result (λ e. IsFree e ⊎ LeavesOnly D.moment D.left_since disk.old disk.new (D.may_leave disk.old)) }
-    ensures kept { IsErrOf result JournalFault.Memory → D.reads disk.new ≡ D.reads disk.old }
-    ensures failed { IsErrOf result JournalFault.Disk → Rose (D.faults disk.old) (D.faults disk.new) }
-    ensures same_disk { IsSameDisk D.faults D.tells D.admits disk.old disk.new }
+    ensures any_moment { (text file : List ℕ) (list : List entries.Entry) → IsOnDisk file (D.told disk.old) → whole.now ≡ newborn text →
+        IsOwn text file → Stands file text list → LeavesOnly (D.told disk.old) (D.told disk.new) (λ c. (D.told disk.old).may_leave c ⊎ IsOwnFor text list c) }
+    ensures untouched { IfErr result (λ e. IsFree e ⊎ IsQuiet (D.told disk.old) (D.told disk.new)) }
+    ensures kept { IsErrOf result JournalFault.Memory → (D.told disk.new).reads ≡ (D.told disk.old).reads }
+    ensures failed { IsErrOf result JournalFault.Disk → Rose (D.told disk.old).faults (D.told disk.new).faults }
+    ensures same_disk { IsSameDisk (D.told disk.old) (D.told disk.new) }
 {
     let head = &whole[..whole.len() - 1];
     match find_state(alloc, disk, end, head)? {
@@ -210,20 +210,20 @@ fn bear<D: Disk>(
     whole: &[u8],
     room: Vec<u8>,
 ) -> Result<Opened, JournalFault>
-    requires settled { IsTrue (D.tells disk.old) → IsSettled (D.reads disk.old) (D.may_leave disk.old) }
+    requires settled { IsTrue (D.told disk.old).tells → IsSettled (D.told disk.old) }
     requires whole { 1 ≤ length whole.now }
     requires short { length whole.now ≤ 2 ^ 21 }
     requires room { IsSound 0 (length room.items) }
-    requires zeroed { (file : List ℕ) → D.reads disk.old ≡ Some file → SaysZeroed zeroed file }
-    ensures opened { IfOk result (λ o. (text file : List ℕ) → IsOnDisk file (D.reads disk.old) (D.may_leave disk.old) → whole.now ≡ newborn text → IsUnborn file →
-        IsOpenedAs text (length room.items - 5) file (map shown_entry o.entries.items) o.journal.gate (D.reads disk.new) (D.may_leave disk.new)) }
+    requires zeroed { (file : List ℕ) → (D.told disk.old).reads ≡ Some file → SaysZeroed zeroed file }
+    ensures opened { IfOk result (λ o. (text file : List ℕ) → IsOnDisk file (D.told disk.old) → whole.now ≡ newborn text → IsUnborn file →
+        IsOpenedAs text (length room.items - 5) file (map shown_entry o.entries.items) o.journal.gate (D.told disk.new)) }
     ensures journal { IfOk result (λ o. o.journal ≡ record { gate = o.journal.gate; largest = length room.items - 5; failed = false }) }
     ensures free { IfErr result IsFree }
-    ensures any_moment { (text file : List ℕ) → IsOnDisk file (D.reads disk.old) (D.may_leave disk.old) → IsUnborn file → IsOwn text file →
-        whole.now ≡ newborn text → LeavesOnly D.moment D.left_since disk.old disk.new (IsOwnFor text []) }
-    ensures kept { IsErrOf result JournalFault.Memory → D.reads disk.new ≡ D.reads disk.old }
-    ensures failed { IsErrOf result JournalFault.Disk → Rose (D.faults disk.old) (D.faults disk.new) }
-    ensures same_disk { IsSameDisk D.faults D.tells D.admits disk.old disk.new }
+    ensures any_moment { (text file : List ℕ) → IsOnDisk file (D.told disk.old) → IsUnborn file → IsOwn text file →
+        whole.now ≡ newborn text → LeavesOnly (D.told disk.old) (D.told disk.new) (IsOwnFor text []) }
+    ensures kept { IsErrOf result JournalFault.Memory → (D.told disk.new).reads ≡ (D.told disk.old).reads }
+    ensures failed { IsErrOf result JournalFault.Disk → Rose (D.told disk.old).faults (D.told disk.new).faults }
+    ensures same_disk { IsSameDisk (D.told disk.old) (D.told disk.new) }
 {
     give_birth(disk, zeroed, whole)?;
     Ok(Opened {
@@ -240,22 +240,22 @@ fn recover<D: Disk>(
     end: u64,
     room: Vec<u8>,
 ) -> Result<Opened, JournalFault>
-    requires settled { IsTrue (D.tells disk.old) → IsSettled (D.reads disk.old) (D.may_leave disk.old) }
-    requires size { IfSome (D.reads disk.old) (λ file. end ≡ length file) }
+    requires settled { IsTrue (D.told disk.old).tells → IsSettled (D.told disk.old) }
+    requires size { IfSome (D.told disk.old).reads (λ file. end ≡ length file) }
     requires start { start ≤ end }
     requires end { end ≤ 2 ^ 62 }
     requires room { IsSound 0 (length room.items) }
-    ensures opened { IfOk result (λ o. (text file : List ℕ) → IsOnDisk file (D.reads disk.old) (D.may_leave disk.old) → IsHeaded text start file →
-        IsOpenedAs text (length room.items - 5) file (map shown_entry o.entries.items) o.journal.gate (D.reads disk.new) (D.may_leave disk.new)) }
+    ensures opened { IfOk result (λ o. (text file : List ℕ) → IsOnDisk file (D.told disk.old) → IsHeaded text start file →
+        IsOpenedAs text (length room.items - 5) file (map shown_entry o.entries.items) o.journal.gate (D.told disk.new)) }
     ensures journal { IfOk result (λ o. o.journal ≡ record { gate = o.journal.gate; largest = length room.items - 5; failed = false }) }
-    ensures refused { IfErr result (λ e. (text file : List ℕ) → IsOnDisk file (D.reads disk.old) (D.may_leave disk.old) → IsHeaded text start file →
+    ensures refused { IfErr result (λ e. (text file : List ℕ) → IsOnDisk file (D.told disk.old) → IsHeaded text start file →
         IsFree e ⊎ Has text (length room.items - 5) file e) }
-    ensures quiet { (text file : List ℕ) (list : List entries.Entry) → IsOnDisk file (D.reads disk.old) (D.may_leave disk.old) → IsHeaded text start file →
-        IsKept text list file → LeavesOnly D.moment D.left_since disk.old disk.new (D.may_leave disk.old) }
-    ensures untouched { IfErr result (λ e. IsFree e ⊎ LeavesOnly D.moment D.left_since disk.old disk.new (D.may_leave disk.old)) }
-    ensures kept { IsErrOf result JournalFault.Memory → D.reads disk.new ≡ D.reads disk.old }
-    ensures failed { IsErrOf result JournalFault.Disk → Rose (D.faults disk.old) (D.faults disk.new) }
-    ensures same_disk { IsSameDisk D.faults D.tells D.admits disk.old disk.new }
+    ensures quiet { (text file : List ℕ) (list : List entries.Entry) → IsOnDisk file (D.told disk.old) → IsHeaded text start file →
+        IsKept text list file → IsQuiet (D.told disk.old) (D.told disk.new) }
+    ensures untouched { IfErr result (λ e. IsFree e ⊎ IsQuiet (D.told disk.old) (D.told disk.new)) }
+    ensures kept { IsErrOf result JournalFault.Memory → (D.told disk.new).reads ≡ (D.told disk.old).reads }
+    ensures failed { IsErrOf result JournalFault.Disk → Rose (D.told disk.old).faults (D.told disk.new).faults }
+    ensures same_disk { IsSameDisk (D.told disk.old) (D.told disk.new) }
 {
     let mut payload = vec![in alloc; 0_u8; room.len() - FRAME]?;
     let (entries, gate) = read_records(alloc, disk, start, end, payload.as_mut_slice())?;
@@ -268,14 +268,14 @@ fn recover<D: Disk>(
 
 /// Writes a closed gate where a file ends without one.
 fn shut<D: Disk>(disk: &mut D, gate: u64, end: u64) -> Result<(), DiskFailed>
-    requires settled { IsTrue (D.tells disk.old) → IsSettled (D.reads disk.old) (D.may_leave disk.old) }
-    requires size { IfSome (D.reads disk.old) (λ file. end ≡ length file) }
+    requires settled { IsTrue (D.told disk.old).tells → IsSettled (D.told disk.old) }
+    requires size { IfSome (D.told disk.old).reads (λ file. end ≡ length file) }
     requires within { gate ≤ end }
-    ensures on_disk { OnOk result ((file : List ℕ) → IsOnDisk file (D.reads disk.old) (D.may_leave disk.old) → end ≡ length file → IsClosed (drop gate file) →
-        (now : List ℕ) × IsOnDisk now (D.reads disk.new) (D.may_leave disk.new) × (take gate now ≡ take gate file) × IsShut (drop gate now)) }
-    ensures quiet { gate < end → LeavesOnly D.moment D.left_since disk.old disk.new (D.may_leave disk.old) }
-    ensures failed { OnErr result (Rose (D.faults disk.old) (D.faults disk.new)) }
-    ensures same_disk { IsSameDisk D.faults D.tells D.admits disk.old disk.new }
+    ensures on_disk { OnOk result ((file : List ℕ) → IsOnDisk file (D.told disk.old) → end ≡ length file → IsClosed (drop gate file) →
+        (now : List ℕ) × IsOnDisk now (D.told disk.new) × (take gate now ≡ take gate file) × IsShut (drop gate now)) }
+    ensures quiet { gate < end → IsQuiet (D.told disk.old) (D.told disk.new) }
+    ensures failed { OnErr result (Rose (D.told disk.old).faults (D.told disk.new).faults) }
+    ensures same_disk { IsSameDisk (D.told disk.old) (D.told disk.new) }
 {
     if gate < end {
         return Ok(());
@@ -286,17 +286,17 @@ fn shut<D: Disk>(disk: &mut D, gate: u64, end: u64) -> Result<(), DiskFailed>
 /// Writes a record behind the last gate, and then opens that gate; each is on the disk before what follows.
 fn write_record<D: Disk>(disk: &mut D, gate: u64, behind: &[u8]) -> Result<(), DiskFailed>
     requires near { gate ≤ 2 ^ 62 }
-    requires left { IsTrue (D.tells disk.old) → (text : List ℕ) × (list : List entries.Entry) × (file : List ℕ) ×
-        IsOnDisk file (D.reads disk.old) (D.may_leave disk.old) × IsKeptAt gate text list file }
+    requires left { IsTrue (D.told disk.old).tells → (text : List ℕ) × (list : List entries.Entry) × (file : List ℕ) ×
+        IsOnDisk file (D.told disk.old) × IsKeptAt gate text list file }
     ensures on_disk { OnOk result ((text file : List ℕ) (list : List entries.Entry) (e : entries.Entry) →
-        IsOnDisk file (D.reads disk.old) (D.may_leave disk.old) → IsKeptAt gate text list file → IsRecordable e → behind.now ≡ behind_gate e →
-        (now : List ℕ) × IsOnDisk now (D.reads disk.new) (D.may_leave disk.new) × IsKeptAt (gate + length behind.now) text (list ++ e ∷ []) now) }
+        IsOnDisk file (D.told disk.old) → IsKeptAt gate text list file → IsRecordable e → behind.now ≡ behind_gate e →
+        (now : List ℕ) × IsOnDisk now (D.told disk.new) × IsKeptAt (gate + length behind.now) text (list ++ e ∷ []) now) }
     ensures any_moment { (text file : List ℕ) (list : List entries.Entry) (e : entries.Entry) →
-        IsOnDisk file (D.reads disk.old) (D.may_leave disk.old) → IsKeptAt gate text list file → IsRecordable e → behind.now ≡ behind_gate e →
-        LeavesOnly D.moment D.left_since disk.old disk.new (IsBeforeOrAfter text list e) }
+        IsOnDisk file (D.told disk.old) → IsKeptAt gate text list file → IsRecordable e → behind.now ≡ behind_gate e →
+        LeavesOnly (D.told disk.old) (D.told disk.new) (IsBeforeOrAfter text list e) }
     ensures short { OnOk result (gate + length behind.now ≤ 2 ^ 62) }
-    ensures failed { OnErr result (Rose (D.faults disk.old) (D.faults disk.new)) }
-    ensures same_disk { IsSameDisk D.faults D.tells D.admits disk.old disk.new }
+    ensures failed { OnErr result (Rose (D.told disk.old).faults (D.told disk.new).faults) }
+    ensures same_disk { IsSameDisk (D.told disk.old) (D.told disk.new) }
 {
     write_synced(disk, gate + 1, behind)?;
     write_synced(disk, gate, &[1])

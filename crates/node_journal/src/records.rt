@@ -1,19 +1,19 @@
 //! The records of a file, read one after another, each once.
 
-ghost use Rattle.std.specs.Prelude.{◌≡◌, ◌+◌, ◌-◌, ◌^◌, ◌<◌, ◌≤◌, ◌⊎◌, ℕ, List, Some, None, length, min, take, drop, map, IsTrue, IfOk, IfErr, IfSome, OnOk, OnErr, MatchResult, MatchOption, IsErrOf};
+ghost use Rattle.std.specs.Prelude.{◌≡◌, ◌+◌, ◌-◌, ◌^◌, ◌<◌, ◌≤◌, ◌⊎◌, ℕ, List, Some, None, length, min, take, drop, map, IfOk, IfErr, IfSome, OnOk, OnErr, MatchResult, MatchOption, IsErrOf};
 ghost use Rattle.edge_io.specs.Counts.{Rose};
-ghost use Rattle.disk_model.specs.Disks.{Reaches, LeavesOnly};
+ghost use Rattle.disk_calls.specs.Disks.{Reaches, IsSameDisk};
 ghost use Rattle.box_tree.specs.Views.{shown_entry};
 ghost use Rattle.journal_format.specs.Payload.{payload, EntryFits};
 ghost use Rattle.journal_format.specs.Reading.{payload_at};
 ghost use Rattle.journal_format.specs.Files.{IsClosed};
 ghost use Rattle.journal_format.specs.Faults.{IsFree};
 ghost use Rattle.journal_format.specs.Records.{Opens, IsRecordAt, AreRecordsAt, FailsAt, IsBadBehind};
-ghost use Rattle.node_journal.specs.Settled.{IsSameDisk};
+ghost use Rattle.node_journal.specs.Settled.{IsQuiet};
 
 use crate::synced::read_back;
 use box_tree::Entry;
-use disk_model::{Disk, DiskFailed};
+use disk_calls::{Disk, DiskFailed};
 use journal_format::{HEAD, JournalFault, Opening, Unread, opening_of, read_payload};
 use std::alloc::Global;
 
@@ -28,17 +28,17 @@ pub(crate) fn read_records<D: Disk>(
 ) -> Result<(Vec<Entry>, u64), JournalFault>
     requires within { start ≤ end }
     requires short { end ≤ 2 ^ 62 }
-    requires known { IsTrue (D.tells disk.old) → Reaches (D.reads disk.old) end }
-    ensures read { IfOk result (λ x. (file : List ℕ) → D.reads disk.old ≡ Some file → end ≡ length file →
+    requires known { Reaches (D.told disk.old) end }
+    ensures read { IfOk result (λ x. (file : List ℕ) → (D.told disk.old).reads ≡ Some file → end ≡ length file →
         AreRecordsAt (length room.old) start file (map shown_entry x.0.items) x.1 × IsClosed (drop x.1 file)) }
-    ensures bad { IfErr result (λ e. (file : List ℕ) → D.reads disk.old ≡ Some file → end ≡ length file →
+    ensures bad { IfErr result (λ e. (file : List ℕ) → (D.told disk.old).reads ≡ Some file → end ≡ length file →
         IsFree e ⊎ IsBadBehind (length room.old) start file e) }
     ensures reached { IfOk result (λ x. x.1 ≤ end) }
-    ensures same { OnOk result (D.reads disk.new ≡ D.reads disk.old) }
-    ensures kept { IsErrOf result JournalFault.Memory → D.reads disk.new ≡ D.reads disk.old }
-    ensures quiet { LeavesOnly D.moment D.left_since disk.old disk.new (D.may_leave disk.old) }
-    ensures same_disk { IsSameDisk D.faults D.tells D.admits disk.old disk.new }
-    ensures failed { IsErrOf result JournalFault.Disk → Rose (D.faults disk.old) (D.faults disk.new) }
+    ensures same { OnOk result ((D.told disk.new).reads ≡ (D.told disk.old).reads) }
+    ensures kept { IsErrOf result JournalFault.Memory → (D.told disk.new).reads ≡ (D.told disk.old).reads }
+    ensures quiet { IsQuiet (D.told disk.old) (D.told disk.new) }
+    ensures same_disk { IsSameDisk (D.told disk.old) (D.told disk.new) }
+    ensures failed { IsErrOf result JournalFault.Disk → Rose (D.told disk.old).faults (D.told disk.new).faults }
 {
     let mut entries = Vec::new(alloc);
     let mut at = start;
@@ -67,17 +67,17 @@ fn next_record<D: Disk>(
 ) -> Result<Option<(Entry, u64)>, JournalFault>
     requires within { at ≤ end }
     requires short { end ≤ 2 ^ 62 }
-    requires known { IsTrue (D.tells disk.old) → Reaches (D.reads disk.old) end }
-    ensures read { (file : List ℕ) → D.reads disk.old ≡ Some file → end ≡ length file →
+    requires known { Reaches (D.told disk.old) end }
+    ensures read { (file : List ℕ) → (D.told disk.old).reads ≡ Some file → end ≡ length file →
         MatchResult result
         (λ o. MatchOption o (IsClosed (drop at file)) (λ x. IsRecordAt (length room.old) at file (shown_entry x.0) x.1))
         (FailsAt (length room.old) number (drop at file)) }
     ensures reached { IfOk result (λ o. IfSome o (λ x. (at < x.1) × (x.1 ≤ end))) }
-    ensures same { OnOk result (D.reads disk.new ≡ D.reads disk.old) }
-    ensures kept { IsErrOf result JournalFault.Memory → D.reads disk.new ≡ D.reads disk.old }
-    ensures quiet { LeavesOnly D.moment D.left_since disk.old disk.new (D.may_leave disk.old) }
-    ensures same_disk { IsSameDisk D.faults D.tells D.admits disk.old disk.new }
-    ensures failed { IsErrOf result JournalFault.Disk → Rose (D.faults disk.old) (D.faults disk.new) }
+    ensures same { OnOk result ((D.told disk.new).reads ≡ (D.told disk.old).reads) }
+    ensures kept { IsErrOf result JournalFault.Memory → (D.told disk.new).reads ≡ (D.told disk.old).reads }
+    ensures quiet { IsQuiet (D.told disk.old) (D.told disk.new) }
+    ensures same_disk { IsSameDisk (D.told disk.old) (D.told disk.new) }
+    ensures failed { IsErrOf result JournalFault.Disk → Rose (D.told disk.old).faults (D.told disk.new).faults }
 {
     match opening_at(disk, at, end)? {
         Opening::Closed => Ok(None),
@@ -93,12 +93,12 @@ fn next_record<D: Disk>(
 fn opening_at<D: Disk>(disk: &mut D, at: u64, end: u64) -> Result<Opening, DiskFailed>
     requires within { at ≤ end }
     requires short { end ≤ 2 ^ 62 }
-    requires known { IsTrue (D.tells disk.old) → Reaches (D.reads disk.old) end }
-    ensures opens { IfOk result (λ o. (file : List ℕ) → D.reads disk.old ≡ Some file → end ≡ length file → Opens (drop at file) o) }
-    ensures same { OnOk result (D.reads disk.new ≡ D.reads disk.old) }
-    ensures quiet { LeavesOnly D.moment D.left_since disk.old disk.new (D.may_leave disk.old) }
-    ensures same_disk { IsSameDisk D.faults D.tells D.admits disk.old disk.new }
-    ensures failed { OnErr result (Rose (D.faults disk.old) (D.faults disk.new)) }
+    requires known { Reaches (D.told disk.old) end }
+    ensures opens { IfOk result (λ o. (file : List ℕ) → (D.told disk.old).reads ≡ Some file → end ≡ length file → Opens (drop at file) o) }
+    ensures same { OnOk result ((D.told disk.new).reads ≡ (D.told disk.old).reads) }
+    ensures quiet { IsQuiet (D.told disk.old) (D.told disk.new) }
+    ensures same_disk { IsSameDisk (D.told disk.old) (D.told disk.new) }
+    ensures failed { OnErr result (Rose (D.told disk.old).faults (D.told disk.new).faults) }
 {
     let mut head = [0; HEAD];
     let size = (end - at).min(HEAD as u64) as usize;
@@ -114,12 +114,12 @@ fn opening_in<D: Disk>(
 ) -> Result<Opening, DiskFailed>
     requires within { at ≤ end }
     requires size { length head.old ≡ min (end - at) HEAD }
-    requires known { IsTrue (D.tells disk.old) → Reaches (D.reads disk.old) end }
-    ensures opens { IfOk result (λ o. (file : List ℕ) → D.reads disk.old ≡ Some file → end ≡ length file → Opens (drop at file) o) }
-    ensures same { OnOk result (D.reads disk.new ≡ D.reads disk.old) }
-    ensures quiet { LeavesOnly D.moment D.left_since disk.old disk.new (D.may_leave disk.old) }
-    ensures same_disk { IsSameDisk D.faults D.tells D.admits disk.old disk.new }
-    ensures failed { OnErr result (Rose (D.faults disk.old) (D.faults disk.new)) }
+    requires known { Reaches (D.told disk.old) end }
+    ensures opens { IfOk result (λ o. (file : List ℕ) → (D.told disk.old).reads ≡ Some file → end ≡ length file → Opens (drop at file) o) }
+    ensures same { OnOk result ((D.told disk.new).reads ≡ (D.told disk.old).reads) }
+    ensures quiet { IsQuiet (D.told disk.old) (D.told disk.new) }
+    ensures same_disk { IsSameDisk (D.told disk.old) (D.told disk.new) }
+    ensures failed { OnErr result (Rose (D.told disk.old).faults (D.told disk.new).faults) }
 {
     read_back(disk, at, head)?;
     Ok(opening_of(head))
@@ -137,15 +137,15 @@ fn open_record<D: Disk>(
 ) -> Result<(Entry, u64), JournalFault>
     requires within { at ≤ end }
     requires short { end ≤ 2 ^ 62 }
-    requires known { IsTrue (D.tells disk.old) → Reaches (D.reads disk.old) end }
-    ensures read { (file : List ℕ) → D.reads disk.old ≡ Some file → end ≡ length file → Opens (drop at file) (Opening.Payload size) →
+    requires known { Reaches (D.told disk.old) end }
+    ensures read { (file : List ℕ) → (D.told disk.old).reads ≡ Some file → end ≡ length file → Opens (drop at file) (Opening.Payload size) →
         MatchResult result (λ x. IsRecordAt (length room.old) at file (shown_entry x.0) x.1) (FailsAt (length room.old) number (drop at file)) }
     ensures reached { IfOk result (λ x. (at < x.1) × (x.1 ≤ end)) }
-    ensures same { OnOk result (D.reads disk.new ≡ D.reads disk.old) }
-    ensures kept { IsErrOf result JournalFault.Memory → D.reads disk.new ≡ D.reads disk.old }
-    ensures quiet { LeavesOnly D.moment D.left_since disk.old disk.new (D.may_leave disk.old) }
-    ensures same_disk { IsSameDisk D.faults D.tells D.admits disk.old disk.new }
-    ensures failed { IsErrOf result JournalFault.Disk → Rose (D.faults disk.old) (D.faults disk.new) }
+    ensures same { OnOk result ((D.told disk.new).reads ≡ (D.told disk.old).reads) }
+    ensures kept { IsErrOf result JournalFault.Memory → (D.told disk.new).reads ≡ (D.told disk.old).reads }
+    ensures quiet { IsQuiet (D.told disk.old) (D.told disk.new) }
+    ensures same_disk { IsSameDisk (D.told disk.old) (D.told disk.new) }
+    ensures failed { IsErrOf result JournalFault.Disk → Rose (D.told disk.old).faults (D.told disk.new).faults }
 {
     let place = at + HEAD as u64;
     let after = place + u64::from(size);
@@ -165,16 +165,16 @@ fn entry_at<D: Disk>(
     at: u64,
     room: &mut [u8],
 ) -> Result<Option<Entry>, JournalFault>
-    requires { IsTrue (D.tells disk.old) → Reaches (D.reads disk.old) (at + length room.old) }
-    ensures read { IfOk result (λ o. (file : List ℕ) → D.reads disk.old ≡ Some file →
+    requires { Reaches (D.told disk.old) (at + length room.old) }
+    ensures read { IfOk result (λ o. (file : List ℕ) → (D.told disk.old).reads ≡ Some file →
         MatchOption o (payload_at (take (length room.old) (drop at file)) ≡ None)
         (λ e. (take (length room.old) (drop at file) ≡ payload (shown_entry e)) × EntryFits (shown_entry e))) }
     ensures free { IfErr result IsFree }
-    ensures same { OnOk result (D.reads disk.new ≡ D.reads disk.old) }
-    ensures kept { IsErrOf result JournalFault.Memory → D.reads disk.new ≡ D.reads disk.old }
-    ensures quiet { LeavesOnly D.moment D.left_since disk.old disk.new (D.may_leave disk.old) }
-    ensures same_disk { IsSameDisk D.faults D.tells D.admits disk.old disk.new }
-    ensures failed { IsErrOf result JournalFault.Disk → Rose (D.faults disk.old) (D.faults disk.new) }
+    ensures same { OnOk result ((D.told disk.new).reads ≡ (D.told disk.old).reads) }
+    ensures kept { IsErrOf result JournalFault.Memory → (D.told disk.new).reads ≡ (D.told disk.old).reads }
+    ensures quiet { IsQuiet (D.told disk.old) (D.told disk.new) }
+    ensures same_disk { IsSameDisk (D.told disk.old) (D.told disk.new) }
+    ensures failed { IsErrOf result JournalFault.Disk → Rose (D.told disk.old).faults (D.told disk.new).faults }
 {
     read_back(disk, at, room)?;
     match read_payload(alloc, room) {

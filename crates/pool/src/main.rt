@@ -1,7 +1,7 @@
 //! The program: real files and streams round the top call.
 #![tactic(auto)]
 
-use disk_model::FileDisk;
+use disk_calls::FileDisk;
 use edge_io::StdSink;
 use pool_cli::{Status, run, write_message};
 use shelf_calls::FileShelf;

@@ -3,7 +3,6 @@
 ghost use Rattle.std.specs.Prelude.{◌≡◌, ◌⊎◌, List, ℕ, Some, IsTrue, map, string_bytes};
 ghost use Rattle.edge_io.specs.Counts.{Rose};
 ghost use Rattle.edge_io.specs.Writing.{behind};
-ghost use Rattle.disk_model.specs.Disks.{LeavesOnly};
 ghost use Rattle.pool_model.specs.Network.{Network};
 ghost use Rattle.box_space.specs.declared.coordinates.Form.{Form};
 ghost use Rattle.cert_format.specs.Text.{text_of};
@@ -20,7 +19,7 @@ use crate::make::make;
 use crate::trial::trial;
 use certificate_commands::{check, report};
 use cli_words::{Request, WordsFault, read_words};
-use disk_model::Disk;
+use disk_calls::Disk;
 use edge_io::Sink;
 use run_status::Status;
 use shelf_calls::Shelf;
@@ -57,7 +56,7 @@ pub fn run<S: Shelf, K: Sink, D: Disk>(
         → ReadsUnder (S.told shelf.old).files net network → IsTrue ((S.told shelf.old).admits cert) }
 
     // Promise: The disk is asked for the file of `--journal` alone
-    requires journal { (s : Solving) (file : List ℕ) → Asks (map string_bytes words.now) (solve s) → s.journal ≡ Some file → IsTrue (D.admits disk.old file) }
+    requires journal { (s : Solving) (file : List ℕ) → Asks (map string_bytes words.now) (solve s) → s.journal ≡ Some file → IsTrue ((D.told disk.old).admits file) }
 
     // What the sink took: under `Closed`, `Stopped`, `Stuck`, `Infeasible` and `Undecided` the text of a certificate that answers the
     // words, under `Accepted` and `Refused` the line on the certificate that they name, under `Done` the report, the program, the network
@@ -83,13 +82,12 @@ pub fn run<S: Shelf, K: Sink, D: Disk>(
     // Promise: Status 21 comes only where the sink's count of faults rose
     ensures write_fault { result ≡ Status.WriteFault → Rose (K.faults out.old) (K.faults out.new) }
     // Promise: Status 22 comes only where the disk's count of faults rose
-    ensures disk_fault { result ≡ Status.DiskFault → Rose (D.faults disk.old) (D.faults disk.new) }
+    ensures disk_fault { result ≡ Status.DiskFault → Rose (D.told disk.old).faults (D.told disk.new).faults }
 
     // What a crash at any moment leaves of the journal, what the journal holds at the end, and when it is refused. Without a journal the
     // disk is not touched.
-    ensures journal { (s : Solving) (file : List ℕ) → Asks (map string_bytes words.now) (solve s) → s.journal ≡ Some file → IsTrue (D.tells disk.old) →
-        Journaled (S.told shelf.old).files s (LeavesOnly D.moment D.left_since disk.old disk.new) (D.may_leave disk.old) (D.reads disk.new) (D.may_leave disk.new)
-        result (λ c. K.taken out.new ≡ behind (K.taken out.old) (text_of c)) }
+    ensures journal { (s : Solving) (file : List ℕ) → Asks (map string_bytes words.now) (solve s) → s.journal ≡ Some file → IsTrue (D.told disk.old).tells →
+        Journaled (S.told shelf.old).files s (D.told disk.old) (D.told disk.new) result (λ c. K.taken out.new ≡ behind (K.taken out.old) (text_of c)) }
     // Promise: Without `--journal` the disk is not touched
     ensures apart { (asked : Asked) → Asks (map string_bytes words.now) asked → HasNoJournal asked → disk.new ≡ disk.old }
     // Promise: Words that ask nothing leave the disk as it is
@@ -119,15 +117,13 @@ fn answer<S: Shelf, K: Sink, D: Disk>(
     out: &mut K,
     disk: &mut D,
 ) -> Status
-    requires { IsAdmitted (λ name. IsTrue ((S.told shelf.old).admits name)) (λ name. IsTrue (D.admits disk.old name)) (S.told shelf.old).files (shown_request request) }
+    requires { IsAdmitted (λ name. IsTrue ((S.told shelf.old).admits name)) (λ name. IsTrue ((D.told disk.old).admits name)) (S.told shelf.old).files (shown_request request) }
     ensures took { Took (AnswersAs (S.told shelf.old).files (shown_request request)) result (K.taken out.old) (K.taken out.new) }
     ensures ends { EndsAs (S.told shelf.old).files (S.told shelf.old).taken (S.told shelf.new).taken (shown_request request) result }
     ensures read_fault { result ≡ Status.ReadFault → Rose (S.told shelf.old).faults (S.told shelf.new).faults }
     ensures write_fault { result ≡ Status.WriteFault → Rose (K.faults out.old) (K.faults out.new) }
-    ensures disk_fault { result ≡ Status.DiskFault → Rose (D.faults disk.old) (D.faults disk.new) }
-    ensures journal { IsTrue (D.tells disk.old) → JournalsAs (λ s. Journaled (S.told shelf.old).files s
-        (LeavesOnly D.moment D.left_since disk.old disk.new) (D.may_leave disk.old) (D.reads disk.new) (D.may_leave disk.new)
-        result (λ c. K.taken out.new ≡ behind (K.taken out.old) (text_of c))) (shown_request request) }
+    ensures disk_fault { result ≡ Status.DiskFault → Rose (D.told disk.old).faults (D.told disk.new).faults }
+    ensures journal { IsTrue (D.told disk.old).tells → JournalsAs (λ s. Journaled (S.told shelf.old).files s (D.told disk.old) (D.told disk.new) result (λ c. K.taken out.new ≡ behind (K.taken out.old) (text_of c))) (shown_request request) }
     ensures apart { HasNoJournal (shown_request request) → disk.new ≡ disk.old }
 {
     match request {

@@ -1,9 +1,9 @@
 -- Lists that grow entry by entry, and what a crash leaves meanwhile.
-use Rattle.std.proofs.Common.{◌≡◌, ◌≢◌, ◌⊎◌, inl, inr, Bool, ℕ, suc, ◌<◌, map, get_or, take, drop, ◌≤◌, List, [], ◌∷◌, ◌++◌, length, Option, refl, sym, ap, subst, ◌∙◌, append_assoc}
+use Rattle.std.proofs.Common.{◌≡◌, ◌≢◌, ◌⊎◌, inl, inr, ℕ, suc, ◌<◌, map, get_or, take, drop, List, [], ◌∷◌, ◌++◌, length, refl, sym, ap, subst, ◌∙◌, append_assoc}
 use Rattle.std.proofs.lemmas.List.{append-nil, map-id, map-append, take-append-drop}
 use Rattle.std.proofs.Math.Seq.{drop-cons}
-use Rattle.disk_model.specs.Disks.{LeavesOnly}
-use Rattle.disk_model.proofs.Moments.{goes_further, leaves-weaker}
+use Rattle.disk_calls.specs.Disks.{DiskTold, LeavesOnly}
+use Rattle.disk_calls.proofs.Moments.{started, goes_further, leaves-weaker}
 use Rattle.pool_model.specs.Network.{Net}
 use Rattle.row_model.specs.Entries.{Entry, Searched, start, after, made_from, made_by, AreInOrder, AreInOrderFrom, IsEntryInOrder}
 use Rattle.box_tree.specs.declared.entry.EntryFault.{EntryFault}
@@ -11,12 +11,10 @@ use Rattle.box_tree.specs.declared.entry.EntryFault.TheVariants as entry_faults
 use Rattle.journal_format.specs.Files.{IsKept, IsOwnFor}
 use Rattle.node_journal.specs.Journals.{IsBeforeOrAfter}
 use Rattle.journal_format.specs.Records.{IsKeptAt}
-use Rattle.edge_io.proofs.Counting.{grows-same, grows-then}
-use Rattle.node_journal.specs.Settled.{IsOnDisk, IsSameDisk}
+use Rattle.node_journal.specs.Settled.{IsOnDisk}
 use Rattle.journal_format.specs.declared.fault.JournalFault.{JournalFault}
 use Rattle.journal_format.specs.declared.fault.JournalFault.TheVariants as journal_faults
 use Rattle.journal_format.proofs.OwnFiles.{kept-own, kept_of}
-use Rattle.node_journal.proofs.Runs.{quiet-start}
 use Rattle.recorded_run.specs.declared.fault.RunFault.TheVariants as faults
 use Rattle.recorded_run.specs.Recorded.{BeginsWith, IsNetworksOwn, IsBetween, IsRecorded, StandsNow, Ends, IsFirstOutOfOrder, IsReplayFault, refused_as}
 
@@ -62,20 +60,20 @@ between-recorded n text first last e file begins are more (inr behind) = record 
 
 -- ---- what is recorded
 
-pub recorded-more : (n : Net) (text : List ℕ) (list : List Entry) (e : Entry) (gate : ℕ) (s t : Searched) (file : List ℕ) (reads : Option (List ℕ)) (images : List ℕ → Type 0)
-    → AreInOrder n list → s ≡ made_by list → IsEntryInOrder n s e → t ≡ after s e → IsOnDisk file reads images → IsKeptAt gate text (list ++ e ∷ []) file
-    → IsRecorded n text (list ++ e ∷ []) gate t reads images
-recorded-more n text list e gate s t file reads images are made is then d kept = record {
+pub recorded-more : (n : Net) (text : List ℕ) (list : List Entry) (e : Entry) (gate : ℕ) (s t : Searched) (file : List ℕ) (d : DiskTold)
+    → AreInOrder n list → s ≡ made_by list → IsEntryInOrder n s e → t ≡ after s e → IsOnDisk file d → IsKeptAt gate text (list ++ e ∷ []) file
+    → IsRecorded n text (list ++ e ∷ []) gate t d
+recorded-more n text list e gate s t file d are made is then on_disk kept = record {
   file = file;
-  on_disk = d;
+  on_disk = on_disk;
   kept = kept;
   in_order = in_order-more n start list e are (subst (λ (x : Searched). IsEntryInOrder n x e) made is);
   made = then ∙ ap (λ (x : Searched). after x e) made ∙ sym (made-more start list e);
 }
 
-pub recorded-ends : (n : Net) (text : List ℕ) (list : List Entry) (gate : ℕ) (s : Searched) (reads : Option (List ℕ)) (images : List ℕ → Type 0) → IsRecorded n text list gate s reads images
-    → Ends n text list s reads images
-recorded-ends n text list gate s reads images is = record {
+pub recorded-ends : (n : Net) (text : List ℕ) (list : List Entry) (gate : ℕ) (s : Searched) (d : DiskTold) → IsRecorded n text list gate s d
+    → Ends n text list s d
+recorded-ends n text list gate s d is = record {
   file = is.file;
   on_disk = is.on_disk;
   own = kept-own_file n text list is.file (kept_of gate text is.file list is.kept) is.in_order;
@@ -83,52 +81,44 @@ recorded-ends n text list gate s reads images is = record {
 }
 
 -- the file that the disk holds is what a read gives
-pub kept-stands : (n : Net) (text : List ℕ) (list : List Entry) (gate : ℕ) (file : List ℕ) (reads : Option (List ℕ)) (images : List ℕ → Type 0) → AreInOrder n list
-    → IsOnDisk file reads images → IsKeptAt gate text list file → StandsNow n text list reads
-kept-stands n text list gate file reads images are d kept = record { file = file; read = d.read; own = kept-own_file n text list file (kept_of gate text file list kept) are }
+pub kept-stands : (n : Net) (text : List ℕ) (list : List Entry) (gate : ℕ) (file : List ℕ) (d : DiskTold) → AreInOrder n list
+    → IsOnDisk file d → IsKeptAt gate text list file → StandsNow n text list d
+kept-stands n text list gate file d are on_disk kept = record { file = file; read = on_disk.read; own = kept-own_file n text list file (kept_of gate text file list kept) are }
 
-pub recorded-stands : (n : Net) (text : List ℕ) (list : List Entry) (gate : ℕ) (s : Searched) (reads : Option (List ℕ)) (images : List ℕ → Type 0) → IsRecorded n text list gate s reads images
-    → StandsNow n text list reads
-recorded-stands n text list gate s reads images is = kept-stands n text list gate is.file reads images is.in_order is.on_disk is.kept
+pub recorded-stands : (n : Net) (text : List ℕ) (list : List Entry) (gate : ℕ) (s : Searched) (d : DiskTold) → IsRecorded n text list gate s d
+    → StandsNow n text list d
+recorded-stands n text list gate s d is = kept-stands n text list gate is.file d is.in_order is.on_disk is.kept
 
 -- the fault of a run for want of memory is that of its journal
 pub memory-of : (fault : JournalFault) → faults.Journal fault ≡ faults.Journal journal_faults.Memory → fault ≡ journal_faults.Memory
 memory-of fault is = cc
 
 -- so far: a crash left a list between the first and the last, and the disk holds the last
-pub record SoFar {D : Type 0} (n : Net) (moment : D → ℕ) (left_since : D → ℕ → List ℕ → Type 0) (reads : D → Option (List ℕ)) (may_leave : D → List ℕ → Type 0)
-    (text : List ℕ) (first : List Entry) (old now : D) (gate : ℕ) (s : Searched) : Type 0 where
+pub record SoFar (n : Net) (text : List ℕ) (first : List Entry) (old now : DiskTold) (gate : ℕ) (s : Searched) : Type 0 where
   pub last : List Entry
   pub begins : BeginsWith last first
-  pub any_moment : LeavesOnly moment left_since old now (IsBetween n text first last)
-  pub held : IsRecorded n text last gate s (reads now) (may_leave now)
+  pub any_moment : LeavesOnly old now (IsBetween n text first last)
+  pub held : IsRecorded n text last gate s now
 
-module _ {D : Type 0} (n : Net) (moment : D → ℕ) (left_since : D → ℕ → List ℕ → Type 0) (reads : D → Option (List ℕ)) (may_leave : D → List ℕ → Type 0)
-    (counts_now : (disk : D) (t : ℕ) (c : List ℕ) → t ≤ moment disk → may_leave disk c → left_since disk t c)
-    (only_now : (disk : D) (c : List ℕ) → left_since disk (moment disk) c → may_leave disk c) where
-  pub so_far-start : (text : List ℕ) (first : List Entry) (d : D) (gate : ℕ) (s : Searched) → IsRecorded n text first gate s (reads d) (may_leave d) →
-      SoFar n moment left_since reads may_leave text first d d gate s
-  so_far-start text first d gate s is = record {
-    last = first;
+pub so_far-start : (n : Net) (text : List ℕ) (first : List Entry) (d : DiskTold) (gate : ℕ) (s : Searched) → IsRecorded n text first gate s d → SoFar n text first d d gate s
+so_far-start n text first d gate s is = record {
+  last = first;
+  begins = begins-same first;
+  any_moment = started d (IsBetween n text first first) (λ k now. record {
+    list = first;
+    own = subst (IsNetworksOwn n text first) (sym (is.on_disk.only k now)) (kept-own_file n text first is.file (kept_of gate text is.file first is.kept) is.in_order);
     begins = begins-same first;
-    any_moment = leaves-weaker moment left_since d d (may_leave d) (IsBetween n text first first)
-        (λ k now. record {
-          list = first;
-          own = subst (IsNetworksOwn n text first) (sym (is.on_disk.only k now)) (kept-own_file n text first is.file (kept_of gate text is.file first is.kept) is.in_order);
-          begins = begins-same first;
-          goes_on = begins-same first;
-        })
-        (quiet-start moment left_since may_leave counts_now only_now d);
-    held = is;
-  }
+    goes_on = begins-same first;
+  });
+  held = is;
+}
 
-  pub so_far-moments : (text : List ℕ) (first last : List Entry) (e : Entry) (old mid new : D) → BeginsWith last first → AreInOrder n last → AreInOrder n (last ++ e ∷ [])
-      → LeavesOnly moment left_since old mid (IsBetween n text first last) → LeavesOnly moment left_since mid new (IsBeforeOrAfter text last e)
-      → LeavesOnly moment left_since old new (IsBetween n text first (last ++ e ∷ []))
-  so_far-moments text first last e old mid new begins are more before step =
-      goes_further moment left_since old mid new (IsBetween n text first (last ++ e ∷ []))
-      (leaves-weaker moment left_since old mid (IsBetween n text first last) (IsBetween n text first (last ++ e ∷ [])) (λ k is. between-later n text first last e k is) before)
-      (leaves-weaker moment left_since mid new (IsBeforeOrAfter text last e) (IsBetween n text first (last ++ e ∷ [])) (λ k is. between-recorded n text first last e k begins are more is) step)
+pub so_far-moments : (n : Net) (text : List ℕ) (first last : List Entry) (e : Entry) (old mid new : DiskTold) → BeginsWith last first → AreInOrder n last → AreInOrder n (last ++ e ∷ [])
+    → LeavesOnly old mid (IsBetween n text first last) → LeavesOnly mid new (IsBeforeOrAfter text last e) → LeavesOnly old new (IsBetween n text first (last ++ e ∷ []))
+so_far-moments n text first last e old mid new begins are more before step =
+    goes_further old mid new (IsBetween n text first (last ++ e ∷ []))
+    (leaves-weaker old mid (IsBetween n text first last) (IsBetween n text first (last ++ e ∷ [])) (λ k is. between-later n text first last e k is) before)
+    (leaves-weaker mid new (IsBeforeOrAfter text last e) (IsBetween n text first (last ++ e ∷ [])) (λ k is. between-recorded n text first last e k begins are more is) step)
 
 -- ---- entries that are replayed
 
@@ -160,19 +150,6 @@ refused-fault n list number (entry_faults.BadPlan plan) first = first (λ e. cc)
 refused-fault n list number entry_faults.PlanNotBetter first = first (λ e. cc)
 refused-fault n list number entry_faults.RootLate first = first (λ e. cc)
 
--- ---- one disk
-
-pub same_disk-same : {D : Type 0} (faults : D → ℕ) (tells : D → Bool) (admits : D → List ℕ → Bool) (d : D) → IsSameDisk faults tells admits d d
-same_disk-same faults tells admits d = record { faults_grow = grows-same (faults d); same_telling = refl; same_names = refl }
-
-pub same_disk-then : {D : Type 0} (faults : D → ℕ) (tells : D → Bool) (admits : D → List ℕ → Bool) (a b d : D) → IsSameDisk faults tells admits a b →
-    IsSameDisk faults tells admits b d → IsSameDisk faults tells admits a d
-same_disk-then faults tells admits a b d first second = record {
-  faults_grow = grows-then (faults a) (faults b) (faults d) first.faults_grow second.faults_grow;
-  same_telling = second.same_telling ∙ first.same_telling;
-  same_names = second.same_names ∙ first.same_names;
-}
-
 -- ---- a list, item by item
 
 -- the items so far, this one, and those behind it
@@ -195,33 +172,31 @@ own-between n text first last file are begins own = record {
 }
 
 -- the disk after the journal was opened, and the tree of what was found
-pub opened-recorded : (n : Net) (text : List ℕ) (first list : List Entry) (gate : ℕ) (s : Searched) (file : List ℕ) (reads : Option (List ℕ))
-    (images : List ℕ → Type 0) → list ≡ first → AreInOrder n first
-    → s ≡ made_by list → IsOnDisk file reads images → IsKeptAt gate text list file → IsRecorded n text first gate s reads images
-opened-recorded n text first list gate s file reads images same are made d kept = record {
+pub opened-recorded : (n : Net) (text : List ℕ) (first list : List Entry) (gate : ℕ) (s : Searched) (file : List ℕ) (d : DiskTold) → list ≡ first → AreInOrder n first
+    → s ≡ made_by list → IsOnDisk file d → IsKeptAt gate text list file → IsRecorded n text first gate s d
+opened-recorded n text first list gate s file d same are made on_disk kept = record {
   file = file;
-  on_disk = d;
+  on_disk = on_disk;
   kept = subst (λ (l : List Entry). IsKeptAt gate text l file) same kept;
   in_order = are;
   made = made ∙ ap made_by same;
 }
 
-module _ {D : Type 0} (n : Net) (moment : D → ℕ) (left_since : D → ℕ → List ℕ → Type 0) (may_leave : D → List ℕ → Type 0) where
-  -- what the opening leaves, where nothing follows
-  pub opening-moments : (text : List ℕ) (first : List Entry) (old new : D) → AreInOrder n first → LeavesOnly moment left_since old new (λ c. may_leave old c ⊎ IsOwnFor text first c)
-      → LeavesOnly moment left_since old new (λ c. may_leave old c ⊎ IsBetween n text first first c)
-  opening-moments text first old new are opening =
-      let P : List ℕ → Type 0 = λ c. may_leave old c ⊎ IsOwnFor text first c in
-      let Q : List ℕ → Type 0 = λ c. may_leave old c ⊎ IsBetween n text first first c in
-      leaves-weaker moment left_since old new P Q (λ k is. elim is [ inl before ↦ inl before | inr own ↦ inr (own-between n text first first k are (begins-same first) own) ]) opening
+-- what the opening leaves, where nothing follows
+pub opening-moments : (n : Net) (text : List ℕ) (first : List Entry) (old new : DiskTold) → AreInOrder n first → LeavesOnly old new (λ c. old.may_leave c ⊎ IsOwnFor text first c)
+    → LeavesOnly old new (λ c. old.may_leave c ⊎ IsBetween n text first first c)
+opening-moments n text first old new are opening =
+    let P : List ℕ → Type 0 = λ c. old.may_leave c ⊎ IsOwnFor text first c in
+    let Q : List ℕ → Type 0 = λ c. old.may_leave c ⊎ IsBetween n text first first c in
+    leaves-weaker old new P Q (λ k is. elim is [ inl before ↦ inl before | inr own ↦ inr (own-between n text first first k are (begins-same first) own) ]) opening
 
-  -- and what the run behind it leaves
-  pub run-moments : (text : List ℕ) (first last : List Entry) (old mid new : D) → AreInOrder n first → BeginsWith last first
-      → LeavesOnly moment left_since old mid (λ c. may_leave old c ⊎ IsOwnFor text first c) → LeavesOnly moment left_since mid new (IsBetween n text first last)
-      → LeavesOnly moment left_since old new (λ c. may_leave old c ⊎ IsBetween n text first last c)
-  run-moments text first last old mid new are begins opening run =
-      let P : List ℕ → Type 0 = λ c. may_leave old c ⊎ IsOwnFor text first c in
-      let Q : List ℕ → Type 0 = λ c. may_leave old c ⊎ IsBetween n text first last c in
-      goes_further moment left_since old mid new Q
-      (leaves-weaker moment left_since old mid P Q (λ k is. elim is [ inl before ↦ inl before | inr own ↦ inr (own-between n text first last k are begins own) ]) opening)
-      (leaves-weaker moment left_since mid new (IsBetween n text first last) Q (λ k is. inr is) run)
+-- and what the run behind it leaves
+pub run-moments : (n : Net) (text : List ℕ) (first last : List Entry) (old mid new : DiskTold) → AreInOrder n first → BeginsWith last first
+    → LeavesOnly old mid (λ c. old.may_leave c ⊎ IsOwnFor text first c) → LeavesOnly mid new (IsBetween n text first last)
+    → LeavesOnly old new (λ c. old.may_leave c ⊎ IsBetween n text first last c)
+run-moments n text first last old mid new are begins opening run =
+    let P : List ℕ → Type 0 = λ c. old.may_leave c ⊎ IsOwnFor text first c in
+    let Q : List ℕ → Type 0 = λ c. old.may_leave c ⊎ IsBetween n text first last c in
+    goes_further old mid new Q
+    (leaves-weaker old mid P Q (λ k is. elim is [ inl before ↦ inl before | inr own ↦ inr (own-between n text first last k are begins own) ]) opening)
+    (leaves-weaker mid new (IsBetween n text first last) Q (λ k is. inr is) run)

@@ -1,6 +1,7 @@
 -- What is recorded: the list that the disk holds, the tree that is made of it, and the files that a crash leaves.
-use Rattle.std.specs.Prelude.{◌≡◌, ◌⊎◌, ℕ, List, ◌∷◌, ◌++◌, length, Option, Some}
+use Rattle.std.specs.Prelude.{◌≡◌, ◌⊎◌, ℕ, List, ◌∷◌, ◌++◌, length, Some}
 use Rattle.std.specs.List.{AllByRecursion}
+use Rattle.disk_calls.specs.Disks.{DiskTold}
 use Rattle.pool_model.specs.Network.{Net}
 use Rattle.row_model.specs.Entries.{Entry, Searched, made_by, AreInOrder, IsEntryInOrder}
 use Rattle.box_tree.specs.declared.entry.EntryFault.{EntryFault}
@@ -40,9 +41,9 @@ pub record IsBetween (n : Net) (text : List ℕ) (first last : List Entry) (file
 -- ---- what is recorded
 
 -- A file that is the only image holds the entries of the list, in order, with the gate behind them, and the tree is made of them.
-pub record IsRecorded (n : Net) (text : List ℕ) (list : List Entry) (gate : ℕ) (s : Searched) (reads : Option (List ℕ)) (images : List ℕ → Type 0) : Type 0 where
+pub record IsRecorded (n : Net) (text : List ℕ) (list : List Entry) (gate : ℕ) (s : Searched) (d : DiskTold) : Type 0 where
   pub file : List ℕ
-  pub on_disk : IsOnDisk file reads images
+  pub on_disk : IsOnDisk file d
   pub kept : IsKeptAt gate text list file
   pub in_order : AreInOrder n list
   pub made : s ≡ made_by list
@@ -95,15 +96,15 @@ IsLeftAlone (OutOfOrder k) Untouched = Unit {0}
 
 -- a read gives the network's own file, which stands for the list
 -- Promise: Where memory ran out, the file that reads at the end stands for the last list
-pub record StandsNow (n : Net) (text : List ℕ) (list : List Entry) (reads : Option (List ℕ)) : Type 0 where
+pub record StandsNow (n : Net) (text : List ℕ) (list : List Entry) (d : DiskTold) : Type 0 where
   pub file : List ℕ
-  pub read : reads ≡ Some file
+  pub read : d.reads ≡ Some file
   pub own : IsNetworksOwn n text list file
 
 -- at the end: a file is the only image, it is the network's own for the list, and the tree is made of that
 -- Promise: At the end every crash leaves the one file that stands for the last list, and what is answered is the tree of exactly that list
-pub record Ends (n : Net) (text : List ℕ) (list : List Entry) (s : Searched) (reads : Option (List ℕ)) (images : List ℕ → Type 0) : Type 0 where
+pub record Ends (n : Net) (text : List ℕ) (list : List Entry) (s : Searched) (d : DiskTold) : Type 0 where
   pub file : List ℕ
-  pub on_disk : IsOnDisk file reads images
+  pub on_disk : IsOnDisk file d
   pub own : IsNetworksOwn n text list file
   pub made : s ≡ made_by list

@@ -1,6 +1,6 @@
 -- What a session is between two steps, and what a run of it leaves.
-use Rattle.std.specs.Prelude.{◌≡◌, ℕ, List, false, Option, Some, Result, MatchResult}
-use Rattle.disk_model.specs.Disks.{LeavesOnly}
+use Rattle.std.specs.Prelude.{◌≡◌, ℕ, List, false, Some, Result, MatchResult}
+use Rattle.disk_calls.specs.Disks.{DiskTold, LeavesOnly}
 use Rattle.pool_model.specs.Network.{Net}
 use Rattle.row_model.specs.Entries.{Entry, Searched, made_by, AreInOrder}
 use Rattle.journal_format.specs.Files.{Stands}
@@ -26,21 +26,20 @@ pub record IsSession (n : Net) (o : Orders) (s : Session) : Type 0 where
 
 -- A run from a list that the disk holds: a crash at any moment leaves the network's own file, for a list between that one and the
 -- last. Where the run came to its end the disk holds the last, and the tree is made of it; where memory ran out the file stands for it.
-pub record IsRecordedRun {D : Type 0} (n : Net) (moment : D → ℕ) (left_since : D → ℕ → List ℕ → Type 0) (reads : D → Option (List ℕ)) (may_leave : D → List ℕ → Type 0)
-    (text : List ℕ) (first : List Entry) (old new : D) (s : Session) (result : Result Ended RunFault) : Type 0 where
+pub record IsRecordedRun (n : Net) (text : List ℕ) (first : List Entry) (old new : DiskTold) (s : Session) (result : Result Ended RunFault) : Type 0 where
   pub last : List Entry
   pub begins : BeginsWith last first
-  pub any_moment : LeavesOnly moment left_since old new (IsBetween n text first last)
+  pub any_moment : LeavesOnly old new (IsBetween n text first last)
   pub held : MatchResult result
-      (λ _. IsRecorded n text last s.journal.gate (searched s.search) (reads new) (may_leave new))
-      (λ fault. fault ≡ Journal Memory → StandsNow n text last (reads new))
+      (λ _. IsRecorded n text last s.journal.gate (searched s.search) new)
+      (λ fault. fault ≡ Journal Memory → StandsNow n text last new)
 
 -- What was found by going on from entries: they are in order, and the file stands for them, where it is known what a read of it gives;
 -- the run begins with the tree of them, and what follows of its tree holds.
-pub record IsResumed (n : Net) (o : Orders) (text : List ℕ) (reads : Option (List ℕ)) (found : Searched) (ended : Ended) : Type 0 where
+pub record IsResumed (n : Net) (o : Orders) (text : List ℕ) (d : DiskTold) (found : Searched) (ended : Ended) : Type 0 where
   pub first : List Entry
   pub in_order : AreInOrder n first
   -- Promise: Where the disk tells: the entries that the run goes on from are those that the file stands for, all of them
-  pub stands : (file : List ℕ) → reads ≡ Some file → Stands file text first
+  pub stands : (file : List ℕ) → d.reads ≡ Some file → Stands file text first
   pub run : IsRun n o (made_by first) found ended
   pub search : IsFound n o (made_by first) found ended

@@ -4,7 +4,7 @@ ghost use Rattle.std.specs.Prelude.{◌≡◌};
 ghost use Rattle.journal_format.specs.declared.fault.JournalFault.TheVariants as journal_faults;
 ghost use Rattle.recorded_run.specs.declared.fault.RunFault.TheVariants as faults;
 
-use disk_model::DiskFailed;
+use disk_calls::DiskFailed;
 use edge_io::Memory;
 use node_journal::JournalFault;
 use std::alloc::{AllocError, AllocFailed};

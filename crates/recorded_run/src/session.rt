@@ -2,13 +2,13 @@
 
 ghost use Rattle.std.specs.Prelude.{◌≡◌, ◌++◌, ◌∷◌, [], ℕ, List, IsTrue, IfOk, IfErr, OnOk, IsErrOf};
 ghost use Rattle.edge_io.specs.Counts.{Rose};
-ghost use Rattle.disk_model.specs.Disks.{LeavesOnly};
+ghost use Rattle.disk_calls.specs.Disks.{LeavesOnly, IsSameDisk};
 ghost use Rattle.pool_model.specs.Network.{net_of};
 ghost use Rattle.row_model.specs.Entries as entries;
 ghost use Rattle.box_tree.specs.Views.{shown_entry};
 ghost use Rattle.journal_format.specs.Records.{IsKeptAt};
 ghost use Rattle.node_journal.specs.Journals.{IsLeft, IsBeforeOrAfter};
-ghost use Rattle.node_journal.specs.Settled.{IsOnDisk, IsSameDisk};
+ghost use Rattle.node_journal.specs.Settled.{IsOnDisk};
 ghost use Rattle.journal_format.specs.declared.fault.JournalFault.TheVariants as journal_faults;
 ghost use Rattle.search_core.specs.Searches.{searched};
 ghost use Rattle.search_core.specs.Cases.{IsRepairedAfter};
@@ -19,7 +19,7 @@ ghost use Rattle.recorded_run.specs.Sessions.{IsSession, IsRecordedRun};
 use crate::fault::RunFault;
 use blend_network::Network;
 use box_tree::Entry;
-use disk_model::Disk;
+use disk_calls::Disk;
 use node_journal::{Journal, JournalFault};
 use search_core::{Next, Search};
 use search_run::{Ended, Orders, next_by};
@@ -43,24 +43,24 @@ impl Session {
     ) -> Result<(), RunFault>
         requires session { IsSession (net_of net.now) orders self.old }
         requires in_order { entries.IsEntryInOrder (net_of net.now) (searched self.old.search) (shown_entry entry) }
-        requires left { IsTrue (D.tells disk.old) → IsLeft self.old.journal (D.reads disk.old) (D.may_leave disk.old) }
+        requires left { IsTrue (D.told disk.old).tells → IsLeft self.old.journal (D.told disk.old) }
         ensures session { OnOk result (IsSession (net_of net.now) orders self.new) }
         ensures taken { OnOk result (searched self.new.search ≡ entries.after (searched self.old.search) (shown_entry entry)) }
         ensures repaired { OnOk result (IsRepairedAfter (net_of net.now) (searched self.old.search) (shown_entry entry) self.old.search.repaired self.new.search.repaired) }
         // The entry stands on the disk then.
         ensures recorded { OnOk result ((text file : List ℕ) (list : List entries.Entry) →
-            IsOnDisk file (D.reads disk.old) (D.may_leave disk.old) → IsKeptAt self.old.journal.gate text list file →
-            (after : List ℕ) × IsOnDisk after (D.reads disk.new) (D.may_leave disk.new) × IsKeptAt self.new.journal.gate text (list ++ shown_entry entry ∷ []) after) }
+            IsOnDisk file (D.told disk.old) → IsKeptAt self.old.journal.gate text list file →
+            (after : List ℕ) × IsOnDisk after (D.told disk.new) × IsKeptAt self.new.journal.gate text (list ++ shown_entry entry ∷ []) after) }
         // So it does where memory runs out behind it.
         ensures kept { IsErrOf result (RunFault.Journal journal_faults.Memory) → (text file : List ℕ) (list : List entries.Entry) →
-            IsOnDisk file (D.reads disk.old) (D.may_leave disk.old) → IsKeptAt self.old.journal.gate text list file →
-            (after : List ℕ) × IsOnDisk after (D.reads disk.new) (D.may_leave disk.new) × IsKeptAt self.new.journal.gate text (list ++ shown_entry entry ∷ []) after }
+            IsOnDisk file (D.told disk.old) → IsKeptAt self.old.journal.gate text list file →
+            (after : List ℕ) × IsOnDisk after (D.told disk.new) × IsKeptAt self.new.journal.gate text (list ++ shown_entry entry ∷ []) after }
         ensures any_moment { (text file : List ℕ) (list : List entries.Entry) →
-            IsOnDisk file (D.reads disk.old) (D.may_leave disk.old) → IsKeptAt self.old.journal.gate text list file →
-            LeavesOnly D.moment D.left_since disk.old disk.new (IsBeforeOrAfter text list (shown_entry entry)) }
+            IsOnDisk file (D.told disk.old) → IsKeptAt self.old.journal.gate text list file →
+            LeavesOnly (D.told disk.old) (D.told disk.new) (IsBeforeOrAfter text list (shown_entry entry)) }
         ensures free { IfErr result IsFreeFault }
-        ensures failed { IsErrOf result (RunFault.Journal journal_faults.Disk) → Rose (D.faults disk.old) (D.faults disk.new) }
-        ensures same_disk { IsSameDisk D.faults D.tells D.admits disk.old disk.new }
+        ensures failed { IsErrOf result (RunFault.Journal journal_faults.Disk) → Rose (D.told disk.old).faults (D.told disk.new).faults }
+        ensures same_disk { IsSameDisk (D.told disk.old) (D.told disk.new) }
     {
         self.journal.append(disk, &entry)?;
         match self.search.take(net, entry) {
@@ -78,15 +78,15 @@ impl Session {
         disk: &mut D,
     ) -> Result<Ended, RunFault>
         requires session { IsSession (net_of net.now) orders self.old }
-        requires left { IsTrue (D.tells disk.old) → IsLeft self.old.journal (D.reads disk.old) (D.may_leave disk.old) }
+        requires left { IsTrue (D.told disk.old).tells → IsLeft self.old.journal (D.told disk.old) }
         ensures session { IfOk result (λ _. IsSession (net_of net.now) orders self.new) }
         ensures run { IfOk result (IsRun (net_of net.now) orders (searched self.old.search) (searched self.new.search)) }
         ensures recorded { (text : List ℕ) (first : List entries.Entry) →
-            IsRecorded (net_of net.now) text first self.old.journal.gate (searched self.old.search) (D.reads disk.old) (D.may_leave disk.old) →
-            IsRecordedRun (net_of net.now) D.moment D.left_since D.reads D.may_leave text first disk.old disk.new self.new result }
+            IsRecorded (net_of net.now) text first self.old.journal.gate (searched self.old.search) (D.told disk.old) →
+            IsRecordedRun (net_of net.now) text first (D.told disk.old) (D.told disk.new) self.new result }
         ensures free { IfErr result IsFreeFault }
-        ensures failed { IsErrOf result (RunFault.Journal journal_faults.Disk) → Rose (D.faults disk.old) (D.faults disk.new) }
-        ensures same_disk { IsSameDisk D.faults D.tells D.admits disk.old disk.new }
+        ensures failed { IsErrOf result (RunFault.Journal journal_faults.Disk) → Rose (D.told disk.old).faults (D.told disk.new).faults }
+        ensures same_disk { IsSameDisk (D.told disk.old) (D.told disk.new) }
     {
         'steps: loop {
             match next_by(alloc, net, orders.rule, &self.search)? {

@@ -1,7 +1,7 @@
 -- A run with a journal: from what the search with it leaves to what the program leaves.
-use Rattle.std.proofs.Common.{◌≡◌, ◌⊎◌, inl, inr, ℕ, ◌≤◌, List, Option, Some, None, Ok, Err, refl, sym, ap, subst, ◌∙◌, arith}
-use Rattle.disk_model.specs.Disks.{LeavesOnly, Reaches, IsOneOf}
-use Rattle.disk_model.proofs.Moments.{goes_further, leaves-weaker, now-has}
+use Rattle.std.proofs.Common.{◌≡◌, ◌⊎◌, inl, inr, ℕ, List, Option, Some, None, Ok, Err, refl, sym, ap, subst, ◌∙◌, arith}
+use Rattle.disk_calls.specs.Disks.{DiskTold, LeavesOnly, IsWithin, IsOneOf}
+use Rattle.disk_calls.proofs.Moments.{goes_further, leaves-weaker, now-has}
 use Rattle.edge_io.specs.Writing.{behind}
 use Rattle.pool_model.specs.Network.{Net, Network, IsLimited, net_of}
 use Rattle.row_model.specs.Entries.{Entry, Searched, made_by, AreInOrder}
@@ -16,6 +16,8 @@ use Rattle.journal_format.specs.Files.{Stands}
 use Rattle.journal_format.specs.declared.fault.JournalFault.{JournalFault}
 use Rattle.journal_format.specs.declared.fault.JournalFault.TheVariants as journal_faults
 use Rattle.journal_format.proofs.Decided.{one_standing}
+use Rattle.node_journal.specs.Settled.{IsQuiet}
+use Rattle.node_journal.proofs.Runs.{quiet-then}
 use Rattle.search_run.specs.Runs.{IsRun}
 use Rattle.search_run.specs.Found.{IsFound}
 use Rattle.search_run.specs.declared.orders.Orders.{Orders}
@@ -39,26 +41,17 @@ use Rattle.solve_command.proofs.Solutions.{solved-from}
 
 -- ---- the file that an attach reads
 
-pub one_of-reaches : (reads : Option (List ℕ)) (images : List ℕ → Type 0) → IsOneOf reads images → Reaches reads 0
+pub one_of-reaches : (reads : Option (List ℕ)) (images : List ℕ → Type 0) → IsOneOf reads images → IsWithin reads 0
 one_of-reaches None images h = absurd h
 one_of-reaches (Some file) images h = omega arith
 
-pub one_of-file : (reads : Option (List ℕ)) (images : List ℕ → Type 0) → IsOneOf reads images → (file : List ℕ) × (reads ≡ Some file) × images file
-one_of-file None images h = absurd h
-one_of-file (Some file) images h = (file, refl, h)
-
-module _ {D : Type 0} (moment : D → ℕ) (left_since : D → ℕ → List ℕ → Type 0) (may_leave : D → List ℕ → Type 0)
-    (counts_now : (disk : D) (t : ℕ) (c : List ℕ) → t ≤ moment disk → may_leave disk c → left_since disk t c) where
-  -- what follows an attach leaves no more than was there before, beside its own
-  pub behind-attach : (old mid new : D) (Q : List ℕ → Type 0) → LeavesOnly moment left_since old mid (may_leave old) → LeavesOnly moment left_since mid new (λ c. may_leave mid c ⊎ Q c)
-      → LeavesOnly moment left_since old new (λ c. may_leave old c ⊎ Q c)
-  behind-attach old mid new Q attach run =
-      let P : List ℕ → Type 0 = λ c. may_leave mid c ⊎ Q c in
-      let R : List ℕ → Type 0 = λ c. may_leave old c ⊎ Q c in
-      goes_further moment left_since old mid new R
-      (leaves-weaker moment left_since old mid (may_leave old) R (λ c h. inl h) attach)
-      (leaves-weaker moment left_since mid new P R
-      (λ c h. elim h [ inl now ↦ inl (now-has moment left_since may_leave counts_now old mid (may_leave old) attach c now) | inr q ↦ inr q ]) run)
+-- what follows an attach leaves no more than was there before, beside its own
+pub behind-attach : (old mid new : DiskTold) (Q : List ℕ → Type 0) → IsQuiet old mid → LeavesOnly mid new (λ c. mid.may_leave c ⊎ Q c) → LeavesOnly old new (λ c. old.may_leave c ⊎ Q c)
+behind-attach old mid new Q attach run =
+    let P : List ℕ → Type 0 = λ c. mid.may_leave c ⊎ Q c in
+    let R : List ℕ → Type 0 = λ c. old.may_leave c ⊎ Q c in
+    goes_further old mid new R (leaves-weaker old mid old.may_leave R (λ c h. inl h) attach)
+    (leaves-weaker mid new P R (λ c h. elim h [ inl now ↦ inl (now-has old mid old.may_leave attach c now) | inr q ↦ inr q ]) run)
 
 -- ---- causes
 
@@ -137,9 +130,9 @@ ended-whole ends.Undecided = tt
 
 -- what is printed of the last list
 module _ (n : Net) (text : List ℕ) (o : Orders) (first : List Entry) (file : List ℕ) (limited : IsLimited n) (own : IsNetworksOwn n text first file) where
-  print-of : (reads : Option (List ℕ)) (found : Searched) (ended : Ended) (last : List Entry) (Prints : Cert → Type 0) → reads ≡ Some file → IsResumed n o text reads found ended → found ≡ made_by last
+  print-of : (mid : DiskTold) (found : Searched) (ended : Ended) (last : List Entry) (Prints : Cert → Type 0) → mid.reads ≡ Some file → IsResumed n o text mid found ended → found ≡ made_by last
       → IsValid n (cert_of n found) → Prints (cert_of n found) → IsPrintOf n o (made_by first) (made_by last) (status_of ended) Prints
-  print-of reads found ended last Prints is resumed made valid prints =
+  print-of mid found ended last Prints is resumed made valid prints =
       let same = one_standing file text resumed.first first (resumed.stands file is) own.stands in
       let run : IsRun n o (made_by first) found ended = subst (λ (l : List Entry). IsRun n o (made_by l) found ended) same resumed.run in
       let search : IsFound n o (made_by first) found ended = subst (λ (l : List Entry). IsFound n o (made_by l) found ended) same resumed.search in
@@ -150,8 +143,8 @@ module _ (n : Net) (text : List ℕ) (o : Orders) (first : List Entry) (file : L
         no_worse = no_worse n limited o first found ended own.in_order run;
       }
 
-  ends-holds : (last : List Entry) (s : Searched) (reads : Option (List ℕ)) (images : List ℕ → Type 0) → Ends n text last s reads images → Holds n text last reads images
-  ends-holds last s reads images at = record { file = at.file; on_disk = at.on_disk; own = at.own }
+  ends-holds : (last : List Entry) (s : Searched) (d : DiskTold) → Ends n text last s d → Holds n text last d
+  ends-holds last s d at = record { file = at.file; on_disk = at.on_disk; own = at.own }
 
 fault-not-ended : (fault : RunFault) → ¬ IsPrinted (fault_status fault)
 fault-not-ended (faults.Journal journal_faults.Disk) h = h
@@ -180,29 +173,26 @@ ended-printed statuses.Infeasible h = tt
 ended-printed statuses.Undecided h = tt
 ended-printed status h = absurd h
 
-module _ {D : Type 0} (moment : D → ℕ) (left_since : D → ℕ → List ℕ → Type 0) (reads : D → Option (List ℕ)) (may_leave : D → List ℕ → Type 0)
-    (counts_now : (disk : D) (t : ℕ) (c : List ℕ) → t ≤ moment disk → may_leave disk c → left_since disk t c)
-    (n : Net) (text : List ℕ) (o : Orders) (file : List ℕ) (old mid new : D) (image : may_leave old file) (attach : LeavesOnly moment left_since old mid (may_leave old)) where
+module _ (n : Net) (text : List ℕ) (o : Orders) (file : List ℕ) (old mid new : DiskTold) (image : old.may_leave file) (attach : IsQuiet old mid) where
   -- what the run behind the attach leaves of an own file
   abbrev Goes : List Entry → (List Entry → Type 0) → Type 0
-  Goes first More = (last : List Entry) × BeginsWith last first × LeavesOnly moment left_since mid new (λ c. may_leave mid c ⊎ IsBetween n text first last c) × More last
+  Goes first More = (last : List Entry) × BeginsWith last first × LeavesOnly mid new (λ c. mid.may_leave c ⊎ IsBetween n text first last c) × More last
 
   abbrev Attached : Status → (Cert → Type 0) → Type 0
-  Attached status Prints = IsAttached n text o (LeavesOnly moment left_since old new) (may_leave old) (reads new) (may_leave new) status Prints
+  Attached status Prints = IsAttached n text o old new status Prints
 
-  left-alone : (fault : RunFault) → IsForeign (fault_status fault) → IsLeftAlone fault (LeavesOnly moment left_since mid new (may_leave mid)) → LeavesOnly moment left_since old new (may_leave old)
+  left-alone : (fault : RunFault) → IsForeign (fault_status fault) → IsLeftAlone fault (IsQuiet mid new) → IsQuiet old new
   left-alone (faults.Journal fault) foreign (inl free) = absurd (failed-not-refused (fault_status (faults.Journal fault))
       (failed-status (faults.Journal fault) free) (foreign-refused (fault_status (faults.Journal fault)) foreign))
   left-alone (faults.Journal fault) foreign (inr left) =
-      goes_further moment left_since old mid new (may_leave old) attach
-      (leaves-weaker moment left_since mid new (may_leave mid) (may_leave old) (now-has moment left_since may_leave counts_now old mid (may_leave old) attach) left)
+      quiet-then old mid new attach left
   left-alone (faults.OutOfOrder number) foreign h = absurd foreign
 
   -- the run gave no answer
   pub attached-unsolved : (fault : RunFault) (Prints : Cert → Type 0) → IsFreeFault fault ⊎ IsCause n text file fault →
       ((cause : RunFault) → IsCause n text file cause → IsFreeFault fault ⊎ (fault ≡ cause))
-      → IsLeftAlone fault (LeavesOnly moment left_since mid new (may_leave mid)) →
-      ((first : List Entry) → IsNetworksOwn n text first file → Goes first (λ last. fault ≡ faults.Journal journal_faults.Memory → StandsNow n text last (reads new))) →
+      → IsLeftAlone fault (IsQuiet mid new) →
+      ((first : List Entry) → IsNetworksOwn n text first file → Goes first (λ last. fault ≡ faults.Journal journal_faults.Memory → StandsNow n text last new)) →
       Attached (fault_status fault) Prints
   attached-unsolved fault Prints refused decided alone own =
       let status = fault_status fault in
@@ -222,7 +212,7 @@ module _ {D : Type 0} (moment : D → ℕ) (left_since : D → ℕ → List ℕ 
             record {
               last = goes.0;
               begins = goes.1;
-              any_moment = behind-attach moment left_since may_leave counts_now old mid new (IsBetween n text first goes.0) attach goes.2;
+              any_moment = behind-attach old mid new (IsBetween n text first goes.0) attach goes.2;
               held = λ printed. absurd (fault-not-ended fault printed);
               stands = λ memory. goes.3 (memory-fault fault memory);
               printed = λ ended. absurd (fault-not-ended fault (ended-printed status ended));
@@ -230,9 +220,9 @@ module _ {D : Type 0} (moment : D → ℕ) (left_since : D → ℕ → List ℕ 
       }
 
   -- the run came to its end
-  pub attached-solved : (limited : IsLimited n) (found : Searched) (ended : Ended) (Prints : Cert → Type 0) → reads mid ≡ Some file → ((cause : RunFault) → ¬ IsCause n text file cause)
-      → IsResumed n o text (reads mid) found ended → IsValid n (cert_of n found) → Prints (cert_of n found)
-      → ((first : List Entry) → IsNetworksOwn n text first file → Goes first (λ last. Ends n text last found (reads new) (may_leave new))) → Attached (status_of ended) Prints
+  pub attached-solved : (limited : IsLimited n) (found : Searched) (ended : Ended) (Prints : Cert → Type 0) → mid.reads ≡ Some file → ((cause : RunFault) → ¬ IsCause n text file cause)
+      → IsResumed n o text mid found ended → IsValid n (cert_of n found) → Prints (cert_of n found)
+      → ((first : List Entry) → IsNetworksOwn n text first file → Goes first (λ last. Ends n text last found new)) → Attached (status_of ended) Prints
   attached-solved limited found ended Prints is sound resumed valid prints own = record {
     file = file;
     image = image;
@@ -245,20 +235,19 @@ module _ {D : Type 0} (moment : D → ℕ) (left_since : D → ℕ → List ℕ 
         record {
           last = goes.0;
           begins = goes.1;
-          any_moment = behind-attach moment left_since may_leave counts_now old mid new (IsBetween n text first goes.0) attach goes.2;
-          held = λ printed. ends-holds n text o first file limited at goes.0 found (reads new) (may_leave new) goes.3;
+          any_moment = behind-attach old mid new (IsBetween n text first goes.0) attach goes.2;
+          held = λ printed. ends-holds n text o first file limited at goes.0 found new goes.3;
           stands = λ memory. absurd (ended-not-failed ended (subst IsFailed (sym memory) tt));
-          printed = λ whole. print-of n text o first file limited at (reads mid) found ended goes.0 Prints is resumed goes.3.made valid prints;
+          printed = λ whole. print-of n text o first file limited at mid found ended goes.0 Prints is resumed goes.3.made valid prints;
         };
   }
 
 -- ---- from what was found to what was printed
 
-module _ (n : Net) (text : List ℕ) (o : Orders) (Leaves : (List ℕ → Type 0) → Type 0) (before : List ℕ →
-    Type 0) (reads : Option (List ℕ)) (images : List ℕ → Type 0) (Found Prints : Cert → Type 0) where
+module _ (n : Net) (text : List ℕ) (o : Orders) (old new : DiskTold) (Found Prints : Cert → Type 0) where
   -- the same of what is printed in place of what was found
-  attached-as : (status : Status) → IsAttached n text o Leaves before reads images status Found → (IsEnded status → (c : Cert) → Found c → Prints c) →
-      IsAttached n text o Leaves before reads images status Prints
+  attached-as : (status : Status) → IsAttached n text o old new status Found → (IsEnded status → (c : Cert) → Found c → Prints c) →
+      IsAttached n text o old new status Prints
   attached-as status at prints = record {
     file = at.file;
     image = at.image;
@@ -281,7 +270,7 @@ module _ (n : Net) (text : List ℕ) (o : Orders) (Leaves : (List ℕ → Type 0
   }
 
   -- the search ended so, and the sink failed
-  attached-cut : (ended : Ended) → IsAttached n text o Leaves before reads images (status_of ended) Found → IsAttached n text o Leaves before reads images statuses.WriteFault Prints
+  attached-cut : (ended : Ended) → IsAttached n text o old new (status_of ended) Found → IsAttached n text o old new statuses.WriteFault Prints
   attached-cut ended at = record {
     file = at.file;
     image = at.image;
@@ -306,35 +295,35 @@ module _ (n : Net) (text : List ℕ) (o : Orders) (Leaves : (List ℕ → Type 0
 
 -- what is printed of a solution
 module _ (files : Option Files) (s : Solving) (network : Network) (read : ReadsUnder files s.net network) (within : IsWithinBudget (net_of network) s.nodes)
-    (Leaves : (List ℕ → Type 0) → Type 0) (before : List ℕ → Type 0) (reads : Option (List ℕ)) (images : List ℕ → Type 0) (old new : Option (List ℕ)) where
+    (old new : DiskTold) (before after : Option (List ℕ)) where
   abbrev Prints : Cert → Type 0
-  Prints c = new ≡ behind old (text_of c)
+  Prints c = after ≡ behind before (text_of c)
 
   pub journaled-printed : (solution : Solution) (status : Status) → EndsWith (status_of solution.ended) status → (IsEnded status → Prints (shown_cert solution.certificate))
-      → IsOpened (net_of network) (canonical_text network) (orders_of s) Leaves before reads images (Ok solution) → Journaled files s Leaves before reads images status Prints
+      → IsOpened (net_of network) (canonical_text network) (orders_of s) old new (Ok solution) → Journaled files s old new status Prints
   journaled-printed solution status ends whole (inl none) = absurd (ended-not-unopened solution.ended none.0)
   journaled-printed solution status (inl e) whole (inr at) = inr record {
     network = network;
     read = read;
     within = within;
-    attached = subst (λ (t : Status). IsAttached (net_of network) (canonical_text network) (orders_of s) Leaves before reads images t Prints) (sym e)
-        (attached-as (net_of network) (canonical_text network) (orders_of s) Leaves before reads images (λ c. shown_cert solution.certificate ≡ c) Prints (status_of solution.ended) at
+    attached = subst (λ (t : Status). IsAttached (net_of network) (canonical_text network) (orders_of s) old new t Prints) (sym e)
+        (attached-as (net_of network) (canonical_text network) (orders_of s) old new (λ c. shown_cert solution.certificate ≡ c) Prints (status_of solution.ended) at
         (λ ended c found. subst Prints found (whole (subst IsEnded (sym e) ended))));
   }
   journaled-printed solution status (inr e) whole (inr at) = inr record {
     network = network;
     read = read;
     within = within;
-    attached = subst (λ (t : Status). IsAttached (net_of network) (canonical_text network) (orders_of s) Leaves before reads images t Prints) (sym e)
-        (attached-cut (net_of network) (canonical_text network) (orders_of s) Leaves before reads images (λ c. shown_cert solution.certificate ≡ c) Prints solution.ended at);
+    attached = subst (λ (t : Status). IsAttached (net_of network) (canonical_text network) (orders_of s) old new t Prints) (sym e)
+        (attached-cut (net_of network) (canonical_text network) (orders_of s) old new (λ c. shown_cert solution.certificate ≡ c) Prints solution.ended at);
   }
 
-  pub journaled-unsolved : (fault : RunFault) → IsOpened (net_of network) (canonical_text network) (orders_of s) Leaves before reads images (Err fault)
-      → Journaled files s Leaves before reads images (fault_status fault) Prints
+  pub journaled-unsolved : (fault : RunFault) → IsOpened (net_of network) (canonical_text network) (orders_of s) old new (Err fault)
+      → Journaled files s old new (fault_status fault) Prints
   journaled-unsolved fault (inl none) = inl none
   journaled-unsolved fault (inr at) = inr record {
     network = network;
     read = read;
     within = within;
-    attached = attached-as (net_of network) (canonical_text network) (orders_of s) Leaves before reads images (λ c. ⊥) Prints (fault_status fault) at (λ ended c found. absurd found);
+    attached = attached-as (net_of network) (canonical_text network) (orders_of s) old new (λ c. ⊥) Prints (fault_status fault) at (λ ended c found. absurd found);
   }

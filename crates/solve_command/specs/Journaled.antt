@@ -1,5 +1,6 @@
 -- What a run with a journal leaves on the disk, and what it prints of it.
 use Rattle.std.specs.Prelude.{◌≡◌, ◌⊎◌, ℕ, List, Option}
+use Rattle.disk_calls.specs.Disks.{DiskTold, LeavesOnly}
 use Rattle.pool_model.specs.Network.{Net, Network, net_of}
 use Rattle.row_model.specs.Entries.{Entry, Searched, made_by, AreInOrder}
 use Rattle.cert_format.specs.Cert.{Cert}
@@ -9,7 +10,7 @@ use Rattle.network_text.specs.Canonical.{canonical_text}
 use Rattle.journal_format.specs.Files.{Stands}
 use Rattle.journal_format.specs.Faults.{Has}
 use Rattle.journal_format.specs.Longest.{longest}
-use Rattle.node_journal.specs.Settled.{IsOnDisk}
+use Rattle.node_journal.specs.Settled.{IsOnDisk, IsQuiet}
 use Rattle.journal_format.specs.declared.fault.JournalFault.TheVariants as faults
 use Rattle.search_run.specs.Found.{IsGrown}
 use Rattle.search_run.specs.declared.orders.Orders.{Orders}
@@ -65,9 +66,9 @@ IsCauseOf n text file status = ⊥
 -- ---- what stands on the disk
 
 -- the file is the only image, and it is the network's own for the list
-pub record Holds (n : Net) (text : List ℕ) (list : List Entry) (reads : Option (List ℕ)) (images : List ℕ → Type 0) : Type 0 where
+pub record Holds (n : Net) (text : List ℕ) (list : List Entry) (d : DiskTold) : Type 0 where
   pub file : List ℕ
-  pub on_disk : IsOnDisk file reads images
+  pub on_disk : IsOnDisk file d
   pub own : IsNetworksOwn n text list file
 
 -- What is printed of the tree that was found: its certificate. The search went on from the tree that it began with: the splits and
@@ -86,27 +87,27 @@ pub record IsPrintOf (n : Net) (o : Orders) (begun found : Searched) (status : S
 -- or the network's own file, for a list between the first and the last: so of two such lists one begins with the other. Where the run
 -- came to its end, the file stands for the last list, and what is printed is the certificate of its tree. Where memory ran out, the file
 -- that reads then stands for the last list too.
-pub record IsRunOn (n : Net) (text : List ℕ) (o : Orders) (first : List Entry) (Leaves : (List ℕ → Type 0) → Type 0) (before : List ℕ → Type 0) (reads : Option (List ℕ)) (images : List ℕ → Type 0)
+pub record IsRunOn (n : Net) (text : List ℕ) (o : Orders) (first : List Entry) (old new : DiskTold)
     (status : Status) (Prints : Cert → Type 0) : Type 0 where
   pub last : List Entry
   pub begins : BeginsWith last first
   -- Promise: On the network's own file a crash at any moment leaves a file that a crash might have left before, or the network's own, for a
   --   list of entries that begins with those that were found
-  pub any_moment : Leaves (λ c. before c ⊎ IsBetween n text first last c)
+  pub any_moment : LeavesOnly old new (λ c. old.may_leave c ⊎ IsBetween n text first last c)
   -- Promise: Where a certificate was printed, or the sink failed, the network's own file stands for the last list, and every crash leaves
   --   that file
-  pub held : IsPrinted status → Holds n text last reads images
+  pub held : IsPrinted status → Holds n text last new
   -- Promise: Where memory ran out, the file that reads at the end stands for the last list too
-  pub stands : status ≡ statuses.OutOfMemory → StandsNow n text last reads
+  pub stands : status ≡ statuses.OutOfMemory → StandsNow n text last new
   -- Promise: What is printed on the network's own file is the certificate of the tree that the last list makes
   pub printed : IsEnded status → IsPrintOf n o (made_by first) (made_by last) status Prints
 
 -- A run that read a file, which was one of the images of before. A refusal has its cause in the file, and a cause that is there is
 -- answered, unless disk or memory failed; a file that stands for entries in order is never refused. A foreign file is left as it is.
-pub record IsAttached (n : Net) (text : List ℕ) (o : Orders) (Leaves : (List ℕ → Type 0) → Type 0) (before : List ℕ → Type 0) (reads : Option (List ℕ)) (images : List ℕ → Type 0)
+pub record IsAttached (n : Net) (text : List ℕ) (o : Orders) (old new : DiskTold)
     (status : Status) (Prints : Cert → Type 0) : Type 0 where
   pub file : List ℕ
-  pub image : before file
+  pub image : old.may_leave file
   -- Promise: 30, 31, 32 and 33 come only where the file that was attached is their cause
   pub caused : IsRefused status → IsCauseOf n text file status
   -- Promise: Where the file that was attached is the cause of 30, 31, 32 or 33, that status comes, or disk or memory failed
@@ -114,22 +115,22 @@ pub record IsAttached (n : Net) (text : List ℕ) (o : Orders) (Leaves : (List �
   -- Promise: 30, 31, 32 and 33 never come where the file stands for entries in order
   pub taken : (list : List Entry) → Stands file text list → AreInOrder n list → ¬ IsRefused status
   -- Promise: Under 30, 32 and 33 the file is left as it is
-  pub untouched : IsForeign status → Leaves before
+  pub untouched : IsForeign status → IsQuiet old new
   -- Promise: With `--journal`, over a disk that tells, the entries that the run began with are those that the network's own file stood for
   -- Promise: On the network's own file a crash at any moment leaves a file that a crash might have left before, or the network's own, for a
   --   list of entries that begins with those that were found
-  pub own : (first : List Entry) → IsNetworksOwn n text first file → IsRunOn n text o first Leaves before reads images status Prints
+  pub own : (first : List Entry) → IsNetworksOwn n text first file → IsRunOn n text o first old new status Prints
 
 -- a run that read a network, and a file as its journal, for what is within the budget
-pub record AttachedUnder (files : Option Files) (s : Solving) (Leaves : (List ℕ → Type 0) → Type 0) (before : List ℕ → Type 0) (reads : Option (List ℕ)) (images : List ℕ → Type 0)
+pub record AttachedUnder (files : Option Files) (s : Solving) (old new : DiskTold)
     (status : Status) (Prints : Cert → Type 0) : Type 0 where
   pub network : Network
   pub read : ReadsUnder files s.net network
   pub within : IsWithinBudget (net_of network) s.nodes
-  pub attached : IsAttached (net_of network) (canonical_text network) (orders_of s) Leaves before reads images status Prints
+  pub attached : IsAttached (net_of network) (canonical_text network) (orders_of s) old new status Prints
 
--- A run whose words name a journal: it came to no file, and no image is new; or it read one. `Leaves` says what a crash at any moment
--- leaves, `before` what a crash might have left before, `reads` what the file reads at the end, and `images` what a crash leaves then.
+-- A run whose words name a journal, from the old state of the disk to the new one: it came to no file, and no image is new; or it read
+-- one.
 -- Promise: A run that came to no journal, for whatever reason, leaves what a crash might have left before
-abbrev pub Journaled : Option Files → Solving → ((List ℕ → Type 0) → Type 0) → (List ℕ → Type 0) → Option (List ℕ) → (List ℕ → Type 0) → Status → (Cert → Type 0) → Type 0
-Journaled files s Leaves before reads images status Prints = (IsUnopened status × Leaves before) ⊎ AttachedUnder files s Leaves before reads images status Prints
+abbrev pub Journaled : Option Files → Solving → (old new : DiskTold) → Status → (Cert → Type 0) → Type 0
+Journaled files s old new status Prints = (IsUnopened status × IsQuiet old new) ⊎ AttachedUnder files s old new status Prints

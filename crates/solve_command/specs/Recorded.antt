@@ -1,9 +1,11 @@
 -- What a search with a journal found, in the words of the inner contracts.
 use Rattle.std.specs.Prelude.{◌≡◌, ◌⊎◌, ℕ, List, [], Option, None, Result, Ok, Err}
+use Rattle.disk_calls.specs.Disks.{DiskTold}
 use Rattle.pool_model.specs.Network.{Net}
 use Rattle.row_model.specs.Entries.{Entry, made_by, AreInOrder}
 use Rattle.cert_format.specs.Cert.{Cert}
 use Rattle.cert_format.specs.Views.{shown_cert}
+use Rattle.node_journal.specs.Settled.{IsQuiet}
 use Rattle.search_run.specs.declared.orders.Orders.{Orders}
 use Rattle.recorded_run.specs.declared.fault.RunFault.{RunFault}
 use Rattle.solve_command.specs.Journaled.{IsAttached, IsUnopened}
@@ -30,6 +32,6 @@ shows (Ok s) c = shown_cert s.certificate ≡ c
 shows (Err fault) c = ⊥
 
 -- no file was read, and no image is new; or one was read
-abbrev pub IsOpened : Net → List ℕ → Orders → ((List ℕ → Type 0) → Type 0) → (List ℕ → Type 0) → Option (List ℕ) → (List ℕ → Type 0) → Result Solution RunFault → Type 0
-IsOpened n text o Leaves before reads images result =
-    (IsUnopened (solved_status result) × Leaves before) ⊎ IsAttached n text o Leaves before reads images (solved_status result) (shows result)
+abbrev pub IsOpened : Net → List ℕ → Orders → (old new : DiskTold) → Result Solution RunFault → Type 0
+IsOpened n text o old new result =
+    (IsUnopened (solved_status result) × IsQuiet old new) ⊎ IsAttached n text o old new (solved_status result) (shows result)

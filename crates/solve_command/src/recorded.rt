@@ -2,7 +2,6 @@
 
 ghost use Rattle.std.specs.Prelude.{Some, IsTrue, IfOk, IsErrOf};
 ghost use Rattle.edge_io.specs.Counts.{Rose};
-ghost use Rattle.disk_model.specs.Disks.{LeavesOnly};
 ghost use Rattle.pool_model.specs.Network.{net_of};
 ghost use Rattle.cert_format.specs.Cert.{IsCert};
 ghost use Rattle.cert_format.specs.Views.{shown_cert};
@@ -14,7 +13,7 @@ ghost use Rattle.solve_command.specs.Recorded.{IsBegun, IsOpened};
 
 use crate::solution::Solution;
 use blend_network::Network;
-use disk_model::Disk;
+use disk_calls::Disk;
 use network_text::write_canonical;
 use recorded_run::{RunFault, run_recorded};
 use search_run::Orders;
@@ -30,13 +29,12 @@ pub(crate) fn recorded_solution<D: Disk>(
     journal: &str,
     disk: &mut D,
 ) -> Result<Solution, RunFault>
-    requires admits { IsTrue (D.admits disk.old journal.now) }
+    requires admits { IsTrue ((D.told disk.old).admits journal.now) }
     requires asked { IsAsked (options_of orders) }
     ensures solved { IfOk result (IsBegun (net_of net.now) orders (Some journal.now)) }
     ensures certificate { IfOk result (λ s. IsCert (shown_cert s.certificate)) }
-    ensures journal { IsTrue (D.tells disk.old) → IsOpened (net_of net.now) (canonical_text net.now) orders
-        (LeavesOnly D.moment D.left_since disk.old disk.new) (D.may_leave disk.old) (D.reads disk.new) (D.may_leave disk.new) result }
-    ensures failed { IsErrOf result (RunFault.Journal journal_faults.Disk) → Rose (D.faults disk.old) (D.faults disk.new) }
+    ensures journal { IsTrue (D.told disk.old).tells → IsOpened (net_of net.now) (canonical_text net.now) orders (D.told disk.old) (D.told disk.new) result }
+    ensures failed { IsErrOf result (RunFault.Journal journal_faults.Disk) → Rose (D.told disk.old).faults (D.told disk.new).faults }
 {
     let text = write_canonical(alloc, net)?;
     disk.attach(journal)?;

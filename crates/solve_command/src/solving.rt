@@ -3,7 +3,6 @@
 ghost use Rattle.std.specs.Prelude.{◌≡◌, ◌≢◌, ℕ, List, Option, None, Some, IsTrue, IfOk, IfErr, IsErrOf, option_map, string_bytes};
 ghost use Rattle.edge_io.specs.Counts.{Rose};
 ghost use Rattle.edge_io.specs.Writing.{behind};
-ghost use Rattle.disk_model.specs.Disks.{LeavesOnly};
 ghost use Rattle.pool_model.specs.Network.{net_of};
 ghost use Rattle.cert_format.specs.Cert.{IsCert};
 ghost use Rattle.cert_format.specs.Views.{shown_cert};
@@ -29,7 +28,7 @@ use crate::solution::{Solution, solution_of};
 use blend_network::Network;
 use cert_format::write_cert;
 use cli_words::SolveWords;
-use disk_model::Disk;
+use disk_calls::Disk;
 use edge_io::Sink;
 use recorded_run::RunFault;
 use run_status::{Status, Unread, network_under};
@@ -75,17 +74,17 @@ pub fn solve<S: Shelf, K: Sink, D: Disk>(
     disk: &mut D,
 ) -> SolveOutcome
     requires admits { IsTrue ((S.told shelf.old).admits (string_bytes words.now.net)) }
-    requires journal { (file : List ℕ) → (shown_solving words.now).journal ≡ Some file → IsTrue (D.admits disk.old file) }
+    requires journal { (file : List ℕ) → (shown_solving words.now).journal ≡ Some file → IsTrue ((D.told disk.old).admits file) }
     requires gap { IsGapAsked words.now.gap }
     ensures took { Took (SolvesAs (S.told shelf.old).files (shown_solving words.now)) (solve_status result) (K.taken out.old) (K.taken out.new) }
     ensures ends { SolveEnds (S.told shelf.old).files (shown_solving words.now) (S.told shelf.old).taken (S.told shelf.new).taken (solve_status result) }
-    ensures journal { (file : List ℕ) → (shown_solving words.now).journal ≡ Some file → IsTrue (D.tells disk.old) →
-        Journaled (S.told shelf.old).files (shown_solving words.now) (LeavesOnly D.moment D.left_since disk.old disk.new) (D.may_leave disk.old) (D.reads disk.new) (D.may_leave disk.new)
+    ensures journal { (file : List ℕ) → (shown_solving words.now).journal ≡ Some file → IsTrue (D.told disk.old).tells →
+        Journaled (S.told shelf.old).files (shown_solving words.now) (D.told disk.old) (D.told disk.new)
         (solve_status result) (λ c. K.taken out.new ≡ behind (K.taken out.old) (text_of c)) }
     ensures apart { (shown_solving words.now).journal ≡ None → disk.new ≡ disk.old }
     ensures read_fault { solve_status result ≡ Status.ReadFault → Rose (S.told shelf.old).faults (S.told shelf.new).faults }
     ensures write_fault { solve_status result ≡ Status.WriteFault → Rose (K.faults out.old) (K.faults out.new) }
-    ensures disk_fault { solve_status result ≡ Status.DiskFault → Rose (D.faults disk.old) (D.faults disk.new) }
+    ensures disk_fault { solve_status result ≡ Status.DiskFault → Rose (D.told disk.old).faults (D.told disk.new).faults }
 {
     match network_under(alloc, words.net.as_str(), shelf) {
         Ok(net) => solve_network(alloc, &net, words, out, disk),
@@ -102,17 +101,17 @@ fn solve_network<K: Sink, D: Disk>(
     disk: &mut D,
 ) -> SolveOutcome
     requires gap { IsGapAsked words.now.gap }
-    requires journal { (file : List ℕ) → (shown_solving words.now).journal ≡ Some file → IsTrue (D.admits disk.old file) }
+    requires journal { (file : List ℕ) → (shown_solving words.now).journal ≡ Some file → IsTrue ((D.told disk.old).admits file) }
     ensures took { (files : Option Files) → ReadsUnder files (string_bytes words.now.net) net.now
         → Took (SolvesAs files (shown_solving words.now)) (solve_status result) (K.taken out.old) (K.taken out.new) }
     ensures ends { (files : Option Files) (before after : ℕ) → ReadsUnder files (string_bytes words.now.net) net.now → SolveEnds files (shown_solving words.now) before after (solve_status result) }
-    ensures journal { (files : Option Files) (file : List ℕ) → ReadsUnder files (string_bytes words.now.net) net.now → (shown_solving words.now).journal ≡ Some file → IsTrue (D.tells disk.old) →
-        Journaled files (shown_solving words.now) (LeavesOnly D.moment D.left_since disk.old disk.new) (D.may_leave disk.old) (D.reads disk.new) (D.may_leave disk.new)
+    ensures journal { (files : Option Files) (file : List ℕ) → ReadsUnder files (string_bytes words.now.net) net.now → (shown_solving words.now).journal ≡ Some file → IsTrue (D.told disk.old).tells →
+        Journaled files (shown_solving words.now) (D.told disk.old) (D.told disk.new)
         (solve_status result) (λ c. K.taken out.new ≡ behind (K.taken out.old) (text_of c)) }
     ensures apart { (shown_solving words.now).journal ≡ None → disk.new ≡ disk.old }
     ensures read { solve_status result ≢ Status.ReadFault }
     ensures write_fault { solve_status result ≡ Status.WriteFault → Rose (K.faults out.old) (K.faults out.new) }
-    ensures disk_fault { solve_status result ≡ Status.DiskFault → Rose (D.faults disk.old) (D.faults disk.new) }
+    ensures disk_fault { solve_status result ≡ Status.DiskFault → Rose (D.told disk.old).faults (D.told disk.new).faults }
 {
     let Some(orders) = orders_within(net, words) else {
         return SolveOutcome::OverBudget;
@@ -131,15 +130,15 @@ fn solution_for<D: Disk>(
     journal: &Option<String>,
     disk: &mut D,
 ) -> Result<Solution, RunFault>
-    requires journal { (file : List ℕ) → option_map string_bytes journal.now ≡ Some file → IsTrue (D.admits disk.old file) }
+    requires journal { (file : List ℕ) → option_map string_bytes journal.now ≡ Some file → IsTrue ((D.told disk.old).admits file) }
     requires asked { IsAsked (options_of orders) }
     ensures solved { IfOk result (IsBegun (net_of net.now) orders (option_map string_bytes journal.now)) }
     ensures certificate { IfOk result (λ s. IsCert (shown_cert s.certificate)) }
     ensures unsolved { IfErr result (λ fault. IsHeldUp (option_map string_bytes journal.now) (fault_status fault)) }
-    ensures journal { (file : List ℕ) → option_map string_bytes journal.now ≡ Some file → IsTrue (D.tells disk.old) → IsOpened (net_of net.now) (canonical_text net.now) orders
-        (LeavesOnly D.moment D.left_since disk.old disk.new) (D.may_leave disk.old) (D.reads disk.new) (D.may_leave disk.new) result }
+    ensures journal { (file : List ℕ) → option_map string_bytes journal.now ≡ Some file → IsTrue (D.told disk.old).tells → IsOpened (net_of net.now) (canonical_text net.now) orders
+        (D.told disk.old) (D.told disk.new) result }
     ensures apart { option_map string_bytes journal.now ≡ None → disk.new ≡ disk.old }
-    ensures failed { IsErrOf result (RunFault.Journal journal_faults.Disk) → Rose (D.faults disk.old) (D.faults disk.new) }
+    ensures failed { IsErrOf result (RunFault.Journal journal_faults.Disk) → Rose (D.told disk.old).faults (D.told disk.new).faults }
 {
     match journal {
         Some(name) => recorded_solution(alloc, net, orders, name.as_str(), disk),

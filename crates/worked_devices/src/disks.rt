@@ -1,24 +1,25 @@
 //! Disks in memory: where they fail, which images a crash leaves, and one that reads as anything.
 
 ghost use Rattle.std.specs.Prelude.{IsTrue, OnOk};
-ghost use Rattle.disk_model.specs.Disks.{Reaches};
+ghost use Rattle.disk_calls.specs.Disks.{Reaches};
 
-use disk_model::{Disk, DiskFailed, FailDisk, MAX_LENGTH, MemDisk, WildDisk, append_byte};
+use disk_calls::{Disk, DiskFailed, MAX_LENGTH, append_byte};
+use disk_model::{MemDisk, WildDisk};
 use std::alloc::Global;
 use std::test::Fail;
 
 /// Opens the file.
 fn open<D: Disk>(disk: &mut D) -> Result<(), DiskFailed>
-    requires { (name : _) → IsTrue (D.admits disk.old name) }
-    ensures known { OnOk result (IsTrue (D.tells disk.new) → Reaches (D.reads disk.new) 0) }
+    requires { (name : _) → IsTrue ((D.told disk.old).admits name) }
+    ensures known { OnOk result (Reaches (D.told disk.new) 0) }
 {
     disk.attach("file")
 }
 
 /// Writes where the file reaches.
 fn put<D: Disk>(disk: &mut D, at: u64, bytes: &[u8]) -> Result<(), DiskFailed>
-    requires { IsTrue (D.tells disk.old) → Reaches (D.reads disk.old) 0 }
-    ensures known { OnOk result (IsTrue (D.tells disk.new) → Reaches (D.reads disk.new) 0) }
+    requires { Reaches (D.told disk.old) 0 }
+    ensures known { OnOk result (Reaches (D.told disk.new) 0) }
 {
     if at > disk.len()? {
         return Err(DiskFailed);
@@ -28,8 +29,8 @@ fn put<D: Disk>(disk: &mut D, at: u64, bytes: &[u8]) -> Result<(), DiskFailed>
 
 /// Cuts where the file reaches.
 fn trim<D: Disk>(disk: &mut D, to: u64) -> Result<(), DiskFailed>
-    requires { IsTrue (D.tells disk.old) → Reaches (D.reads disk.old) 0 }
-    ensures known { OnOk result (IsTrue (D.tells disk.new) → Reaches (D.reads disk.new) 0) }
+    requires { Reaches (D.told disk.old) 0 }
+    ensures known { OnOk result (Reaches (D.told disk.new) 0) }
 {
     if to > disk.len()? {
         return Err(DiskFailed);
@@ -39,7 +40,7 @@ fn trim<D: Disk>(disk: &mut D, to: u64) -> Result<(), DiskFailed>
 
 /// Seven calls: attach, len, write, sync, len, cut, sync.
 fn script<D: Disk>(disk: &mut D) -> Result<(), DiskFailed>
-    requires { (name : _) → IsTrue (D.admits disk.old name) }
+    requires { (name : _) → IsTrue ((D.told disk.old).admits name) }
 {
     open(disk)?;
     put(disk, 2, b"cd")?;
@@ -49,13 +50,13 @@ fn script<D: Disk>(disk: &mut D) -> Result<(), DiskFailed>
 }
 
 /// A file of two bytes, of which one call fails.
-fn failing(alloc: Global, call: u64) -> Result<FailDisk, Fail> {
+fn failing(alloc: Global, call: u64) -> Result<MemDisk, Fail> {
     let bytes = Vec::from_slice(alloc, b"ab")?;
-    Ok(FailDisk::new(alloc, bytes, [call].to_vec(alloc)?))
+    Ok(MemDisk::failing(alloc, bytes, [call].to_vec(alloc)?))
 }
 
 /// The image of one moment by each of the first choices.
-fn shows(disk: &FailDisk, moment: u64, images: [&[u8]; 8]) -> bool {
+fn shows(disk: &MemDisk, moment: u64, images: [&[u8]; 8]) -> bool {
     for (choice, bytes) in images.iter().enumerate() {
         match disk.image(moment, choice as u64) {
             Ok(image) if image.as_slice() == *bytes => {}

@@ -1,7 +1,7 @@
 //! Files of the system: read whole, by pieces, and where there are none; a disk's file.
 
 use super::shelves::rest_of;
-use disk_model::{Disk, DiskFailed, FileDisk, MAX_LENGTH};
+use disk_calls::{Disk, DiskFailed, FileDisk, MAX_LENGTH};
 use shelf_calls::{FileShelf, Shelf, read_once};
 use std::test::Fail;
 use std::{fs, io, process};

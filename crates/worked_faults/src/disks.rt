@@ -2,7 +2,8 @@
 
 ghost use Rattle.std.specs.Prelude.{IsTrue};
 
-use disk_model::{Disk, FailDisk, MemDisk, WildDisk};
+use disk_calls::Disk;
+use disk_model::{MemDisk, WildDisk};
 use edge_io::MemSink;
 use std::alloc::{AllocError, Global};
 use std::test::Fail;
@@ -16,21 +17,21 @@ const CALLS: u64 = 15;
 
 /// The code of `solve net --journal j` and, behind a space, what it prints.
 fn solved<D: Disk>(alloc: Global, disk: &mut D) -> Result<String, AllocError>
-    requires { (name : _) → IsTrue (D.admits disk.old name) }
+    requires { (name : _) → IsTrue ((D.told disk.old).admits name) }
 {
     answered(alloc, "solve net --journal j", [ONE_DIRECT, ""], disk)
 }
 
 /// Whether a run over this disk prints the certificate.
 fn goes_on<D: Disk>(alloc: Global, disk: &mut D) -> Result<bool, AllocError>
-    requires { (name : _) → IsTrue (D.admits disk.old name) }
+    requires { (name : _) → IsTrue ((D.told disk.old).admits name) }
 {
     let told = solved(alloc, disk)?;
     Ok(told.as_str().strip_prefix("0 ") == Some(FULL))
 }
 
 /// Whether a run over each image of each moment prints the certificate.
-fn images_go_on(alloc: Global, disk: &FailDisk) -> Result<bool, Fail> {
+fn images_go_on(alloc: Global, disk: &MemDisk) -> Result<bool, Fail> {
     for moment in 0..=disk.moment() {
         for choice in 0..8 {
             let mut crashed = MemDisk::new(alloc, disk.image(moment, choice)?);

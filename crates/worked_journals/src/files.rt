@@ -5,7 +5,8 @@ ghost use Rattle.box_tree.specs.Views.{shown_entry};
 ghost use Rattle.journal_format.specs.Payload.{IsNarrow};
 
 use box_tree::Entry;
-use disk_model::{Disk, FailDisk};
+use disk_calls::Disk;
+use disk_model::MemDisk;
 use node_journal::{Journal, JournalFault, largest_payload, payload_len};
 use plan_core::WrittenPlan;
 use std::alloc::{AllocError, Global};
@@ -34,7 +35,7 @@ fn ships_all(alloc: Global) -> Result<Entry, AllocError>
 
 /// How many entries the journal of a file has that is on the disk.
 fn reopen<D: Disk>(alloc: Global, disk: &mut D) -> Result<usize, JournalFault>
-    requires { (name : _) → IsTrue (D.admits disk.old name) }
+    requires { (name : _) → IsTrue ((D.told disk.old).admits name) }
 {
     disk.attach("journal")?;
     let opened = Journal::open(alloc, disk, TEXT, LARGEST)?;
@@ -43,7 +44,7 @@ fn reopen<D: Disk>(alloc: Global, disk: &mut D) -> Result<usize, JournalFault>
 
 /// Opens the journal of the file and records the plan.
 fn record<D: Disk>(alloc: Global, disk: &mut D) -> Result<(), JournalFault>
-    requires { (name : _) → IsTrue (D.admits disk.old name) }
+    requires { (name : _) → IsTrue ((D.told disk.old).admits name) }
 {
     let entry = ships_all(alloc)?;
     disk.attach("journal")?;
@@ -62,7 +63,7 @@ fn entries_of(alloc: Global, parts: &[&[u8]]) -> Result<usize, JournalFault> {
 }
 
 /// Whether each image of a moment opens as a journal of at least and at most so many entries.
-fn holds(alloc: Global, disk: &FailDisk, moment: u64, least: usize, most: usize) -> bool {
+fn holds(alloc: Global, disk: &MemDisk, moment: u64, least: usize, most: usize) -> bool {
     for choice in 0..32 {
         let Ok(image) = disk.image(moment, choice) else {
             return false;

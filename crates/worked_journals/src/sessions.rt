@@ -5,7 +5,8 @@ ghost use Rattle.std.specs.Prelude.{IsTrue};
 use blend_network::Network;
 use box_space::Form;
 use branching::RuleName;
-use disk_model::{Disk, FailDisk};
+use disk_calls::Disk;
+use disk_model::MemDisk;
 use node_journal::{Journal, JournalFault};
 use recorded_run::{RunFault, run_recorded};
 use search_run::{Ended, Orders, Outcome};
@@ -19,7 +20,7 @@ const TEXT: &[u8] = b"Haverly 1";
 
 /// Runs the search to gap 0 or 3 splits, over the file of the disk.
 fn run<D: Disk>(alloc: Global, net: &Network, disk: &mut D) -> Result<Outcome, RunFault>
-    requires { (name : _) → IsTrue (D.admits disk.old name) }
+    requires { (name : _) → IsTrue ((D.told disk.old).admits name) }
 {
     disk.attach("journal")?;
     let orders = Orders {
@@ -56,7 +57,7 @@ fn acknowledged(call: u64) -> u64 {
 }
 
 /// Whether a run over this disk closes at the best cost.
-fn is_closed(alloc: Global, net: &Network, disk: &mut FailDisk) -> Result<bool, RunFault> {
+fn is_closed(alloc: Global, net: &Network, disk: &mut MemDisk) -> Result<bool, RunFault> {
     let outcome = run(alloc, net, disk)?;
     Ok(closed_at(&outcome, -400))
 }

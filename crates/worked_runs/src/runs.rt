@@ -2,7 +2,8 @@
 
 ghost use Rattle.std.specs.Prelude.{IsTrue};
 
-use disk_model::{Disk, MemDisk};
+use disk_calls::Disk;
+use disk_model::MemDisk;
 use edge_io::MemSink;
 use pool_cli::{Status, run, write_message};
 use shelf_calls::MemShelf;
@@ -25,7 +26,7 @@ pub fn ended<D: Disk>(
     sink: &mut MemSink,
     disk: &mut D,
 ) -> Result<Status, AllocError>
-    requires { (name : _) → IsTrue (D.admits disk.old name) }
+    requires { (name : _) → IsTrue ((D.told disk.old).admits name) }
 {
     let words = words_of(alloc, line)?;
     Ok(run(alloc, &words, shelf, sink, disk))
@@ -49,7 +50,7 @@ pub fn ended_on<D: Disk>(
     sink: &mut MemSink,
     disk: &mut D,
 ) -> Result<Status, AllocError>
-    requires { (name : _) → IsTrue (D.admits disk.old name) }
+    requires { (name : _) → IsTrue ((D.told disk.old).admits name) }
 {
     let mut shelf = shelf_of(alloc, files, u64::MAX)?;
     ended(alloc, line, &mut shelf, sink, disk)
@@ -62,7 +63,7 @@ pub fn answered<D: Disk>(
     files: [&str; 2],
     disk: &mut D,
 ) -> Result<String, AllocError>
-    requires { (name : _) → IsTrue (D.admits disk.old name) }
+    requires { (name : _) → IsTrue ((D.told disk.old).admits name) }
 {
     let mut sink = MemSink::new(alloc, Vec::new(alloc));
     let code = ended_on(alloc, line, files, &mut sink, disk)?.code();

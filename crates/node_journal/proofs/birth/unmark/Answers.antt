@@ -1,6 +1,6 @@
 use Rattle.std.proofs.Common.{[], List, ℕ, subst}
-use Rattle.disk_model.specs.Disks.{Torn}
-use Rattle.disk_model.proofs.Moments.{leaves-weaker}
+use Rattle.disk_calls.specs.Disks.{Torn}
+use Rattle.disk_calls.proofs.Moments.{leaves-weaker}
 use Rattle.journal_format.specs.Files.{IsOwnFor, SaysZeroed}
 use Rattle.node_journal.specs.Settled.{IsOnDisk}
 use Rattle.node_journal.proofs.Births.{torn_first, zeroed_first}
@@ -9,10 +9,10 @@ use Rattle.node_journal.proofs.birth.unmark.Goals as goal
 pub returns-then-zeroed-clause-on_disk : goal.returns-then-zeroed-clause-on_disk
 returns-then-zeroed-clause-on_disk g c = λ file d.
     let says = subst (λ b. SaysZeroed b file) c.if-zeroed.true (c.requires.zeroed file d.read) in
-    subst (λ (l : List ℕ). IsOnDisk l (g.D.Disk.reads c.args.disk.now) (g.D.Disk.may_leave c.args.disk.now)) (zeroed_first file says) d
+    subst (λ (l : List ℕ). IsOnDisk l (g.D.Disk.told c.args.disk.now)) (zeroed_first file says) d
 
 pub returns-clause-any_moment : goal.returns-clause-any_moment
 returns-clause-any_moment g c = λ text file d unborn own.
     let says = subst (λ b. SaysZeroed b file) c.if-zeroed.false (c.requires.zeroed file d.read) in
-    leaves-weaker g.D.Disk.moment g.D.Disk.left_since c.args.disk.now c.write_synced.new.disk (Torn 0 1 file) (IsOwnFor text [])
+    leaves-weaker (g.D.Disk.told c.args.disk.now) (g.D.Disk.told c.write_synced.new.disk) (Torn 0 1 file) (IsOwnFor text [])
     (λ k torn. torn_first text file k unborn own says torn) (c.write_synced.ensures.any_moment file d.only)

@@ -7,5 +7,5 @@ use Rattle.node_journal.proofs.journal.bear.Goals as goal
 pub returns-clause-opened : goal.returns-clause-opened
 returns-clause-opened g c = λ text file d is unborn.
     born_opened text c.args.whole.now (length c.args.room.items - 5) file (map shown_entry c.new.result.items) c.at.result.gate
-    (g.D.Disk.reads c.give_birth.new.disk) (g.D.Disk.may_leave c.give_birth.new.disk)
+    (g.D.Disk.told c.give_birth.new.disk)
     is unborn (c.in_ok-give_birth.ensures.on_disk text file d is) (ap (map shown_entry) c.new.ensures.items) (ap (λ (r : Ready). r.gate) c.at.ensures)

@@ -1,7 +1,7 @@
 use Rattle.std.proofs.Common.{◌≡◌, ℕ, List, [], ◌∷◌, length, refl, arith}
 use Rattle.std.proofs.lemmas.Result.{on_ok_weaker}
-use Rattle.disk_model.specs.Disks.{written}
-use Rattle.disk_model.proofs.Calling.{at-file}
+use Rattle.disk_calls.specs.Disks.{written}
+use Rattle.disk_calls.proofs.Calling.{at-file}
 use Rattle.node_journal.proofs.Runs.{reaches-known}
 use Rattle.node_journal.proofs.Openings.{shut_there, shut_written}
 use Rattle.node_journal.proofs.journal.shut.Goals as goal
@@ -12,8 +12,8 @@ returns-then-gate-end-clause-on_disk g c = λ file d size closed. (file, d, refl
 pub write_synced-requires : goal.write_synced-requires
 write_synced-requires g c = λ tells.
     let was = c.requires.settled tells in
-    let size = at-file (g.D.Disk.reads c.args.disk.now) was.0 (λ (f : List ℕ). c.args.end ≡ length f) was.1.read c.requires.size in
-    reaches-known (g.D.Disk.reads c.args.disk.now) was.0 c.args.gate was.1.read (omega arith)
+    let size = at-file (g.D.Disk.told c.args.disk.now).reads was.0 (λ (f : List ℕ). c.args.end ≡ length f) was.1.read c.requires.size in
+    reaches-known (g.D.Disk.told c.args.disk.now).reads was.0 c.args.gate was.1.read (omega arith)
 
 pub returns-clause-on_disk : goal.returns-clause-on_disk
 returns-clause-on_disk g c =

@@ -25,7 +25,7 @@ loop-entries-preserved g c =
       same = c.in_ok-entry.ensures.same ∙ before.same;
       reached = search rules;
       room = search rules;
-      quiet = quiet-then g.D.Disk.moment g.D.Disk.left_since g.D.Disk.may_leave g.met.D.Disk.counts_now g.met.D.Disk.only_now c.args.disk.now
-          c.loop-entries.disk c.next_record.new.disk before.quiet c.next_record.ensures.quiet;
+      quiet = quiet-then (g.D.Disk.told c.args.disk.now)
+          (g.D.Disk.told c.loop-entries.disk) (g.D.Disk.told c.next_record.new.disk) before.quiet c.next_record.ensures.quiet;
       same_disk = search rules;
     }

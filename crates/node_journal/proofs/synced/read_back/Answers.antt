@@ -6,7 +6,7 @@ use Rattle.node_journal.proofs.synced.read_back.Goals as goal
 pub returns-then-is_empty-clause-bytes : goal.returns-then-is_empty-clause-bytes
 returns-then-is_empty-clause-bytes g c =
     let none : length c.args.into.now ≡ 0 = grind (arith, nat_tests) in
-    empty_read (g.D.Disk.reads c.args.disk.now) c.args.into.now c.args.at none
+    empty_read (g.D.Disk.told c.args.disk.now).reads c.args.into.now c.args.at none
 
 pub returns-then-is_empty-clause-quiet : goal.returns-then-is_empty-clause-quiet
-returns-then-is_empty-clause-quiet g c = quiet-start g.D.Disk.moment g.D.Disk.left_since g.D.Disk.may_leave g.met.D.Disk.counts_now g.met.D.Disk.only_now c.args.disk.now
+returns-then-is_empty-clause-quiet g c = quiet-start (g.D.Disk.told c.args.disk.now)

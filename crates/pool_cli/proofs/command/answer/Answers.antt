@@ -1,7 +1,6 @@
 use Rattle.std.proofs.Common.{◌≡◌, ℕ, List, ap, ap₂, sym, subst, ◌∙◌}
 use Rattle.std.specs.Prelude.{IsTrue}
 use Rattle.edge_io.specs.Writing.{behind}
-use Rattle.disk_model.specs.Disks.{LeavesOnly}
 use Rattle.cert_format.specs.Text.{text_of}
 use Rattle.cli_words.specs.Requests.{solve, check, report, formulate, make, trial}
 use Rattle.cli_words.specs.Views.{shown_request, shown_solving}
@@ -55,12 +54,12 @@ returns-in-Solve-clause-ends g c =
 
 pub returns-in-Solve-clause-journal : goal.returns-in-Solve-clause-journal
 returns-in-Solve-clause-journal g c = λ tells.
-    let old = c.args.disk.now in
-    let new = c.solve.new.disk in
+    let old = g.D.Disk.told c.args.disk.now in
+    let new = g.D.Disk.told c.solve.new.disk in
     journals_as (shown_request c.args.request) (solve (shown_solving c.in-Solve.words)) c.from.result (solve_status c.solve.result)
     (ap shown_request c.in-Solve.is) c.from.ensures
     (λ status s. Journaled (g.S.Shelf.told c.args.shelf.now).files s
-    (LeavesOnly g.D.Disk.moment g.D.Disk.left_since old new) (g.D.Disk.may_leave old) (g.D.Disk.reads new) (g.D.Disk.may_leave new)
+    old new
     status (λ k. g.K.Sink.taken c.solve.new.out ≡ behind (g.K.Sink.taken c.args.out.now) (text_of k)))
     (λ file named. c.solve.ensures.journal file named tells)
 

@@ -1,7 +1,6 @@
 use Rattle.std.proofs.Common.{◌≡◌, inl, inr, Err, map, string_bytes, refl, sym, ap, subst, ◌∙◌}
 use Rattle.std.specs.Prelude.{IsTrue}
 use Rattle.edge_io.specs.Writing.{behind}
-use Rattle.disk_model.specs.Disks.{LeavesOnly}
 use Rattle.node_journal.proofs.Runs.{quiet-start}
 use Rattle.cert_format.specs.Text.{text_of}
 use Rattle.cli_words.specs.Asks.{Asks}
@@ -17,7 +16,7 @@ use Rattle.pool_cli.proofs.command.run.Goals as goal
 
 pub answer-requires : goal.answer-requires
 answer-requires g c =
-    admitted (Asks (map string_bytes c.args.words.now)) (λ name. IsTrue ((g.S.Shelf.told c.args.shelf.now).admits name)) (λ name. IsTrue (g.D.Disk.admits c.args.disk.now name))
+    admitted (Asks (map string_bytes c.args.words.now)) (λ name. IsTrue ((g.S.Shelf.told c.args.shelf.now).admits name)) (λ name. IsTrue ((g.D.Disk.told c.args.disk.now).admits name))
     (g.S.Shelf.told c.args.shelf.now).files (gap-asked (map string_bytes c.args.words.now)) c.requires.solve c.requires.journal c.requires.check c.requires.certificate c.requires.report
     c.requires.reported c.requires.formulate (shown_request c.in-Ok.request) c.in-Ok.ensures.asks
 
@@ -56,11 +55,11 @@ returns-in-Ok-clause-decided g c = λ told asked is asks.
 
 pub returns-in-Ok-clause-journal : goal.returns-in-Ok-clause-journal
 returns-in-Ok-clause-journal g c = λ s file asks named tells.
-    let old = c.args.disk.now in
-    let new = c.answer.new.disk in
+    let old = g.D.Disk.told c.args.disk.now in
+    let new = g.D.Disk.told c.answer.new.disk in
     subst
     (JournalsAs (λ t. Journaled (g.S.Shelf.told c.args.shelf.now).files t
-    (LeavesOnly g.D.Disk.moment g.D.Disk.left_since old new) (g.D.Disk.may_leave old) (g.D.Disk.reads new) (g.D.Disk.may_leave new)
+    old new
     c.answer.result (λ k. g.K.Sink.taken c.answer.new.out ≡ behind (g.K.Sink.taken c.args.out.now) (text_of k))))
     (sym (c.in-Ok.ensures.only (solve s) asks)) (c.answer.ensures.journal tells) file named
 
@@ -110,5 +109,5 @@ pub returns-in-Err-clause-journal : goal.returns-in-Err-clause-journal
 returns-in-Err-clause-journal g c = λ s file asks named tells.
     inl (
       subst IsUnopened (sym c.status_of_words.ensures) (words_unopened c.in-Err.fault (λ e. c.in-Err.ensures.usage (ap (λ f. Err f) e) (solve s) asks)),
-      quiet-start g.D.Disk.moment g.D.Disk.left_since g.D.Disk.may_leave g.met.D.Disk.counts_now g.met.D.Disk.only_now c.args.disk.now,
+      quiet-start (g.D.Disk.told c.args.disk.now),
     )

@@ -3,7 +3,8 @@ use Rattle.std.proofs.Common.{◌≡◌, ◌⊎◌, ℕ, List, Err, map, refl, i
 use Rattle.std.specs.Prelude.{IsTrue}
 use Rattle.std.specs.List.{AllByRecursion}
 use Rattle.std.proofs.lemmas.Result.{err_from_is_err_and}
-use Rattle.disk_model.proofs.Calling.{reaches-file}
+use Rattle.disk_calls.proofs.Calling.{reaches-file}
+use Rattle.disk_calls.proofs.Moments.{same_disk-then}
 use Rattle.pool_model.specs.Network.{net_of}
 use Rattle.row_model.specs.Entries.{Entry, Searched, made_by, AreInOrder, IsSearched}
 use Rattle.box_tree.specs.Kept.{Held, searched_of}
@@ -17,7 +18,7 @@ use Rattle.search_run.specs.Runs.{IsRun}
 use Rattle.search_run.proofs.Ending.{found-by}
 use Rattle.recorded_run.specs.Recorded.{Ends}
 use Rattle.recorded_run.specs.declared.fault.RunFault.TheVariants.{Journal}
-use Rattle.recorded_run.proofs.Recording.{begins-same, opened-recorded, opening-moments, run-moments, recorded-ends, kept-stands, memory-of, same_disk-then}
+use Rattle.recorded_run.proofs.Recording.{begins-same, opened-recorded, opening-moments, run-moments, recorded-ends, kept-stands, memory-of}
 use Rattle.recorded_run.proofs.Causes.{no_cause, decided-by, replay-cause, replay-free, replay-alone, free-alone}
 use Rattle.recorded_run.proofs.rules.run_recorded.Goals as goal
 
@@ -32,7 +33,7 @@ drive-requires-clause-session g c = record {
 
 pub drive-requires-clause-left : goal.drive-requires-clause-left
 drive-requires-clause-left g c = λ tells.
-    let was = reaches-file (g.D.Disk.reads c.args.disk.now) 0 (c.requires.attached (subst IsTrue c.open.ensures.same_disk.same_telling tells)) in
+    let was = reaches-file (g.D.Disk.told c.args.disk.now).reads 0 (c.requires.attached (subst IsTrue c.open.ensures.same_disk.same_telling tells)) in
     let left = c.in_ok-opened.ensures.left was.0 was.1 in
     (c.args.text.now, map shown_entry c.in_ok-opened.opened.entries.items, left.0, left.1, left.2)
 
@@ -63,16 +64,16 @@ returns-clause-any_moment g c = λ file first is own.
     let same = one_standing file text list first (c.in_ok-opened.ensures.entries file is) own.stands in
     let left = c.in_ok-opened.ensures.left file is in
     let made = ap (λ (h : Held). searched_of h.kept) c.in_ok-search.ensures.tree ∙ c.in_ok-tree.ensures.made in
-    let held = opened-recorded n text first list c.in_ok-opened.opened.journal.gate (searched c.in_ok-search.search) left.0 (g.D.Disk.reads c.open.new.disk) (g.D.Disk.may_leave c.open.new.disk)
+    let held = opened-recorded n text first list c.in_ok-opened.opened.journal.gate (searched c.in_ok-search.search) left.0 (g.D.Disk.told c.open.new.disk)
     same own.in_order made left.1 left.2 in
     let run = c.in_ok-ended.ensures.recorded text first held in
     let ends = recorded-ends n text run.last c.drive.new.self.journal.gate (searched c.drive.new.self.search)
-    (g.D.Disk.reads c.drive.new.disk) (g.D.Disk.may_leave c.drive.new.disk) run.held in (
+    (g.D.Disk.told c.drive.new.disk) run.held in (
       run.last,
       run.begins,
-      run-moments n g.D.Disk.moment g.D.Disk.left_since g.D.Disk.may_leave text first run.last c.args.disk.now c.open.new.disk c.drive.new.disk
+      run-moments n text first run.last (g.D.Disk.told c.args.disk.now) (g.D.Disk.told c.open.new.disk) (g.D.Disk.told c.drive.new.disk)
           own.in_order run.begins (c.open.ensures.any_moment file first is own.own own.stands) run.any_moment,
-      subst (λ (h : Held). Ends n text run.last (searched_of h.kept) (g.D.Disk.reads c.drive.new.disk) (g.D.Disk.may_leave c.drive.new.disk)) (sym c.into_tree-tree.ensures) ends,
+      subst (λ (h : Held). Ends n text run.last (searched_of h.kept) (g.D.Disk.told c.drive.new.disk)) (sym c.into_tree-tree.ensures) ends,
     )
 
 pub returns-in_err-ended-clause-any_moment : goal.returns-in_err-ended-clause-any_moment
@@ -86,12 +87,12 @@ returns-in_err-ended-clause-any_moment g c =
     let same = one_standing file text list first (c.in_ok-opened.ensures.entries file is) own.stands in
     let left = c.in_ok-opened.ensures.left file is in
     let made = ap (λ (h : Held). searched_of h.kept) c.in_ok-search.ensures.tree ∙ c.in_ok-tree.ensures.made in
-    let held = opened-recorded n text first list c.in_ok-opened.opened.journal.gate (searched c.in_ok-search.search) left.0 (g.D.Disk.reads c.open.new.disk) (g.D.Disk.may_leave c.open.new.disk)
+    let held = opened-recorded n text first list c.in_ok-opened.opened.journal.gate (searched c.in_ok-search.search) left.0 (g.D.Disk.told c.open.new.disk)
     same own.in_order made left.1 left.2 in
     let run = c.in_err-ended.ensures.recorded text first held in (
       run.last,
       run.begins,
-      run-moments n g.D.Disk.moment g.D.Disk.left_since g.D.Disk.may_leave text first run.last c.args.disk.now c.open.new.disk c.drive.new.disk
+      run-moments n text first run.last (g.D.Disk.told c.args.disk.now) (g.D.Disk.told c.open.new.disk) (g.D.Disk.told c.drive.new.disk)
           own.in_order run.begins (c.open.ensures.any_moment file first is own.own own.stands) run.any_moment,
       run.held,
     ))
@@ -103,8 +104,8 @@ returns-in_err-opened-clause-any_moment g c =
     (λ file first is own. (
       first,
       begins-same first,
-      opening-moments (net_of c.args.net.now) g.D.Disk.moment g.D.Disk.left_since g.D.Disk.may_leave c.args.text.now first c.args.disk.now
-          c.open.new.disk own.in_order (c.open.ensures.any_moment file first is own.own own.stands),
+      opening-moments (net_of c.args.net.now) c.args.text.now first (g.D.Disk.told c.args.disk.now)
+          (g.D.Disk.told c.open.new.disk) own.in_order (c.open.ensures.any_moment file first is own.own own.stands),
       λ memory. record {
         file = file;
         read = c.in_err-opened.ensures.kept (ap Err (memory-of c.in_err-opened.field-0.0 memory)) ∙ is;
@@ -122,9 +123,9 @@ returns-in_err-tree-clause-any_moment g c =
     let left = c.in_ok-opened.ensures.left file is in (
       first,
       begins-same first,
-      opening-moments (net_of c.args.net.now) g.D.Disk.moment g.D.Disk.left_since g.D.Disk.may_leave c.args.text.now first c.args.disk.now
-          c.open.new.disk own.in_order (c.open.ensures.any_moment file first is own.own own.stands),
-      λ memory. kept-stands (net_of c.args.net.now) c.args.text.now first c.in_ok-opened.opened.journal.gate left.0 (g.D.Disk.reads c.open.new.disk) (g.D.Disk.may_leave c.open.new.disk)
+      opening-moments (net_of c.args.net.now) c.args.text.now first (g.D.Disk.told c.args.disk.now)
+          (g.D.Disk.told c.open.new.disk) own.in_order (c.open.ensures.any_moment file first is own.own own.stands),
+      λ memory. kept-stands (net_of c.args.net.now) c.args.text.now first c.in_ok-opened.opened.journal.gate left.0 (g.D.Disk.told c.open.new.disk)
           own.in_order left.1 (subst (λ (l : List Entry). IsKeptAt c.in_ok-opened.opened.journal.gate c.args.text.now l left.0) same left.2),
     ))
 
@@ -138,9 +139,9 @@ returns-in_err-search-clause-any_moment g c =
     let left = c.in_ok-opened.ensures.left file is in (
       first,
       begins-same first,
-      opening-moments (net_of c.args.net.now) g.D.Disk.moment g.D.Disk.left_since g.D.Disk.may_leave c.args.text.now first c.args.disk.now
-          c.open.new.disk own.in_order (c.open.ensures.any_moment file first is own.own own.stands),
-      λ memory. kept-stands (net_of c.args.net.now) c.args.text.now first c.in_ok-opened.opened.journal.gate left.0 (g.D.Disk.reads c.open.new.disk) (g.D.Disk.may_leave c.open.new.disk)
+      opening-moments (net_of c.args.net.now) c.args.text.now first (g.D.Disk.told c.args.disk.now)
+          (g.D.Disk.told c.open.new.disk) own.in_order (c.open.ensures.any_moment file first is own.own own.stands),
+      λ memory. kept-stands (net_of c.args.net.now) c.args.text.now first c.in_ok-opened.opened.journal.gate left.0 (g.D.Disk.told c.open.new.disk)
           own.in_order left.1 (subst (λ (l : List Entry). IsKeptAt c.in_ok-opened.opened.journal.gate c.args.text.now l left.0) same left.2),
     ))
 
@@ -243,8 +244,8 @@ returns-in_err-ended-clause-untouched g c =
 
 pub returns-clause-same_disk : goal.returns-clause-same_disk
 returns-clause-same_disk g c =
-    same_disk-then g.D.Disk.faults g.D.Disk.tells g.D.Disk.admits c.args.disk.now c.open.new.disk c.drive.new.disk c.open.ensures.same_disk c.drive.ensures.same_disk
+    same_disk-then (g.D.Disk.told c.args.disk.now) (g.D.Disk.told c.open.new.disk) (g.D.Disk.told c.drive.new.disk) c.open.ensures.same_disk c.drive.ensures.same_disk
 
 pub returns-in_err-ended-clause-same_disk : goal.returns-in_err-ended-clause-same_disk
 returns-in_err-ended-clause-same_disk g c =
-    same_disk-then g.D.Disk.faults g.D.Disk.tells g.D.Disk.admits c.args.disk.now c.open.new.disk c.drive.new.disk c.open.ensures.same_disk c.drive.ensures.same_disk
+    same_disk-then (g.D.Disk.told c.args.disk.now) (g.D.Disk.told c.open.new.disk) (g.D.Disk.told c.drive.new.disk) c.open.ensures.same_disk c.drive.ensures.same_disk

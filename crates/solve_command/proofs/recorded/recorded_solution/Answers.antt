@@ -3,7 +3,7 @@ use Rattle.std.proofs.Common.{◌≡◌, inl, inr, ℕ, List, Ok, Err, refl, sym
 use Rattle.std.specs.Prelude.{IsTrue}
 use Rattle.std.proofs.lemmas.Option.{none-some}
 use Rattle.std.proofs.lemmas.Result.{err_from_is_err_and}
-use Rattle.disk_model.specs.Disks.{LeavesOnly}
+use Rattle.disk_calls.proofs.Calling.{one_of-file}
 use Rattle.pool_model.specs.Network.{net_of}
 use Rattle.row_model.specs.Entries.{made_by}
 use Rattle.box_tree.specs.Kept.{searched_of}
@@ -13,13 +13,13 @@ use Rattle.node_journal.proofs.Runs.{quiet-start, quiet-call}
 use Rattle.journal_format.specs.declared.fault.JournalFault.TheVariants as journal_faults
 use Rattle.recorded_run.specs.declared.fault.RunFault.TheVariants as faults
 use Rattle.solve_command.specs.Recorded.{IsOpened, shows}
-use Rattle.solve_command.proofs.Journaling.{one_of-reaches, one_of-file, attached-unsolved, attached-solved}
+use Rattle.solve_command.proofs.Journaling.{one_of-reaches, attached-unsolved, attached-solved}
 use Rattle.solve_command.proofs.Solutions.{solved-from}
 use Rattle.solve_command.proofs.recorded.recorded_solution.Goals as goal
 
 pub run_recorded-requires-clause-attached : goal.run_recorded-requires-clause-attached
 run_recorded-requires-clause-attached g c = λ tells.
-    one_of-reaches (g.D.Disk.reads c.attach.new.self) (g.D.Disk.may_leave c.args.disk.now) (c.in_ok-attach.ensures.open (subst IsTrue c.attach.ensures.same_telling tells))
+    one_of-reaches (g.D.Disk.told c.attach.new.self).reads (g.D.Disk.told c.args.disk.now).may_leave (c.in_ok-attach.ensures.open (subst IsTrue c.attach.ensures.goes_on.same_disk.same_telling tells))
 
 pub returns-clause-solved : goal.returns-clause-solved
 returns-clause-solved g c =
@@ -35,15 +35,15 @@ returns-clause-solved g c =
 pub returns-clause-journal : goal.returns-clause-journal
 returns-clause-journal g c = λ tells.
     let n = net_of c.args.net.now in
-    let old = c.args.disk.now in
-    let mid = c.attach.new.self in
-    let new = c.run_recorded.new.disk in
-    let at = one_of-file (g.D.Disk.reads mid) (g.D.Disk.may_leave old) (c.in_ok-attach.ensures.open tells) in
-    let attach = quiet-call g.D.Disk.moment g.D.Disk.left_since g.D.Disk.may_leave g.met.D.Disk.counts_now g.met.D.Disk.only_now old mid c.attach.ensures.time c.attach.ensures.crash in
+    let old = g.D.Disk.told c.args.disk.now in
+    let mid = g.D.Disk.told c.attach.new.self in
+    let new = g.D.Disk.told c.run_recorded.new.disk in
+    let at = one_of-file mid.reads old.may_leave (c.in_ok-attach.ensures.open tells) in
+    let attach = quiet-call old mid c.attach.ensures.goes_on c.attach.ensures.crash in
     let found = searched_of c.in_ok-outcome.outcome.tree.kept in
-    subst (λ (text : List ℕ). IsOpened n text c.args.orders (LeavesOnly g.D.Disk.moment g.D.Disk.left_since old new) (g.D.Disk.may_leave old) (g.D.Disk.reads new) (g.D.Disk.may_leave new)
+    subst (λ (text : List ℕ). IsOpened n text c.args.orders old new
     (Ok (record { certificate = c.in_ok-certificate.certificate; ended = c.in_ok-outcome.outcome.ended }))) (c.deref.ensures.value ∙ c.in_ok-text.ensures.text)
-    (inr (attached-solved g.D.Disk.moment g.D.Disk.left_since g.D.Disk.reads g.D.Disk.may_leave g.met.D.Disk.counts_now n c.deref.result.now c.args.orders at.0 old mid new at.2 attach
+    (inr (attached-solved n c.deref.result.now c.args.orders at.0 old mid new at.2 attach
     c.certificate_of.ensures.limited found c.in_ok-outcome.outcome.ended (λ k. shown_cert c.in_ok-certificate.certificate ≡ k) at.1
     (λ cause has. c.in_ok-outcome.ensures.decided at.0 cause at.1 has) c.in_ok-outcome.ensures.run
     (subst (IsValid n) c.in_ok-certificate.ensures.found c.in_ok-certificate.ensures.valid) c.in_ok-certificate.ensures.found (λ first own. c.in_ok-outcome.ensures.any_moment at.0 first at.1 own)))
@@ -53,7 +53,7 @@ returns-clause-journal g c = λ tells.
 pub returns-in_err-text-clause-journal : goal.returns-in_err-text-clause-journal
 returns-in_err-text-clause-journal g c =
     let p = err_from_is_err_and c.from_residual.result c.from_residual.ensures.1 in
-    rw (p.1, p.2) (λ tells. inl (tt, quiet-start g.D.Disk.moment g.D.Disk.left_since g.D.Disk.may_leave g.met.D.Disk.counts_now g.met.D.Disk.only_now c.args.disk.now))
+    rw (p.1, p.2) (λ tells. inl (tt, quiet-start (g.D.Disk.told c.args.disk.now)))
 
 pub returns-in_err-attach-clause-journal : goal.returns-in_err-attach-clause-journal
 returns-in_err-attach-clause-journal g c =
@@ -61,8 +61,8 @@ returns-in_err-attach-clause-journal g c =
     rw (p.1, p.2)
     (λ tells. inl (
       tt,
-      quiet-call g.D.Disk.moment g.D.Disk.left_since g.D.Disk.may_leave g.met.D.Disk.counts_now g.met.D.Disk.only_now c.args.disk.now
-          c.attach.new.self c.attach.ensures.time c.attach.ensures.crash,
+      quiet-call (g.D.Disk.told c.args.disk.now)
+          (g.D.Disk.told c.attach.new.self) c.attach.ensures.goes_on c.attach.ensures.crash,
     ))
 
 pub returns-in_err-outcome-clause-journal : goal.returns-in_err-outcome-clause-journal
@@ -71,15 +71,14 @@ returns-in_err-outcome-clause-journal g c =
     rw (p.1, p.2)
     (λ tells.
     let n = net_of c.args.net.now in
-    let old = c.args.disk.now in
-    let mid = c.attach.new.self in
-    let new = c.run_recorded.new.disk in
+    let old = g.D.Disk.told c.args.disk.now in
+    let mid = g.D.Disk.told c.attach.new.self in
+    let new = g.D.Disk.told c.run_recorded.new.disk in
     let fault = c.in_err-outcome.field-0.0 in
-    let at = one_of-file (g.D.Disk.reads mid) (g.D.Disk.may_leave old) (c.in_ok-attach.ensures.open tells) in
-    let attach = quiet-call g.D.Disk.moment g.D.Disk.left_since g.D.Disk.may_leave g.met.D.Disk.counts_now g.met.D.Disk.only_now old mid c.attach.ensures.time c.attach.ensures.crash in
-    subst (λ (text : List ℕ). IsOpened n text c.args.orders (LeavesOnly g.D.Disk.moment g.D.Disk.left_since old new) (g.D.Disk.may_leave old)
-    (g.D.Disk.reads new) (g.D.Disk.may_leave new) (Err fault)) (c.deref.ensures.value ∙ c.in_ok-text.ensures.text)
-    (inr (attached-unsolved g.D.Disk.moment g.D.Disk.left_since g.D.Disk.reads g.D.Disk.may_leave g.met.D.Disk.counts_now n c.deref.result.now c.args.orders at.0 old mid new at.2 attach
+    let at = one_of-file mid.reads old.may_leave (c.in_ok-attach.ensures.open tells) in
+    let attach = quiet-call old mid c.attach.ensures.goes_on c.attach.ensures.crash in
+    subst (λ (text : List ℕ). IsOpened n text c.args.orders old new (Err fault)) (c.deref.ensures.value ∙ c.in_ok-text.ensures.text)
+    (inr (attached-unsolved n c.deref.result.now c.args.orders at.0 old mid new at.2 attach
     fault (shows (Err fault)) (c.in_err-outcome.ensures.refused at.0 at.1) (λ cause has. c.in_err-outcome.ensures.decided at.0 cause at.1 has) c.in_err-outcome.ensures.untouched
     (λ first own. c.in_err-outcome.ensures.any_moment at.0 first at.1 own))))
 
@@ -89,15 +88,14 @@ returns-in_err-certificate-clause-journal g c =
     rw (p.1, p.2)
     (λ tells.
     let n = net_of c.args.net.now in
-    let old = c.args.disk.now in
-    let mid = c.attach.new.self in
-    let new = c.run_recorded.new.disk in
+    let old = g.D.Disk.told c.args.disk.now in
+    let mid = g.D.Disk.told c.attach.new.self in
+    let new = g.D.Disk.told c.run_recorded.new.disk in
     let fault = faults.Journal journal_faults.Memory in
-    let at = one_of-file (g.D.Disk.reads mid) (g.D.Disk.may_leave old) (c.in_ok-attach.ensures.open tells) in
-    let attach = quiet-call g.D.Disk.moment g.D.Disk.left_since g.D.Disk.may_leave g.met.D.Disk.counts_now g.met.D.Disk.only_now old mid c.attach.ensures.time c.attach.ensures.crash in
-    subst (λ (text : List ℕ). IsOpened n text c.args.orders (LeavesOnly g.D.Disk.moment g.D.Disk.left_since old new) (g.D.Disk.may_leave old)
-    (g.D.Disk.reads new) (g.D.Disk.may_leave new) (Err fault)) (c.deref.ensures.value ∙ c.in_ok-text.ensures.text)
-    (inr (attached-unsolved g.D.Disk.moment g.D.Disk.left_since g.D.Disk.reads g.D.Disk.may_leave g.met.D.Disk.counts_now n c.deref.result.now c.args.orders at.0 old mid new at.2 attach
+    let at = one_of-file mid.reads old.may_leave (c.in_ok-attach.ensures.open tells) in
+    let attach = quiet-call old mid c.attach.ensures.goes_on c.attach.ensures.crash in
+    subst (λ (text : List ℕ). IsOpened n text c.args.orders old new (Err fault)) (c.deref.ensures.value ∙ c.in_ok-text.ensures.text)
+    (inr (attached-unsolved n c.deref.result.now c.args.orders at.0 old mid new at.2 attach
     fault (shows (Err fault)) (inl (inr refl)) (λ cause has. inl (inr refl)) (inl (inr refl))
     (λ first own.
     let goes = c.in_ok-outcome.ensures.any_moment at.0 first at.1 own in

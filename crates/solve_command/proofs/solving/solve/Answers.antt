@@ -21,7 +21,7 @@ returns-in-Ok-clause-journal g c = λ file named tells.
 
 pub returns-in-Err-clause-journal : goal.returns-in-Err-clause-journal
 returns-in-Err-clause-journal g c = λ file named tells.
-    inl (unread_unopened c.in-Err.why, quiet-start g.D.Disk.moment g.D.Disk.left_since g.D.Disk.may_leave g.met.D.Disk.counts_now g.met.D.Disk.only_now c.args.disk.now)
+    inl (unread_unopened c.in-Err.why, quiet-start (g.D.Disk.told c.args.disk.now))
 
 pub returns-in-Err-clause-disk_fault : goal.returns-in-Err-clause-disk_fault
 returns-in-Err-clause-disk_fault g c = λ e. absurd (no_unread_disk c.in-Err.why e)

@@ -1,5 +1,4 @@
 use Rattle.std.proofs.Common.{inl, Ok, Err, refl, ap, subst}
-use Rattle.disk_model.specs.Disks.{LeavesOnly}
 use Rattle.pool_model.specs.Network.{net_of}
 use Rattle.row_model.specs.Entries.{made_by}
 use Rattle.cert_format.specs.Views.{shown_cert}
@@ -41,31 +40,29 @@ returns-in-Ok-clause-ends g c = λ files before after reads.
 
 pub returns-in-Ok-clause-journal : goal.returns-in-Ok-clause-journal
 returns-in-Ok-clause-journal g c = λ files file reads named tells.
-    let old = c.args.disk.now in
-    let new = c.solution_for.new.disk in
+    let old = g.D.Disk.told c.args.disk.now in
+    let new = g.D.Disk.told c.solution_for.new.disk in
     let n = net_of c.args.net.now in
     journaled-printed files (shown_solving c.args.words.now) c.args.net.now reads c.in-Some.ensures.within
-    (LeavesOnly g.D.Disk.moment g.D.Disk.left_since old new) (g.D.Disk.may_leave old) (g.D.Disk.reads new) (g.D.Disk.may_leave new)
+    old new
     (g.K.Sink.taken c.args.out.now) (g.K.Sink.taken c.print.new.out) c.in-Ok.solution (solve_status c.print.result) c.print.ensures.ended c.print.ensures.whole
-    (subst (λ (o : Orders). IsOpened n (canonical_text c.args.net.now) o (LeavesOnly g.D.Disk.moment g.D.Disk.left_since old new)
-    (g.D.Disk.may_leave old) (g.D.Disk.reads new) (g.D.Disk.may_leave new) (Ok c.in-Ok.solution)) c.in-Some.ensures.orders
+    (subst (λ (o : Orders). IsOpened n (canonical_text c.args.net.now) o old new (Ok c.in-Ok.solution)) c.in-Some.ensures.orders
     (c.in-Ok.ensures.journal file named tells))
 
 pub returns-in-Err-clause-journal : goal.returns-in-Err-clause-journal
 returns-in-Err-clause-journal g c = λ files file reads named tells.
-    let old = c.args.disk.now in
-    let new = c.solution_for.new.disk in
+    let old = g.D.Disk.told c.args.disk.now in
+    let new = g.D.Disk.told c.solution_for.new.disk in
     let n = net_of c.args.net.now in
     journaled-unsolved files (shown_solving c.args.words.now) c.args.net.now reads c.in-Some.ensures.within
-    (LeavesOnly g.D.Disk.moment g.D.Disk.left_since old new) (g.D.Disk.may_leave old) (g.D.Disk.reads new) (g.D.Disk.may_leave new)
+    old new
     (g.K.Sink.taken c.args.out.now) (g.K.Sink.taken c.args.out.now) c.in-Err.fault
-    (subst (λ (o : Orders). IsOpened n (canonical_text c.args.net.now) o (LeavesOnly g.D.Disk.moment g.D.Disk.left_since old new)
-    (g.D.Disk.may_leave old) (g.D.Disk.reads new) (g.D.Disk.may_leave new) (Err c.in-Err.fault)) c.in-Some.ensures.orders
+    (subst (λ (o : Orders). IsOpened n (canonical_text c.args.net.now) o old new (Err c.in-Err.fault)) c.in-Some.ensures.orders
     (c.in-Err.ensures.journal file named tells))
 
 pub returns-in_default-clause-journal : goal.returns-in_default-clause-journal
 returns-in_default-clause-journal g c = λ files file reads named tells.
-    inl (tt, quiet-start g.D.Disk.moment g.D.Disk.left_since g.D.Disk.may_leave g.met.D.Disk.counts_now g.met.D.Disk.only_now c.args.disk.now)
+    inl (tt, quiet-start (g.D.Disk.told c.args.disk.now))
 
 pub returns-in-Ok-clause-disk_fault : goal.returns-in-Ok-clause-disk_fault
 returns-in-Ok-clause-disk_fault g c = λ e. absurd (no_end_fault c.in-Ok.solution.ended (solve_status c.print.result) c.print.ensures.ended e)

@@ -1,7 +1,8 @@
 use Rattle.std.proofs.Common.{List, length, [], ◌∷◌, ◌++◌, refl, sym, ◌∙◌, ap}
 use Rattle.std.proofs.lemmas.List.{length_push}
+use Rattle.edge_io.proofs.Counting.{grows-same}
 use Rattle.disk_model.specs.Steps.{after_step, file_after}
-use Rattle.disk_model.specs.Images.{file_after-push, crash-to, crash-same, time-to, time-same, synced-only}
+use Rattle.disk_model.specs.Images.{file_after-push, crash-to, crash-same, time-to, synced-only}
 use Rattle.disk_model.specs.MemDisks.{bytes_of}
 use Rattle.disk_model.specs.declared.step.Step.{Step}
 use Rattle.disk_model.proofs.mem_disk.MemDisk.go.Goals as goal
@@ -18,8 +19,11 @@ invariant_of-self-2 c = record {
 pub returns-clause-crash : goal.returns-clause-crash
 returns-clause-crash c = crash-to c.args.self.now.start.items c.args.self.now.steps.items c.push.new.self.items c.args.step c.in_ok-push.ensures.items
 
-pub returns-clause-time : goal.returns-clause-time
-returns-clause-time c = time-to c.args.self.now.start.items c.args.self.now.steps.items c.push.new.self.items c.args.step c.in_ok-push.ensures.items
+pub returns-clause-goes_on : goal.returns-clause-goes_on
+returns-clause-goes_on c = record {
+  time = time-to c.args.self.now.start.items c.args.self.now.steps.items c.push.new.self.items c.args.step c.in_ok-push.ensures.items;
+  same_disk = record { faults_grow = grows-same c.args.self.now.faults; same_telling = refl; same_names = refl };
+}
 
 pub returns-clause-durable : goal.returns-clause-durable
 returns-clause-durable c = λ is.
@@ -31,6 +35,3 @@ returns-clause-next_moment c = ap length c.in_ok-push.ensures.items ∙ length_p
 
 pub returns-in_err-next-clause-crash : goal.returns-in_err-next-clause-crash
 returns-in_err-next-clause-crash c = crash-same c.args.self.now.start.items c.args.self.now.steps.items c.args.self.now.steps.items c.args.step refl
-
-pub returns-in_err-next-clause-time : goal.returns-in_err-next-clause-time
-returns-in_err-next-clause-time c = time-same c.args.self.now.start.items c.args.self.now.steps.items

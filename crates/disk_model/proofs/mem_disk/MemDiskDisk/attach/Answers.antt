@@ -1,52 +1,10 @@
-use Rattle.std.proofs.Common.{sym, ◌∙◌, ap}
+use Rattle.std.proofs.Common.{sym, ◌∙◌}
 use Rattle.disk_model.specs.Images.{reads-image}
-use Rattle.disk_model.proofs.Calls.{quiet-crash, quiet-time}
-use Rattle.disk_model.specs.MemDisks.{bytes_of, moment_of, failing_of}
+use Rattle.disk_model.specs.MemDisks.{bytes_of}
+use Rattle.disk_model.proofs.Calls.{same_bytes}
 use Rattle.disk_model.proofs.mem_disk.MemDiskDisk.attach.Goals as goal
-
-pub returns-in_err-count-clause-crash : goal.returns-in_err-count-clause-crash
-returns-in_err-count-clause-crash c = quiet-crash c.args.self.now c.count.new.self c.count.new.self.calls c.count.new.self.faults c.count.new.self.attached c.count.ensures.rest
-
-pub returns-in_err-count-clause-time : goal.returns-in_err-count-clause-time
-returns-in_err-count-clause-time c = quiet-time c.args.self.now c.count.new.self c.count.new.self.calls c.count.new.self.faults c.count.new.self.attached c.count.ensures.rest
-
-pub returns-in_err-count-clause-faults_grow : goal.returns-in_err-count-clause-faults_grow
-returns-in_err-count-clause-faults_grow c = c.count.ensures.faults_grow
-
-pub returns-in_err-count-clause-next : goal.returns-in_err-count-clause-next
-returns-in_err-count-clause-next c = c.count.ensures.next
-
-pub returns-in_err-count-clause-same_moment : goal.returns-in_err-count-clause-same_moment
-returns-in_err-count-clause-same_moment c = ap moment_of c.count.ensures.rest
-
-pub returns-in_err-count-clause-same_bytes : goal.returns-in_err-count-clause-same_bytes
-returns-in_err-count-clause-same_bytes c = ap bytes_of c.count.ensures.rest
-
-pub returns-in_err-count-clause-same_failing : goal.returns-in_err-count-clause-same_failing
-returns-in_err-count-clause-same_failing c = ap failing_of c.count.ensures.rest
-
-pub returns-clause-crash : goal.returns-clause-crash
-returns-clause-crash c = quiet-crash c.args.self.now c.count.new.self c.count.new.self.calls c.count.new.self.faults c.count.new.self.attached c.count.ensures.rest
-
-pub returns-clause-time : goal.returns-clause-time
-returns-clause-time c = quiet-time c.args.self.now c.count.new.self c.count.new.self.calls c.count.new.self.faults c.count.new.self.attached c.count.ensures.rest
-
-pub returns-clause-faults_grow : goal.returns-clause-faults_grow
-returns-clause-faults_grow c = c.count.ensures.faults_grow
-
-pub returns-clause-next : goal.returns-clause-next
-returns-clause-next c = c.count.ensures.next
-
-pub returns-clause-same_moment : goal.returns-clause-same_moment
-returns-clause-same_moment c = ap moment_of c.count.ensures.rest
-
-pub returns-clause-same_bytes : goal.returns-clause-same_bytes
-returns-clause-same_bytes c = ap bytes_of c.count.ensures.rest
-
-pub returns-clause-same_failing : goal.returns-clause-same_failing
-returns-clause-same_failing c = ap failing_of c.count.ensures.rest
 
 pub returns-clause-open : goal.returns-clause-open
 returns-clause-open c =
     reads-image c.args.self.now.start.items c.args.self.now.steps.items (bytes_of c.count.new.self)
-    (sym c.args.self.now.follows ∙ sym (ap bytes_of c.count.ensures.rest))
+    (sym c.args.self.now.follows ∙ sym (same_bytes c.args.self.now c.count.new.self c.count.ensures.same_file))

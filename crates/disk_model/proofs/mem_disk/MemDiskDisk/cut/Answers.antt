@@ -1,9 +1,11 @@
 use Rattle.disk_calls.specs.Disks.{Shortened}
-use Rattle.disk_model.proofs.Calls.{call-crash, call-time}
+use Rattle.disk_calls.proofs.Moments.{goes_on-then, leaves_by-then}
+use Rattle.disk_model.specs.MemDisks.{told_of}
 use Rattle.disk_model.proofs.mem_disk.MemDiskDisk.cut.Goals as goal
 
 pub returns-clause-crash : goal.returns-clause-crash
-returns-clause-crash c = call-crash (Shortened c.args.to) c.args.self.now _ c.count.new.self c.count.ensures.rest c.go.ensures.crash
+returns-clause-crash c =
+    leaves_by-then (Shortened c.args.to) (told_of c.args.self.now) (told_of c.go.new.self) (told_of c.count.new.self) c.go.ensures.crash c.go.ensures.goes_on c.count.ensures.goes_on c.count.ensures.crash
 
-pub returns-clause-time : goal.returns-clause-time
-returns-clause-time c = call-time c.args.self.now _ c.count.new.self c.count.ensures.rest c.go.ensures.time
+pub returns-clause-goes_on : goal.returns-clause-goes_on
+returns-clause-goes_on c = goes_on-then (told_of c.args.self.now) (told_of c.go.new.self) (told_of c.count.new.self) c.go.ensures.goes_on c.count.ensures.goes_on c.count.ensures.crash

@@ -1,8 +1,11 @@
-use Rattle.disk_model.proofs.Calls.{call-among, call-time}
+use Rattle.disk_calls.proofs.Moments.{goes_on-then, nothing_new-then}
+use Rattle.disk_model.specs.MemDisks.{told_of}
 use Rattle.disk_model.proofs.mem_disk.MemDiskDisk.sync.Goals as goal
 
 pub returns-clause-crash : goal.returns-clause-crash
-returns-clause-crash c = call-among c.args.self.now _ c.count.new.self c.count.ensures.rest c.settle-gone.ensures.crash
+returns-clause-crash c =
+    nothing_new-then (told_of c.args.self.now) (told_of c.settle-gone.new.self) (told_of c.count.new.self) c.settle-gone.ensures.crash c.settle-gone.ensures.goes_on c.count.ensures.goes_on
+    c.count.ensures.crash
 
-pub returns-clause-time : goal.returns-clause-time
-returns-clause-time c = call-time c.args.self.now _ c.count.new.self c.count.ensures.rest c.settle-gone.ensures.time
+pub returns-clause-goes_on : goal.returns-clause-goes_on
+returns-clause-goes_on c = goes_on-then (told_of c.args.self.now) (told_of c.settle-gone.new.self) (told_of c.count.new.self) c.settle-gone.ensures.goes_on c.count.ensures.goes_on c.count.ensures.crash

@@ -2,8 +2,8 @@ use Rattle.std.proofs.Common.{◌≡◌, ◌⊎◌, ℕ, ◌+◌, ◌-◌, ◌�
 use Rattle.std.specs.Prelude.{IsTrue, IfSome}
 use Rattle.std.specs.List.{AllByRecursion}
 use Rattle.std.proofs.lemmas.Result.{MatchResult-weaker}
-use Rattle.disk_model.proofs.Calling.{reaches-file}
-use Rattle.disk_model.proofs.Moments.{goes_further, leaves-weaker, now-has}
+use Rattle.disk_calls.proofs.Calling.{reaches-file}
+use Rattle.disk_calls.proofs.Moments.{goes_further, leaves-weaker, now-has}
 use Rattle.box_tree.specs.Views.{shown_entry}
 use Rattle.journal_format.specs.Files.{IsOwnFor}
 use Rattle.journal_format.specs.Faults.{IsAllowed, IsFree, Has}
@@ -15,7 +15,7 @@ use Rattle.node_journal.proofs.journal.Journal.«open».Goals as goal
 
 pub open_measured-requires-clause-settled : goal.open_measured-requires-clause-settled
 open_measured-requires-clause-settled g c = λ tells.
-    let was = reaches-file (g.D.Disk.reads c.args.disk.now) 0 (c.requires.attached (subst IsTrue c.measure.ensures.same_disk.same_telling tells)) in
+    let was = reaches-file (g.D.Disk.told c.args.disk.now).reads 0 (c.requires.attached (subst IsTrue c.measure.ensures.same_disk.same_telling tells)) in
     (was.0, c.in_ok-end.ensures.on_disk was.0 was.1)
 
 pub open_measured-requires-clause-size : goal.open_measured-requires-clause-size
@@ -66,30 +66,30 @@ returns-clause-refused g c =
 
 pub returns-clause-any_moment : goal.returns-clause-any_moment
 returns-clause-any_moment g c = λ file list is own stands.
-    let Q : List ℕ → Type 0 = λ k. g.D.Disk.may_leave c.args.disk.now k ⊎ IsOwnFor c.args.text.now list k in
-    let R : List ℕ → Type 0 = λ k. g.D.Disk.may_leave c.measure.new.disk k ⊎ IsOwnFor c.args.text.now list k in
-    let was = now-has g.D.Disk.moment g.D.Disk.left_since g.D.Disk.may_leave g.met.D.Disk.counts_now c.args.disk.now c.measure.new.disk (g.D.Disk.may_leave c.args.disk.now) c.measure.ensures.quiet in
-    goes_further g.D.Disk.moment g.D.Disk.left_since c.args.disk.now c.measure.new.disk c.open_measured.new.disk Q
-    (leaves-weaker g.D.Disk.moment g.D.Disk.left_since c.args.disk.now c.measure.new.disk (g.D.Disk.may_leave c.args.disk.now) Q (λ k now. inl now) c.measure.ensures.quiet)
-    (leaves-weaker g.D.Disk.moment g.D.Disk.left_since c.measure.new.disk c.open_measured.new.disk R Q (λ k here. elim here [ inl now ↦ inl (was k now) | inr own_now ↦ inr own_now ])
+    let Q : List ℕ → Type 0 = λ k. (g.D.Disk.told c.args.disk.now).may_leave k ⊎ IsOwnFor c.args.text.now list k in
+    let R : List ℕ → Type 0 = λ k. (g.D.Disk.told c.measure.new.disk).may_leave k ⊎ IsOwnFor c.args.text.now list k in
+    let was = now-has (g.D.Disk.told c.args.disk.now) (g.D.Disk.told c.measure.new.disk) (g.D.Disk.told c.args.disk.now).may_leave c.measure.ensures.quiet in
+    goes_further (g.D.Disk.told c.args.disk.now) (g.D.Disk.told c.measure.new.disk) (g.D.Disk.told c.open_measured.new.disk) Q
+    (leaves-weaker (g.D.Disk.told c.args.disk.now) (g.D.Disk.told c.measure.new.disk) (g.D.Disk.told c.args.disk.now).may_leave Q (λ k now. inl now) c.measure.ensures.quiet)
+    (leaves-weaker (g.D.Disk.told c.measure.new.disk) (g.D.Disk.told c.open_measured.new.disk) R Q (λ k here. elim here [ inl now ↦ inl (was k now) | inr own_now ↦ inr own_now ])
     (c.open_measured.ensures.any_moment c.args.text.now file list (c.in_ok-end.ensures.on_disk file is) (c.deref.ensures.value ∙ c.in_ok-whole.ensures) own stands))
 
 pub returns-in_err-room-clause-any_moment : goal.returns-in_err-room-clause-any_moment
 returns-in_err-room-clause-any_moment g c = λ file list is own stands.
-    let Q : List ℕ → Type 0 = λ k. g.D.Disk.may_leave c.args.disk.now k ⊎ IsOwnFor c.args.text.now list k in
-    leaves-weaker g.D.Disk.moment g.D.Disk.left_since c.args.disk.now c.args.disk.now (g.D.Disk.may_leave c.args.disk.now) Q (λ k now. inl now)
-    (quiet-start g.D.Disk.moment g.D.Disk.left_since g.D.Disk.may_leave g.met.D.Disk.counts_now g.met.D.Disk.only_now c.args.disk.now)
+    let Q : List ℕ → Type 0 = λ k. (g.D.Disk.told c.args.disk.now).may_leave k ⊎ IsOwnFor c.args.text.now list k in
+    leaves-weaker (g.D.Disk.told c.args.disk.now) (g.D.Disk.told c.args.disk.now) (g.D.Disk.told c.args.disk.now).may_leave Q (λ k now. inl now)
+    (quiet-start (g.D.Disk.told c.args.disk.now))
 
 pub returns-in_err-whole-clause-any_moment : goal.returns-in_err-whole-clause-any_moment
 returns-in_err-whole-clause-any_moment g c = λ file list is own stands.
-    let Q : List ℕ → Type 0 = λ k. g.D.Disk.may_leave c.args.disk.now k ⊎ IsOwnFor c.args.text.now list k in
-    leaves-weaker g.D.Disk.moment g.D.Disk.left_since c.args.disk.now c.args.disk.now (g.D.Disk.may_leave c.args.disk.now) Q (λ k now. inl now)
-    (quiet-start g.D.Disk.moment g.D.Disk.left_since g.D.Disk.may_leave g.met.D.Disk.counts_now g.met.D.Disk.only_now c.args.disk.now)
+    let Q : List ℕ → Type 0 = λ k. (g.D.Disk.told c.args.disk.now).may_leave k ⊎ IsOwnFor c.args.text.now list k in
+    leaves-weaker (g.D.Disk.told c.args.disk.now) (g.D.Disk.told c.args.disk.now) (g.D.Disk.told c.args.disk.now).may_leave Q (λ k now. inl now)
+    (quiet-start (g.D.Disk.told c.args.disk.now))
 
 pub returns-in_err-end-clause-any_moment : goal.returns-in_err-end-clause-any_moment
 returns-in_err-end-clause-any_moment g c = λ file list is own stands.
-    let Q : List ℕ → Type 0 = λ k. g.D.Disk.may_leave c.args.disk.now k ⊎ IsOwnFor c.args.text.now list k in
-    leaves-weaker g.D.Disk.moment g.D.Disk.left_since c.args.disk.now c.measure.new.disk (g.D.Disk.may_leave c.args.disk.now) Q (λ k now. inl now) c.measure.ensures.quiet
+    let Q : List ℕ → Type 0 = λ k. (g.D.Disk.told c.args.disk.now).may_leave k ⊎ IsOwnFor c.args.text.now list k in
+    leaves-weaker (g.D.Disk.told c.args.disk.now) (g.D.Disk.told c.measure.new.disk) (g.D.Disk.told c.args.disk.now).may_leave Q (λ k now. inl now) c.measure.ensures.quiet
 
 pub returns-clause-decided : goal.returns-clause-decided
 returns-clause-decided g c = λ file is.
@@ -116,6 +116,5 @@ returns-clause-untouched g c =
     MatchResult-weaker c.open_measured.result c.open_measured.ensures.untouched (λ o free. free)
     (λ e left. elim left [
       | inl free ↦ inl free
-      | inr quiet ↦ inr (quiet-then g.D.Disk.moment g.D.Disk.left_since g.D.Disk.may_leave
-          g.met.D.Disk.counts_now g.met.D.Disk.only_now c.args.disk.now c.measure.new.disk c.open_measured.new.disk c.measure.ensures.quiet quiet)
+      | inr quiet ↦ inr (quiet-then (g.D.Disk.told c.args.disk.now) (g.D.Disk.told c.measure.new.disk) (g.D.Disk.told c.open_measured.new.disk) c.measure.ensures.quiet quiet)
     ])

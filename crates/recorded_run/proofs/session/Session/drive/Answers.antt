@@ -2,13 +2,14 @@
 use Rattle.std.proofs.Common.{[], ◌∷◌, ◌++◌, Err, ap, subst, sym, ◌∙◌}
 use Rattle.std.specs.Prelude.{IsTrue}
 use Rattle.std.proofs.lemmas.Result.{err_from_is_err_and}
+use Rattle.disk_calls.proofs.Moments.{same_disk-same, same_disk-then}
 use Rattle.pool_model.specs.Network.{net_of}
 use Rattle.row_model.specs.Entries.{Searched, start, IsEntryInOrder}
 use Rattle.box_tree.specs.Views.{shown_entry}
 use Rattle.search_core.specs.Searches.{searched}
 use Rattle.search_run.proofs.Stepping.{way-start, way-more, next-step, next-closed, next-stopped, next-stuck, next-infeasible, next-undecided}
 use Rattle.search_run.proofs.Nearer.{nearer}
-use Rattle.recorded_run.proofs.Recording.{so_far-start, so_far-moments, in_order-more, begins-more, recorded-more, kept-stands, recorded-stands, same_disk-same, same_disk-then}
+use Rattle.recorded_run.proofs.Recording.{so_far-start, so_far-moments, in_order-more, begins-more, recorded-more, kept-stands, recorded-stands}
 use Rattle.recorded_run.proofs.session.Session.drive.Goals as goal
 
 pub steps-init : goal.steps-init
@@ -17,9 +18,8 @@ steps-init g c = record {
   way = way-start (net_of c.args.net.now) c.args.orders (searched c.args.self.now.search);
   left = c.requires.left;
   so_far = λ text first is.
-      so_far-start (net_of c.args.net.now) g.D.Disk.moment g.D.Disk.left_since g.D.Disk.reads g.D.Disk.may_leave g.met.D.Disk.counts_now g.met.D.Disk.only_now
-      text first c.args.disk.now c.args.self.now.journal.gate (searched c.args.self.now.search) is;
-  same_disk = same_disk-same g.D.Disk.faults g.D.Disk.tells g.D.Disk.admits c.args.disk.now;
+      so_far-start (net_of c.args.net.now) text first (g.D.Disk.told c.args.disk.now) c.args.self.now.journal.gate (searched c.args.self.now.search) is;
+  same_disk = same_disk-same (g.D.Disk.told c.args.disk.now);
 }
 
 pub steps-preserved : goal.steps-preserved
@@ -47,13 +47,12 @@ steps-preserved g c =
           record {
             last = so.last ++ e ∷ [];
             begins = begins-more so.last first e so.begins;
-            any_moment = so_far-moments n g.D.Disk.moment g.D.Disk.left_since g.D.Disk.reads g.D.Disk.may_leave g.met.D.Disk.counts_now g.met.D.Disk.only_now
-                text first so.last e c.args.disk.now c.steps.disk c.record.new.disk so.begins so.held.in_order (in_order-more n start so.last e so.held.in_order order) so.any_moment
+            any_moment = so_far-moments n text first so.last e (g.D.Disk.told c.args.disk.now) (g.D.Disk.told c.steps.disk) (g.D.Disk.told c.record.new.disk) so.begins so.held.in_order (in_order-more n start so.last e so.held.in_order order) so.any_moment
                 (c.record.ensures.any_moment text so.held.file so.last so.held.on_disk so.held.kept);
-            held = recorded-more n text so.last e then.journal.gate (searched s) (searched then.search) put.0 (g.D.Disk.reads c.record.new.disk) (g.D.Disk.may_leave c.record.new.disk)
+            held = recorded-more n text so.last e then.journal.gate (searched s) (searched then.search) put.0 (g.D.Disk.told c.record.new.disk)
                 so.held.in_order so.held.made in_order done.taken put.1 put.2;
           };
-      same_disk = same_disk-then g.D.Disk.faults g.D.Disk.tells g.D.Disk.admits c.args.disk.now c.steps.disk c.record.new.disk c.steps.invariant.same_disk c.record.ensures.same_disk;
+      same_disk = same_disk-then (g.D.Disk.told c.args.disk.now) (g.D.Disk.told c.steps.disk) (g.D.Disk.told c.record.new.disk) c.steps.invariant.same_disk c.record.ensures.same_disk;
     }
 
 pub steps-smaller : goal.steps-smaller
@@ -80,8 +79,7 @@ returns-in_err-entry-clause-recorded g c =
       last = so.last;
       begins = so.begins;
       any_moment = so.any_moment;
-      held = λ memory. recorded-stands (net_of c.args.net.now) text so.last c.steps.self.journal.gate (searched c.steps.self.search) (g.D.Disk.reads c.steps.disk)
-          (g.D.Disk.may_leave c.steps.disk) so.held;
+      held = λ memory. recorded-stands (net_of c.args.net.now) text so.last c.steps.self.journal.gate (searched c.steps.self.search) (g.D.Disk.told c.steps.disk) so.held;
     })
 
 pub returns-in_err-record-in-Do-clause-recorded : goal.returns-in_err-record-in-Do-clause-recorded
@@ -98,18 +96,17 @@ returns-in_err-record-in-Do-clause-recorded g c =
     record {
       last = so.last ++ e ∷ [];
       begins = begins-more so.last first e so.begins;
-      any_moment = so_far-moments n g.D.Disk.moment g.D.Disk.left_since g.D.Disk.reads g.D.Disk.may_leave g.met.D.Disk.counts_now g.met.D.Disk.only_now
-          text first so.last e c.args.disk.now c.steps.disk c.record.new.disk so.begins so.held.in_order (in_order-more n start so.last e so.held.in_order order) so.any_moment
+      any_moment = so_far-moments n text first so.last e (g.D.Disk.told c.args.disk.now) (g.D.Disk.told c.steps.disk) (g.D.Disk.told c.record.new.disk) so.begins so.held.in_order (in_order-more n start so.last e so.held.in_order order) so.any_moment
           (c.record.ensures.any_moment text so.held.file so.last so.held.on_disk so.held.kept);
       held = λ memory.
           let put = c.in_err-record-in-Do.ensures.kept (ap Err memory) text so.held.file so.last so.held.on_disk so.held.kept in
-          kept-stands n text (so.last ++ e ∷ []) c.record.new.self.journal.gate put.0 (g.D.Disk.reads c.record.new.disk) (g.D.Disk.may_leave c.record.new.disk)
+          kept-stands n text (so.last ++ e ∷ []) c.record.new.self.journal.gate put.0 (g.D.Disk.told c.record.new.disk)
           (in_order-more n start so.last e so.held.in_order order) put.1 put.2;
     })
 
 pub returns-in_err-record-in-Do-clause-same_disk : goal.returns-in_err-record-in-Do-clause-same_disk
 returns-in_err-record-in-Do-clause-same_disk g c =
-    same_disk-then g.D.Disk.faults g.D.Disk.tells g.D.Disk.admits c.args.disk.now c.steps.disk c.record.new.disk c.steps.invariant.same_disk c.record.ensures.same_disk
+    same_disk-then (g.D.Disk.told c.args.disk.now) (g.D.Disk.told c.steps.disk) (g.D.Disk.told c.record.new.disk) c.steps.invariant.same_disk c.record.ensures.same_disk
 
 pub returns-in-Closed-clause-run : goal.returns-in-Closed-clause-run
 returns-in-Closed-clause-run g c =

@@ -1,9 +1,9 @@
 use Rattle.std.proofs.Common.{ℕ, List}
 use Rattle.std.specs.Prelude.{IsTrue}
+use Rattle.disk_calls.specs.Disks.{IsSameDisk}
 use Rattle.pool_model.specs.Network.{net_of}
 use Rattle.row_model.specs.Entries.{Entry}
 use Rattle.node_journal.specs.Journals.{IsLeft}
-use Rattle.node_journal.specs.Settled.{IsSameDisk}
 use Rattle.search_core.specs.Searches.{searched}
 use Rattle.search_run.specs.Left.{left}
 use Rattle.search_run.proofs.Stepping.{IsWay}
@@ -16,10 +16,10 @@ abbrev pub invariant-steps : goal.invariant-steps
 invariant-steps g l = record {
   session : IsSession (net_of l.net) l.orders l.self;
   way : IsWay (net_of l.net) l.orders (searched l.fn.self.search) (searched l.self.search);
-  left : IsTrue (g.D.Disk.tells l.disk) → IsLeft l.self.journal (g.D.Disk.reads l.disk) (g.D.Disk.may_leave l.disk);
-  so_far : (text : List ℕ) (first : List Entry) → IsRecorded (net_of l.net) text first l.fn.self.journal.gate (searched l.fn.self.search) (g.D.Disk.reads l.fn.disk) (g.D.Disk.may_leave l.fn.disk)
-      → SoFar (net_of l.net) g.D.Disk.moment g.D.Disk.left_since g.D.Disk.reads g.D.Disk.may_leave text first l.fn.disk l.disk l.self.journal.gate (searched l.self.search);
-  same_disk : IsSameDisk g.D.Disk.faults g.D.Disk.tells g.D.Disk.admits l.fn.disk l.disk;
+  left : IsTrue (g.D.Disk.told l.disk).tells → IsLeft l.self.journal (g.D.Disk.told l.disk);
+  so_far : (text : List ℕ) (first : List Entry) → IsRecorded (net_of l.net) text first l.fn.self.journal.gate (searched l.fn.self.search) (g.D.Disk.told l.fn.disk)
+      → SoFar (net_of l.net) text first (g.D.Disk.told l.fn.disk) (g.D.Disk.told l.disk) l.self.journal.gate (searched l.self.search);
+  same_disk : IsSameDisk (g.D.Disk.told l.fn.disk) (g.D.Disk.told l.disk);
 }
 
 abbrev pub decreases-steps : goal.decreases-steps
