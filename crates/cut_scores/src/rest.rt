@@ -17,7 +17,7 @@ pub struct Aim {
     bound: i128,
     /// What no bound needs to pass, in picos.
     cutoff: i128,
-    /// The bound at which a half is closed, in picos; none where there is no plan.
+    /// The bound at which a half is closed, in picos; none where there is no plan, or gains alone count.
     target: Option<i128>,
 }
 
@@ -32,13 +32,22 @@ impl Aim {
         }
     }
 
+    /// The aim that goes by gains alone, whether there is a plan or not.
+    pub fn by_gains(best: Option<Cost>, bound: i128) -> Aim {
+        Aim {
+            bound,
+            cutoff: cutoff(best, bound),
+            target: None,
+        }
+    }
+
     /// What no bound needs to pass, in picos.
     pub fn cutoff(&self) -> i128 {
         self.cutoff
     }
 
-    /// How good a cut is whose halves have these bounds, the greater the better: less what it leaves to be done or, as long as there
-    /// is no plan, the product of what both halves gain. What has no bound holds no plan.
+    /// How good a cut is whose halves have these bounds, the greater the better: less what it leaves to be done or, where there is
+    /// no target, the product of what both halves gain. What has no bound holds no plan.
     pub fn worth(&self, halves: [Option<i128>; 2]) -> i128 {
         let [left, right] = halves;
         match self.target {

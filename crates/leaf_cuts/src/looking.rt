@@ -14,7 +14,7 @@ use crate::halving::Halving;
 use crate::leaf::Leaf;
 use crate::view::leaf_view;
 use blend_network::Network;
-use box_space::{can_cut, coords};
+use box_space::{Form, can_cut, coords};
 use box_tree::Tree;
 use branching::LeafView;
 use cut_scores::{Aim, cutoff, misses, violations};
@@ -30,6 +30,10 @@ const MANY_SPLITS: usize = 256;
 
 const LEAST_PATIENCE: usize = 2;
 
+/// How many coordinates are looked at in form P, at the most. There the greatest product of gains leads: the least rest gave worse plans
+/// and bounds on adhya4.
+const MIXED_LOOKS: u32 = 3;
+
 /// How a look goes on, and what its cuts are compared by.
 #[derive(Clone, Copy)]
 struct Look {
@@ -41,6 +45,23 @@ struct Look {
 }
 
 impl Look {
+    /// The look of a form at a leaf of a tree with this bound, of at most `looks` coordinates.
+    fn new(form: Form, tree: &Tree, bound: i128, looks: u32, gap: i128) -> Look {
+        let best = tree.best_cost();
+        match form {
+            Form::P => Look {
+                most: looks.min(MIXED_LOOKS),
+                patience: MIXED_LOOKS as usize,
+                aim: Aim::by_gains(best, bound),
+            },
+            Form::Q | Form::Pq => Look {
+                most: looks,
+                patience: patience(tree.splits().len()),
+                aim: Aim::new(best, gap, bound),
+            },
+        }
+    }
+
     /// Whether to look on after some cuts: enough of the last ones lead.
     fn goes_on(&self, halvings: &[Halving]) -> bool {
         let behind = halvings.len().saturating_sub(self.leading(halvings));
@@ -112,11 +133,7 @@ impl Bench {
             → IfOk result (λ l. All (IsHalvingOf (net_of net.now) self.old.form b leaf.now.bound) l.halvings.items) }
     {
         let mut misses = self.misses(alloc, net, tree, leaf, looks)?;
-        let look = Look {
-            most: looks,
-            patience: patience(tree.splits().len()),
-            aim: Aim::new(tree.best_cost(), gap, leaf.bound),
-        };
+        let look = Look::new(self.form, tree, leaf.bound, looks, gap);
         self.look_by(alloc, net, leaf, misses.as_mut_slice(), look)
     }
 
