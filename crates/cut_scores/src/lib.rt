@@ -9,6 +9,9 @@
 //! | [`Gains::add_cut`] | what the cuts of each coordinate gained so far, cut after cut, up to the [`cutoff`] |
 //! | [`misses`] | the score: both together, and how wide the coordinate still is |
 //!
+//! Where both halves of some coordinates were solved, an [`Aim`] says which cut is the best of them: the one that leaves the least to
+//! be done.
+//!
 //! Nobody has to trust any of it: a cut rule may pick any row, and whatever is cut is proved anew. So all that is promised is that
 //! each call returns, for all bounds and every advice, of whatever program. Sums and products wrap or keep to their range, and what is
 //! not there counts as nothing.
@@ -18,10 +21,12 @@
 #![tactic(auto)]
 
 mod gains;
+mod rest;
 mod score;
 mod square_root;
 mod violation;
 
 pub use gains::{Gains, cutoff};
+pub use rest::Aim;
 pub use score::misses;
 pub use violation::violations;

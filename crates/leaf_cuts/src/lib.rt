@@ -14,8 +14,9 @@
 //!
 //! - A program starts where the one above it ended. The least leaf's starts from the proof of the nearest node that has one, and
 //!   those of its halves from the leaf's basis. The first ten are solved from nothing, since other vertices give other plans.
-//! - Where a look is asked for, both halves of so many coordinates are solved, those that are missed the most by what `cut_scores` says,
-//!   and the one that gains the most gets the greatest number. The rows of the view have these numbers, and else none.
+//! - Where a look is asked for, both halves of coordinates are solved, those first that are missed the most by what `cut_scores` says, up
+//!   to so many and as long as new ones lead; and the one whose cut leaves the least to be done gets the greatest number. The rows of
+//!   the view have these numbers, and else none.
 //!
 //! When a leaf is looked at or cut, and what else a search does, is left to the crates above.
 //!

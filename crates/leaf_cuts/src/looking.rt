@@ -14,14 +14,93 @@ use crate::halving::Halving;
 use crate::leaf::Leaf;
 use crate::view::leaf_view;
 use blend_network::Network;
-use box_space::{can_cut, coords};
+use box_space::{Form, can_cut, coords};
 use box_tree::Tree;
 use branching::LeafView;
-use cut_scores::{cutoff, misses, violations};
+use cut_scores::{Aim, cutoff, misses, violations};
 use edge_io::Memory;
-use lp_sparse::fixed::clamped;
 use lp_sparse::lookup::put;
 use std::alloc::{AllocError, Global};
+
+/// How many cuts in a row may fail to lead before a look ends, by the count of splits so far: 2 below 32 splits, 3 below 256, then 4.
+/// Measured on adhya1, adhya2, and made networks. In small trees a look is dear, and in large ones a split is.
+const FEW_SPLITS: usize = 32;
+
+const MANY_SPLITS: usize = 256;
+
+const LEAST_PATIENCE: usize = 2;
+
+/// How many coordinates are looked at in form P, at the most. There the greatest product of gains leads: the least rest gave worse plans
+/// and bounds on adhya4.
+const MIXED_LOOKS: u32 = 3;
+
+/// How a look goes on, and what its cuts are compared by.
+#[derive(Clone, Copy)]
+struct Look {
+    /// How many coordinates are looked at, at the most.
+    most: u32,
+    /// How many in a row may fail to lead.
+    patience: usize,
+    aim: Aim,
+}
+
+impl Look {
+    /// The look of a form at a leaf of a tree with this bound, of at most `looks` coordinates.
+    fn new(form: Form, tree: &Tree, bound: i128, looks: u32, gap: i128) -> Look {
+        let best = tree.best_cost();
+        match form {
+            Form::P => Look {
+                most: looks.min(MIXED_LOOKS),
+                patience: MIXED_LOOKS as usize,
+                aim: Aim::by_gains(best, bound),
+            },
+            Form::Q | Form::Pq => Look {
+                most: looks,
+                patience: patience(tree.splits().len()),
+                aim: Aim::new(best, gap, bound),
+            },
+        }
+    }
+
+    /// Whether to look on after some cuts: enough of the last ones lead.
+    fn goes_on(&self, halvings: &[Halving]) -> bool {
+        let behind = halvings.len().saturating_sub(self.leading(halvings));
+        behind <= self.patience
+    }
+
+    /// The place of the cut that leads: the first of the best.
+    fn leading(&self, halvings: &[Halving]) -> usize {
+        let mut lead = 0;
+        let mut most = i128::MIN;
+        for (place, halving) in halvings.iter().enumerate() {
+            let worth = self.aim.worth(halving.bounds);
+            if worth > most {
+                most = worth;
+                lead = place;
+            }
+        }
+        lead
+    }
+
+    /// The coordinate of the cut that leads; past all coordinates where none is there.
+    fn leader(&self, halvings: &[Halving]) -> u32 {
+        match halvings.get(self.leading(halvings)) {
+            Some(halving) => halving.coord,
+            None => u32::MAX,
+        }
+    }
+}
+
+/// How many cuts in a row may fail to lead, at so many splits.
+fn patience(splits: usize) -> usize {
+    if splits < FEW_SPLITS {
+        LEAST_PATIENCE
+    } else if splits < MANY_SPLITS {
+        LEAST_PATIENCE + 1
+    } else {
+        LEAST_PATIENCE + 2
+    }
+}
 
 /// What a look at a leaf found: the leaf as a cut rule sees it, and the cuts whose halves are proved already.
 #[derive(Drop)]
@@ -32,8 +111,8 @@ pub struct Looked {
 
 impl Bench {
     /// Looks at a leaf of a tree whose program stands on the bench. It proves both halves of the coordinates that are missed the most,
-    /// at most `looks` of them, and shows the leaf, with what each coordinate is missed by; of all those the one that gained the most
-    /// has the greatest number.
+    /// at most `looks` of them and as long as it helps, and shows the leaf, with what each coordinate is missed by; of all those the one
+    /// whose cut leaves the least to be done has the greatest number. The gap is the one that is enough, in picos.
     pub fn look(
         &mut self,
         alloc: Global,
@@ -41,6 +120,7 @@ impl Bench {
         tree: &Tree,
         leaf: &Leaf,
         looks: u32,
+        gap: i128,
     ) -> Result<Looked, Memory>
         requires limited { IsLimited (net_of net.now) }
         requires ends { AreEnds (net_of net.now) leaf.now.ends }
@@ -53,8 +133,8 @@ impl Bench {
             → IfOk result (λ l. All (IsHalvingOf (net_of net.now) self.old.form b leaf.now.bound) l.halvings.items) }
     {
         let mut misses = self.misses(alloc, net, tree, leaf, looks)?;
-        let most = cutoff(tree.best_cost(), leaf.bound);
-        self.look_by(alloc, net, leaf, misses.as_mut_slice(), looks, most)
+        let look = Look::new(self.form, tree, leaf.bound, looks, gap);
+        self.look_by(alloc, net, leaf, misses.as_mut_slice(), look)
     }
 
     /// By how much each coordinate of a leaf of a tree is missed; nothing where none is looked at.
@@ -77,15 +157,14 @@ impl Bench {
         misses(alloc, net, form, &leaf.ends, violated.as_slice(), &gains)
     }
 
-    /// Looks at a leaf by what each coordinate is missed by; what a half gains counts up to a cutoff.
+    /// Looks at a leaf by what each coordinate is missed by.
     fn look_by(
         &mut self,
         alloc: Global,
         net: &Network,
         leaf: &Leaf,
         misses: &mut [u64],
-        looks: u32,
-        cutoff: i128,
+        look: Look,
     ) -> Result<Looked, Memory>
         requires limited { IsLimited (net_of net.now) }
         requires ends { AreEnds (net_of net.now) leaf.now.ends }
@@ -96,21 +175,22 @@ impl Bench {
         ensures halvings { (b : Box) → AreEndsOf (net_of net.now) b leaf.now.ends
             → IfOk result (λ l. All (IsHalvingOf (net_of net.now) self.old.form b leaf.now.bound) l.halvings.items) }
     {
-        let best = ranked(alloc, misses, looks)?;
-        let halvings = self.halved(alloc, net, leaf, best.as_slice())?;
-        let top = most_gained(halvings.as_slice(), leaf.bound, cutoff);
+        let best = ranked(alloc, misses, look.most)?;
+        let halvings = self.halved(alloc, net, leaf, best.as_slice(), look)?;
+        let top = look.leader(halvings.as_slice());
         put(misses, top as usize, u64::MAX);
         let view = leaf_view(alloc, net, self.form, leaf.node, &leaf.ends, misses)?;
         Ok(Looked { view, halvings })
     }
 
-    /// The cuts of a leaf at those of some coordinates where it can be cut.
+    /// The cuts of a leaf at those of some coordinates where it can be cut, as long as looking helps.
     fn halved(
         &mut self,
         alloc: Global,
         net: &Network,
         leaf: &Leaf,
         best: &[u32],
+        look: Look,
     ) -> Result<Vec<Halving>, Memory>
         requires limited { IsLimited (net_of net.now) }
         requires ends { AreEnds (net_of net.now) leaf.now.ends }
@@ -122,7 +202,10 @@ impl Bench {
     {
         let mut halvings = Vec::new(alloc);
         for coord in best {
-            if *coord < coords(net) && can_cut(&leaf.ends.view(), *coord) {
+            if look.goes_on(halvings.as_slice())
+                && *coord < coords(net)
+                && can_cut(&leaf.ends.view(), *coord)
+            {
                 let halving = self.halve(alloc, net, leaf, *coord)?;
                 halvings.push(halving)?;
             }
@@ -131,7 +214,8 @@ impl Bench {
     }
 }
 
-/// The coordinates of the greatest numbers above 0, the greatest first, and at a tie the first; at most `count` of them.
+/// The coordinates of the greatest numbers above 0, the greatest first, and at a tie the first; at most `count` of them. Those of the
+/// number 1, which aren't missed at all, are left out but for the first.
 fn ranked(alloc: Global, misses: &[u64], count: u32) -> Result<Vec<u32>, AllocError> {
     let mut best = Vec::new(alloc);
     for _ in 0..count {
@@ -144,38 +228,10 @@ fn ranked(alloc: Global, misses: &[u64], count: u32) -> Result<Vec<u32>, AllocEr
                 found = coord;
             }
         }
-        if greatest == 0 {
+        if greatest == 0 || (greatest == 1 && !best.is_empty()) {
             return Ok(best);
         }
         best.push(found)?;
     }
     Ok(best)
-}
-
-/// The coordinate of the cut that gains the most, the first of them at a tie; past all coordinates where none is there.
-fn most_gained(halvings: &[Halving], bound: i128, cutoff: i128) -> u32 {
-    let mut most = 0;
-    let mut top = u32::MAX;
-    for halving in halvings {
-        let gain = gain_of(halving, bound, cutoff);
-        if gain > most {
-            most = gain;
-            top = halving.coord;
-        }
-    }
-    top
-}
-
-/// The product of what both halves gain, each of them at least 1.
-fn gain_of(halving: &Halving, bound: i128, cutoff: i128) -> i128 {
-    let [left, right] = halving.bounds;
-    let left = half_gain(left, bound, cutoff);
-    let right = half_gain(right, bound, cutoff);
-    i128::from(left).saturating_mul(i128::from(right))
-}
-
-/// How far a half's bound is above the leaf's, in units of 2^20 picos; at most up to the cutoff.
-fn half_gain(half: Option<i128>, bound: i128, cutoff: i128) -> i64 {
-    let reached = half.unwrap_or(cutoff).min(cutoff);
-    clamped(reached.saturating_sub(bound).unbounded_shr(20)).max(1)
 }

@@ -13,7 +13,7 @@ pub struct Options {
     pub gap: i128,
     /// How often a program's basis may change at the most.
     pub pivots: u32,
-    /// Of how many coordinates both halves are solved before one is cut. With 0 no coordinate is looked at, and the rows of a view
+    /// Of how many coordinates both halves are solved before one is cut, at the most. With 0 no coordinate is looked at, and the rows of a view
     /// say nothing of what a cut may gain.
     pub looks: u32,
 }

@@ -11,6 +11,7 @@ ghost use Rattle.search_core.specs.Cases.{HasPlan};
 ghost use Rattle.search_core.specs.Next.{GoesOn, IsNext, IsDo};
 
 use crate::next::Next;
+use crate::options::Options;
 use crate::search::Search;
 use blend_network::Network;
 use box_tree::Entry;
@@ -39,7 +40,8 @@ impl Search {
             (⟦<branching::RuleClosure as Fn(&branching::LeafView) -> usize>⟧.post rule.now.closure)) }
         ensures in_order { IfOk result (IsDo (λ entry. IsEntryInOrder (net_of net.now) (searched self.now) (shown_entry entry))) }
     {
-        let looked = bench.look(alloc, net, &self.tree, leaf, self.options.looks)?;
+        let Options { looks, gap, .. } = self.options;
+        let looked = bench.look(alloc, net, &self.tree, leaf, looks, gap)?;
         if !looked.view.has_open() {
             return Ok(self.stuck());
         }

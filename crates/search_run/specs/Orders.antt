@@ -9,9 +9,9 @@ use Rattle.branching.specs.declared.name.RuleName.TheVariants.{First, Widest, Vi
 use Rattle.search_core.specs.declared.options.Options.{Options}
 use Rattle.search_run.specs.declared.orders.Orders.{Orders}
 
--- how many coordinates are looked at before one is cut
+-- how many coordinates are looked at before one is cut, at the most
 abbrev pub looks_of : RuleName → ℕ
-looks_of Violated = 3
+looks_of Violated = 12
 looks_of First = 0
 looks_of Widest = 0
 looks_of Fewest = 0

@@ -10,8 +10,8 @@ use search_core::Options;
 /// How often the simplex method may change its basis, for one program.
 const PIVOTS: u32 = 10_000;
 
-/// Of how many coordinates both halves are solved before one is cut, where the rule goes by what they gain.
-const LOOKS: u32 = 3;
+/// Of how many coordinates both halves are solved before one is cut, at the most, where the rule goes by what they leave to be done.
+const LOOKS: u32 = 12;
 
 /// What a run is asked for.
 #[derive(Clone, Copy, Debug, PartialEq, Eq)]
@@ -41,7 +41,7 @@ impl Orders {
     }
 }
 
-/// How many coordinates are looked at: the other rules ask for no numbers of what a cut gains.
+/// How many coordinates are looked at, at the most: the other rules ask for no numbers of what a cut leaves to be done.
 fn looks_of(rule: RuleName) -> u32
     ensures { result ≡ given.looks_of rule }
 {

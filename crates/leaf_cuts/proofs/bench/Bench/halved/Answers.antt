@@ -5,7 +5,7 @@ use Rattle.box_space.specs.declared.coordinates.Form.{Form}
 use Rattle.leaf_cuts.specs.declared.halving.Halving.{Halving}
 use Rattle.leaf_cuts.specs.Halvings.{IsHalvingOf}
 use Rattle.leaf_cuts.proofs.bench.Bench.halved.Goals as goal
-use Rattle.leaf_cuts.proofs.bench.Bench.halved.Goals.{then-coord-coords+then-can_cut+in_ok-halving+in_ok-push, else-coord-coords}
+use Rattle.leaf_cuts.proofs.bench.Bench.halved.Goals.{then-goes_on+then-coord-coords+then-can_cut+in_ok-halving+in_ok-push, else-goes_on}
 
 pub loop-coord-preserved : goal.loop-coord-preserved
 loop-coord-preserved c =
@@ -13,8 +13,8 @@ loop-coord-preserved c =
     let form = c.args.self.now.form in
     let least = c.args.leaf.now.bound in
     let halvings = c.loop-coord.halvings.items in
-    elim c.if-coord-coords.branch [
-      | then-coord-coords+then-can_cut+in_ok-halving+in_ok-push w ↦ rw w.self-is (rw w.halvings-is record {
+    elim c.if-goes_on.branch [
+      | then-goes_on+then-coord-coords+then-can_cut+in_ok-halving+in_ok-push w ↦ rw w.self-is (rw w.halvings-is record {
         bench = w.halve.ensures.bench;
         form = w.halve.ensures.form ∙ c.loop-coord.invariant.form;
         halvings = λ b is.
@@ -24,5 +24,5 @@ loop-coord-preserved c =
             (All-append (IsHalvingOf n form b least) halvings (halving ∷ []) (c.loop-coord.invariant.halvings b is)
             (All-cons (IsHalvingOf n form b least) halving [] this (All-nil (IsHalvingOf n form b least))));
       })
-      | else-coord-coords w ↦ rw w.self-is (rw w.halvings-is c.loop-coord.invariant)
+      | else-goes_on w ↦ rw w.self-is (rw w.halvings-is c.loop-coord.invariant)
     ]
