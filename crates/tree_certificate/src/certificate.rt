@@ -10,8 +10,10 @@ ghost use Rattle.plan_core.specs.Views.{shown_plan};
 ghost use Rattle.box_space.specs.Views.{shown_proof};
 ghost use Rattle.box_tree.specs.Kept.{searched_of, IsOf};
 ghost use Rattle.cert_format.specs.Cert.{IsCert};
+ghost use Rattle.cert_format.specs.Text.{text_of};
 ghost use Rattle.cert_format.specs.Valid.{IsValid};
 ghost use Rattle.cert_format.specs.Views.{shown_cert, shown_claim, shown_node_proof};
+ghost use Rattle.cert_lengths.specs.Lengths.{HasFewRows, most_bytes};
 ghost use Rattle.tree_certificate.specs.Certificates.{cert_of, claim_of as claim_by, gap_of, line_of, node_proofs as lines_of};
 
 use blend_network::Network;
@@ -32,6 +34,9 @@ pub fn certificate_of(alloc: Global, net: &Network, tree: Tree) -> Result<Certif
     ensures valid { IfOk result (λ c. IsValid (net_of net.now) (shown_cert c)) }
     // Promise: The certificate of a tree is valid, and has a text
     ensures held { IfOk result (λ c. IsCert (shown_cert c)) }
+    // Promise: The text of the certificate of a tree has at most 1,073,741,824 bytes, where twice its cuts and one, times the rows of the
+    //   network, is at most 32,000,000
+    ensures short { IfOk result (λ c. HasFewRows (net_of net.now) (length (shown_cert c).splits) → length (text_of (shown_cert c)) ≤ most_bytes) }
     ensures limited { IsLimited (net_of net.now) }
 {
     let shape = net.counts();

@@ -9,6 +9,7 @@ use Rattle.cert_format.specs.Valid.{IsValid}
 use Rattle.cert_format.specs.Views.{shown_claim, shown_node_proof}
 use Rattle.blend_network.proofs.Margins.{reach-small}
 use Rattle.row_book.proofs.RowCount.{few-rows}
+use Rattle.cert_lengths.proofs.ValidTexts.{short_enough}
 use Rattle.tree_certificate.proofs.Found.{found_cert, found_shaped, found_valid, held_bound, tree_low}
 use Rattle.tree_certificate.proofs.certificate.certificate_of.Goals as goal
 
@@ -64,3 +65,6 @@ returns-clause-valid c =
     (c.bound-bound.ensures.bound n c.requires) c.into_parts-parts.ensures.splits c.in_ok-node_proofs.ensures (sym (length-map c.into_parts-parts.result.proofs.items (option_map shown_proof)))
     c.into_parts-parts.ensures.proofs c.requires.kept.proved in
     subst (IsValid n) (sym found) (found_valid n (searched_of k) c.counts-shape.ensures.limited c.requires.kept.searched)
+
+pub returns-clause-short : goal.returns-clause-short
+returns-clause-short c = λ few. short_enough (net_of c.args.net.now) _ c.counts-shape.ensures.limited c.cert_law.ensures (returns-clause-valid c) few

@@ -1,0 +1,4 @@
+-- Lemmas behind the laws.
+pub mod Lines
+pub mod Texts
+pub mod ValidTexts
