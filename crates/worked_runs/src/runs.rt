@@ -4,8 +4,8 @@ ghost use Rattle.std.specs.Prelude.{IsTrue};
 
 use disk_model::{Disk, MemDisk};
 use edge_io::MemSink;
-use shelf_calls::MemShelf;
 use pool_cli::{Status, run, write_message};
+use shelf_calls::MemShelf;
 use std::alloc::{AllocError, Global};
 
 /// Words, parted at each space.
