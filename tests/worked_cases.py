@@ -526,7 +526,7 @@ def reports(pool):
     gap, bound = 3924999988150000, -340000000000000
     outlets = claimed("3 2 2 1 4 4 1", *mixed, gap + 21 * bound, bound)
     yield reported("outlets", "wastewater", outlets, text("wastewater.report"))
-    # Means below 0, and flows of less than a millionth.
+    # Means below 0, and flows of less than a millionth. The bound and the gap are by hand: 7 at 1.5 and 1 at 1.5 can be earned at the most.
     cold = claimed("2 1 2 2 2 2 1", (3, 2), "1 2", "5 0", "3", 11500000, -12 * MONEY)
     yield reported("means below 0", "cold", cold, text("cold.report"))
     least = text("row1.json").replace('"cost":6', '"cost":0').replace('"price":9,"max":100', '"price":"0.000001","max":"0.000001"')
