@@ -1,14 +1,12 @@
-//! Worked certificates: their texts written and read, their items in pieces, what the check answers on them and on each with a line
-//! changed, and the certificate of a tree. The answers are worked out by hand from the rules of certificates.
+//! Worked certificates: read and written again, item by item, what comes before every refusal, and the certificate of a tree. What
+//! `check` and `report` say of them as they are and with a line changed is in `tests/worked_cases.py`.
 //!
-//! The layer above may use the certificates and [`changed`] in tests, and nothing of them elsewhere.
+//! The layer above may use the certificates in tests, and nothing of them elsewhere.
 #![tactic(auto)]
 
 mod certificates;
 
-pub use certificates::{
-    BOUND, FULL, NO_PLAN, NONE, TREE, TREE_BOUND, certificate_under, changed, name_in,
-};
+pub use certificates::{FULL, NO_PLAN, TREE, TREE_BOUND};
 
 #[cfg(test)]
 mod answers;

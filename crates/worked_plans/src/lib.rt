@@ -1,16 +1,12 @@
-//! Worked plans: what they cost or which rule they break, the starting plans of worked networks, points of the exact programs and the
-//! plans of points, and reports, against figures and texts from outside.
+//! Worked networks and plans: faults of network files with their places, a network without a starting plan, points of the exact programs
+//! and the plans of points, against figures and texts from outside.
+//!
+//! Costs of plans, starting plans and reports are tried in `tests/worked_cases.py`.
 #![tactic(auto)]
 
 #[cfg(test)]
-mod expected_reports;
-#[cfg(test)]
-mod plans;
+mod files;
 #[cfg(test)]
 mod points;
-#[cfg(test)]
-mod reports;
-#[cfg(test)]
-mod trials;
 #[cfg(test)]
 mod ways_back;

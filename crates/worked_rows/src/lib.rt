@@ -1,15 +1,10 @@
-//! Every row of worked networks, what multipliers on rows show, and the text of exact programs, against figures and texts that were
-//! written by hand or by another program.
+//! Every row of worked networks, and what multipliers on rows show, against figures and rows that were written by hand.
+//!
+//! The texts of exact programs are tried in `tests/worked_cases.py`.
 #![tactic(auto)]
 
 #[cfg(test)]
-mod envelopes;
-#[cfg(test)]
-mod expected_programs;
-#[cfg(test)]
 mod expected_rows;
-#[cfg(test)]
-mod programs;
 #[cfg(test)]
 mod rows;
 #[cfg(test)]

@@ -2,114 +2,67 @@
 
 use blend_network::Network;
 use box_space::{Part, Proof, root_box};
-use edge_io::Memory;
-use row_book::{ProofFault, Scratch, Shown, value};
-use std::alloc::{AllocError, Global};
+use row_book::{Scratch, value};
+use std::alloc::Global;
 use std::test::Fail;
 use worked_networks::{FAR_APART, HAVERLY_1, network};
 
-/// A proof by its scale and its parts: numbers of rows, and multipliers.
-#[derive(Clone, Copy)]
-struct Written<'a> {
-    scale: u64,
-    parts: &'a [(u32, i64)],
-}
+/// A network and two proofs, each by its scale and its parts, numbers of rows and multipliers; and what the first shows in the root box
+/// or its first fault, and then the second over the same scratch. Of sulfur that is far apart the product's limit, by qualities and by
+/// proportions, are the rows 3 and 4, which have the same terms.
+const VALUES: &str = "\
+haverly: 1; 1, 6 15000000 = Ok(Bound(-4900000000000000)) Ok(Bound(-3900000000000000))
+haverly: 1, 6 -1; 1, 6 15000000 = Err(Sign) Ok(Bound(-3900000000000000))
+haverly: 1, 45 1; 1, 6 15000000 = Err(UnknownRow) Ok(Bound(-3900000000000000))
+haverly: 1, 6 0; 1, 6 15000000 = Err(ZeroPart) Ok(Bound(-3900000000000000))
+haverly: 1, 5 0, 6 -1; 1, 6 15000000 = Err(Sign) Ok(Bound(-3900000000000000))
+haverly: 0, 6 1; 1, 6 15000000 = Err(ShowsNothing) Ok(Bound(-3900000000000000))
+haverly: 0; 1, 6 15000000 = Err(ShowsNothing) Ok(Bound(-3900000000000000))
+far: 1, 3 2251799813685248; 1, 2 1, 3 2251799813685248 = Ok(Bound(-85070591730234615865843651857942052864)) Err(Wide)
+far: 1, 4 2251799813685248; 1, 2 1, 4 2251799813685248 = Ok(Bound(-85070591730234615865843651857942052864)) Err(Wide)
+";
 
-fn proof(alloc: Global, written: Written<'_>) -> Result<Proof, AllocError> {
+/// The proof of a text.
+fn proof(alloc: Global, text: &str) -> Result<Proof, Fail> {
     let mut parts = Vec::new(alloc);
-    for (row, mult) in written.parts {
+    for part in text.split(", ").skip(1) {
+        let (row, mult) = part.split_once(' ').ok_or("a part")?;
         parts.push(Part {
-            row: *row,
-            mult: *mult,
+            row: row.parse().ok().ok_or("a row")?,
+            mult: mult.parse().ok().ok_or("a multiplier")?,
         })?;
     }
-    Ok(Proof {
-        scale: written.scale,
-        parts,
-    })
+    let scale = if text.starts_with('0') { 0 } else { 1 };
+    Ok(Proof { scale, parts })
 }
 
-/// What the first proof shows in the root box, and then the second over the same scratch.
-fn values(
-    alloc: Global,
-    net: &Network,
-    first: &Proof,
-    second: &Proof,
-) -> Result<[Result<Shown, ProofFault>; 2], Memory> {
+/// What the two proofs show, one after the other.
+fn values(alloc: Global, net: &Network, first: &Proof, second: &Proof) -> Result<String, Fail> {
     let root = root_box(alloc, net)?;
     let mut scratch = Scratch::new(alloc, net)?;
     let one = value(net, &root.view(), first, &mut scratch);
     let other = value(net, &root.view(), second, &mut scratch);
-    Ok([one, other])
+    Ok(format!(in alloc; "{one:?} {other:?}")?)
 }
 
-/// The same of a network's file and of proofs by their numbers.
-fn both(
-    alloc: Global,
-    file: &str,
-    first: Written<'_>,
-    second: Written<'_>,
-) -> Result<[Result<Shown, ProofFault>; 2], Fail> {
-    let net = network(alloc, file)?;
+/// The same of the proofs of a line.
+fn told(alloc: Global, net: &Network, proofs: &str) -> Result<String, Fail> {
+    let (first, second) = proofs.split_once("; ").ok_or("two proofs")?;
     let first = proof(alloc, first)?;
     let second = proof(alloc, second)?;
-    Ok(values(alloc, &net, &first, &second)?)
+    values(alloc, net, &first, &second)
 }
 
 #[test]
-fn proofs_of_haverly_in_the_root_box(rt: HostRuntime) -> Result<(), Fail> {
-    let nothing = Written {
-        scale: 1,
-        parts: &[],
-    };
-    let maximum = Written {
-        scale: 1,
-        parts: &[(6, 15_000_000)],
-    };
-    let shown = both(rt.alloc(), HAVERLY_1, nothing, maximum)?;
-    assert_eq!(rt; shown[0], Ok(Shown::Bound(-4_900_000_000_000_000)));
-    assert_eq!(rt; shown[1], Ok(Shown::Bound(-3_900_000_000_000_000)));
-    Ok(())
-}
-
-#[test]
-fn the_first_fault_is_named(rt: HostRuntime) -> Result<(), Fail> {
-    let maximum = Written {
-        scale: 1,
-        parts: &[(6, 15_000_000)],
-    };
-    let cases: [(u64, &[(u32, i64)], ProofFault); 6] = [
-        (1, &[(6, -1)], ProofFault::Sign),
-        (1, &[(45, 1)], ProofFault::UnknownRow),
-        (1, &[(6, 0)], ProofFault::ZeroPart),
-        (1, &[(5, 0), (6, -1)], ProofFault::Sign),
-        (0, &[(6, 1)], ProofFault::ShowsNothing),
-        (0, &[], ProofFault::ShowsNothing),
-    ];
-    for (scale, parts, fault) in cases {
-        let shown = both(rt.alloc(), HAVERLY_1, Written { scale, parts }, maximum)?;
-        assert_eq!(rt; shown[0], Err(fault));
-        assert_eq!(rt; shown[1], Ok(Shown::Bound(-3_900_000_000_000_000)));
-    }
-    Ok(())
-}
-
-#[test]
-fn a_weight_of_the_limit_is_narrow(rt: HostRuntime) -> Result<(), Fail> {
-    let bound = -85_070_591_730_234_615_865_843_651_857_942_052_864;
-    // The product's limit, by qualities and by proportions: rows 3 and 4 have the same terms.
-    for limit in [3, 4] {
-        let most = Written {
-            scale: 1,
-            parts: &[(limit, 2_251_799_813_685_248)],
-        };
-        let wider = Written {
-            scale: 1,
-            parts: &[(2, 1), (limit, 2_251_799_813_685_248)],
-        };
-        let shown = both(rt.alloc(), FAR_APART, most, wider)?;
-        assert_eq!(rt; shown[0], Ok(Shown::Bound(bound)));
-        assert_eq!(rt; shown[1], Err(ProofFault::Wide));
+fn proofs_show_bounds_or_have_a_first_fault(rt: HostRuntime) -> Result<(), Fail> {
+    let alloc = rt.alloc();
+    let haverly = network(alloc, HAVERLY_1)?;
+    let far = network(alloc, FAR_APART)?;
+    for line in VALUES.lines() {
+        let (asked, answer) = line.split_once(" = ").ok_or("an answer")?;
+        let (name, proofs) = asked.split_once(": ").ok_or("proofs")?;
+        let net = if name == "far" { &far } else { &haverly };
+        assert_eq!(rt; told(alloc, net, proofs)?.as_str(), answer, "of {asked}");
     }
     Ok(())
 }

@@ -1,9 +1,7 @@
-//! What runs of the whole program answer, case by case: which words are served, searches on networks of the literature, certificates as
-//! they are and with a line changed, files that mean harm, reports, trials and journals.
+//! Runs of the whole program over shelves, sinks and disks in memory, for tests; what words ask; and `check` over a shelf that fails.
 //!
-//! What a run answers is proved in `pool_cli`, over every shelf, sink and disk. These tests show that a run gets there: how near the plan
-//! and the bound come, what is printed, and that each odd file is refused for the reason that a reader would give. The runs that they are
-//! made with serve `worked_faults` too. `words` has each command with each option, and each form of words that asks nothing.
+//! What a run answers is proved in `pool_cli`, over every shelf, sink and disk. The runs here serve `worked_faults` too; what runs on real
+//! files answer is tried in `tests/worked_cases.py`. `words` has each command with each option.
 #![tactic(auto)]
 
 mod runs;
@@ -11,14 +9,6 @@ mod runs;
 pub use runs::{answer, answered, ended_on, explained, told};
 
 #[cfg(test)]
-mod answers;
-#[cfg(test)]
-mod files;
-#[cfg(test)]
-mod journals;
-#[cfg(test)]
-mod reports;
-#[cfg(test)]
-mod searches;
+mod reads;
 #[cfg(test)]
 mod words;

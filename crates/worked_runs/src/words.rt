@@ -21,66 +21,12 @@ make 7 -> Make(7)
 trial 00000000000000000007 -> Trial(7)
 ";
 
-/// Words that ask nothing, parted at each space.
-const NOT_ASKED: &str = "\
-help
-
---help
---version
-solve
-solve net --nodes
-solve net --nodes x
-solve net --gap 1 --gap=1
-solve\x20
-solve net\x20
-solve -net
-solve net --
-solve net -n 3
-solve net --journal\x20
-solve net --journal=
-solve net --journal -j
-solve net --journal=-j
-solve net --form p --form=q
-solve net --form PQ
-solve net --rule best
-solve net --nodes 000000000000000000007
-solve net --nodes 18446744073709551616
-solve net --nodes +7
-solve net --gap 0.0000001
-solve net --gap 1000000.000001
-solve net --gap=-0
-solve net --depth 3
-solve net --=3
-solve net more
-solve --help
---form p solve net
-check net
-check net cert more
-report net cert --form p
-formulate
-formulate net --nodes 3
-make
-make x
-make 1 2
-trial -1
-";
-
 #[test]
 fn words_that_ask(rt: HostRuntime) -> Result<(), Fail> {
     for case in ASKED.lines() {
         let (words, request) = case.split_once(" -> ").ok_or("an arrow")?;
         assert_eq!(rt; told(rt.alloc(), words)?.as_str(), request);
     }
-    Ok(())
-}
-
-#[test]
-fn words_that_ask_nothing(rt: HostRuntime) -> Result<(), Fail> {
-    for words in NOT_ASKED.lines() {
-        assert_eq!(rt; told(rt.alloc(), words)?.as_str(), "Usage", "{words}");
-    }
-    let nothing = format!(in rt.alloc(); "{:?}", read_words(rt.alloc(), &[]))?;
-    assert_eq!(rt; nothing.as_str(), "Err(Usage)");
     Ok(())
 }
 
