@@ -18,24 +18,13 @@ as they stand.
 import csv
 import io
 import json
-import os
 import re
-import sys
 from dataclasses import dataclass
 from decimal import Decimal
-from importlib.machinery import SourceFileLoader
-from types import ModuleType
 
+import pooling
 
-def beside(name):
-    """The script of that name in this folder, as a module."""
-    path = os.path.join(os.path.dirname(os.path.realpath(__file__)), name)
-    module = sys.modules[name] = ModuleType(name)
-    SourceFileLoader(name, path).exec_module(module)
-    return module
-
-
-explain = beside("explain")
+explain = pooling.explain
 
 # Of each table: the titles that must be there, those that may be absent, and the words before the name of a quality.
 COLUMNS = {
