@@ -1,4 +1,5 @@
-"""The curves of bound and best cost over splits, which `tools/watch` draws of a running search and `tools/page` of one that is done."""
+"""The curves of bound and best cost: over splits, which `tools/watch` draws of a running search and `tools/page` of one that is done; and
+over a number of the network, which `tools/what_if` draws."""
 
 from dataclasses import dataclass
 from fractions import Fraction
@@ -60,11 +61,15 @@ class Plot:
             path = f"M{self.LEFT} {svg.number(self.y(value))}H{right}"
             self.body.append(svg.element("path", {"d": path, "stroke": svg.PALE, "stroke_width": 0.5}))
             self.body.append(svg.text(self.LEFT - 8, self.y(value) + 4, svg.decimal(value, 6), 11, anchor="end"))
+        frame = f"M{self.LEFT} {self.TOP}V{bottom}H{right}"
+        self.body.append(svg.element("path", {"d": frame, "fill": "none", "stroke": svg.BLACK, "stroke_width": 1}))
+        self.draw_below(bottom, right)
+
+    def draw_below(self, bottom, right):
+        """The numbers and the name of the axis below."""
         for splits in ticks(Fraction(0), Fraction(self.most)):
             if splits.denominator == 1:
                 self.body.append(svg.text(self.x(int(splits)), bottom + 18, f"{int(splits):,}", 11, anchor="middle"))
-        frame = f"M{self.LEFT} {self.TOP}V{bottom}H{right}"
-        self.body.append(svg.element("path", {"d": frame, "fill": "none", "stroke": svg.BLACK, "stroke_width": 1}))
         self.body.append(svg.text((self.LEFT + right) / 2, bottom + 38, "splits", 12, anchor="middle"))
 
     def draw_curve(self, name, points, colour, dashes):
@@ -95,3 +100,45 @@ def ticks(low, high):
     step = next(step * many for many in (Fraction(1, 5), Fraction(1, 2), 1, 2, 5, 10) if (high - low) / (step * many) <= 6)
     first = -(-low // step)
     return [step * number for number in range(int(first), int(high // step) + 1)]
+
+
+class Range(Plot):
+    """The curves of bound and cost over a number of the network, from point to point."""
+
+    def __init__(self, name, axis, points):
+        self.axis = axis
+        self.first, self.last = points[0].splits, points[-1].splits
+        super().__init__(name, points)
+        self.name = name
+
+    def svg(self):
+        return svg.document(self.WIDTH, self.HEIGHT, self.name, self.body)
+
+    def x(self, number):
+        reach = self.last - self.first or 1
+        return self.LEFT + (self.WIDTH - self.LEFT - self.RIGHT) * float((number - self.first) / reach)
+
+    def state(self):
+        return "what no plan costs less than, and what the plan costs where it obeys"
+
+    def draw_below(self, bottom, right):
+        for number in ticks(self.first, self.last) if self.last > self.first else [self.first]:
+            self.body.append(svg.text(self.x(number), bottom + 18, svg.decimal(number, 6), 11, anchor="middle"))
+        self.body.append(svg.text((self.LEFT + right) / 2, bottom + 38, self.axis, 12, anchor="middle"))
+
+    def draw_curve(self, name, points, colour, dashes):
+        runs, run = [], []
+        for number, value in [*points, (None, None)]:
+            if value is not None:
+                run.append((self.x(number), self.y(value), value))
+            elif run:
+                runs.append(run)
+                run = []
+        path = "".join("M" + "L".join(f"{svg.number(x)} {svg.number(y)}" for x, y, _ in run) for run in runs)
+        if path:
+            look = {"class": "curve", "d": path, "fill": "none", "stroke": colour, "stroke_width": 2.5, "stroke_dasharray": dashes}
+            self.body.append(svg.element("path", look))
+            x, y, value = runs[-1][-1]
+            self.body.append(svg.element("circle", {"cx": float(x), "cy": float(y), "r": 3.5, "fill": colour}))
+            above = 12 if name == "bound" else -4
+            self.body.append(svg.text(x + 8, y + above, f"{name} {svg.decimal(value, 6, up=name != 'bound')}", 12, True, most=self.RIGHT - 16))
