@@ -1,7 +1,7 @@
 #!/usr/bin/env python3
 """Whether the tools for planners do what they say: `planners.py [POOL]`
 
-What `tools/what_if`, `tools/prices` and `tools/why_none` say is compared with numbers worked out by hand, with best costs of the
+What they say is compared with numbers worked out by hand, with best costs of the
 literature, and with what the program finds where it solves the changed network; each certificate that they print is accepted by
 the program and by the second checker. Bad input is told at its file, line or member, with the tool's status, and nothing is
 printed or written then. POOL is the program, else that of the door. It prints what differs, and how many parts there were.
@@ -12,9 +12,12 @@ import io
 import json
 import os
 import random
+import re
+import signal
 import subprocess
 import sys
 import tempfile
+import time
 import xml.etree.ElementTree as tree
 from fractions import Fraction
 from pathlib import Path
@@ -23,7 +26,9 @@ sys.dont_write_bytecode = True
 TOP = Path(__file__).resolve().parent.parent
 sys.path[:0] = [str(TOP / "tools"), str(TOP / "tests")]
 import damaged_certificates as damaged
+import pictures
 import pooling
+from journal_bytes import heeds_interrupts
 
 EXAMPLES, SEED, DRAWN = TOP / "examples", 1980, 30
 checker = damaged.checker
@@ -168,6 +173,107 @@ def no_plans(folder):
             yield f"{net.stem}: what is kept does not say that no plan obeys"
 
 
+# ---- plans of one's own, tables of plans, runs of so many minutes
+
+
+# 60 of W2 through basin 1 and 20 of fresh water to the river, 100 of fresh water through basin 2 to the sewer, as tests/pictures.py has it.
+OUTLETS = "to,from,flow\nbasin 1,W2,60\nbasin 2,fresh,100.0\nriver,basin 1,60\nsewer,basin 2,100\nriver,fresh,20\n"
+OBEYS = """the plan obeys
+cost -298
+source W1: 0 of 40, room 40
+source W2: 60 of 60, room 0
+product river: 80 of 80, room 0
+product sewer: 100 of 100, room 0
+product river: load 22.5 of at most 50, room 27.5
+product sewer: load 0 of at most 90, room 90
+"""
+
+
+def own_plans(folder):
+    net = EXAMPLES / "wastewater.json"
+    (folder / "plan.csv").write_text(OUTLETS)
+    found = run("check_plan", net, "plan.csv", "--certificate", "plan.cert", "--journal", "plan.journal", at=folder)
+    if (found.returncode, found.stdout, found.stderr) != (0, OBEYS, "") or (folder / "plan.cert").read_text() != pictures.WASTEWATER:
+        yield f"outlets: {found.returncode} {found.stdout} {found.stderr} {(folder / 'plan.cert').read_text()}"
+    going_on = pool("solve", net, "--journal", folder / "plan.journal", "--nodes", "0")
+    if "\ncost -298000000000000 1\n" not in going_on.stdout or going_on.returncode != 0:
+        yield f"solve does not start from the plan: {going_on.returncode} {going_on.stdout}"
+    rows = [{"from": start, "to": end, "flow": flow} for end, start, flow in (line.split(",") for line in OUTLETS.splitlines()[1:])]
+    (folder / "plan.json").write_text(json.dumps({"flows": rows}))
+    if run("check_plan", net, "plan.json", at=folder).stdout != OBEYS:
+        yield "the same as JSON is another plan"
+    solved(net, folder, "--gap", "0")
+    found = run("check_plan", net, "plan.csv", "--certificate", "with.cert", "--with", "wastewater.cert", at=folder)
+    yield from accepted(net, folder / "with.cert", "a plan with another bound")
+    if found.returncode or not -298.01 <= bound_of((folder / "with.cert").read_text()) <= -298:
+        yield f"a plan with another bound: {found.stderr}"
+    for old, new, words in (("W2,60", "W2,61", ["source W2 sends 61, and 60 is its maximum"]), ("fresh,20", "fresh,20.000001", ["product river takes 80.000001, and 80 is its maximum"]),
+                            ("basin 1,60", "basin 1,-1", ["basin 1 -> river carries -1, and a flow is 0 at least", "into pool basin 1 flow 60, and out of it -1"])):
+        (folder / "other.csv").write_text(OUTLETS.replace(old, new))
+        found = run("check_plan", net, "other.csv", "--certificate", "none.cert", at=folder)
+        lines = found.stdout.splitlines()
+        if found.returncode != 1 or lines[0] != "the plan breaks a rule" or not set(words) <= set(lines) or lines[-1][:5] != "cost " or (folder / "none.cert").exists():
+            yield f"{new}: {found.returncode} {found.stdout} {found.stderr}"
+
+
+# Two feeds: 30 of A and 10 of B make 40 with a sulfur of 2.5, that earn 9 each and cost 6 and 16.
+TABLES = {"flows.csv": "from,to,flow,spent,revenue\nA,P,30,180,\nB,P,10,160,\nP,X,40,,360\n",
+          "qualities.csv": "kind,name,quality,mean,least,most\npool,P,sulfur,2.5,,\nproduct,X,sulfur,2.5,,\n",
+          "money.csv": "kind,name,flow,max,spent,revenue\nsource,A,30,,180,\nsource,B,10,,160,\npool,P,40,,,\nproduct,X,40,100,,360\n"}
+
+
+def tables_of_plans(folder):
+    (folder / "mixed.cert").write_text(pictures.MIXED)
+    found = run("plan_to_csv", EXAMPLES / "two_feeds.json", "mixed.cert", "tables", at=folder)
+    written = {path.name: path.read_text() for path in (folder / "tables").iterdir()} if not found.returncode else {}
+    if written != TABLES:
+        yield f"two feeds: {found.stderr} {written}"
+    found = run("plan_to_csv", EXAMPLES / "two_feeds.json", "mixed.cert", "tables", "--exact", at=folder)
+    if found.returncode != 21 or "is there already" not in found.stderr or {path.name: path.read_text() for path in (folder / "tables").iterdir()} != TABLES:
+        yield f"tables are written over: {found.returncode} {found.stderr}"
+    # 28 + 14 = 42 differs by 2 + 4 + 2; 28 + 7 = 35 and 35 + 7 = 42 by 10. It costs 28 * 6 + 14 * 16 - 42 * 9 = 14, where the plan costs -20.
+    found = run("plan_to_csv", EXAMPLES / "two_feeds.json", "mixed.cert", "tables", "--round", "7", "--force", at=folder)
+    if found.stderr != "cost 14, which is 34 more than the plan costs\n" or (folder / "tables" / "flows.csv").read_text().splitlines()[1:] != ["A,P,28,168,", "B,P,14,224,", "P,X,42,,378"]:
+        yield f"whole sevens: {found.stderr} {(folder / 'tables' / 'flows.csv').read_text()}"
+    net = EXAMPLES / "wastewater.json"
+    found = run("plan_to_csv", net, solved(net, folder), folder / "whole", "--round", "1")
+    again = run("check_plan", net, folder / "whole" / "flows.csv", "--certificate", folder / "whole.cert")
+    if not found.stderr.startswith("cost -298, which is ") or not again.stdout.startswith("the plan obeys\ncost -298\n"):
+        yield f"whole units: {found.stderr} {again.stdout} {again.stderr}"
+    yield from accepted(net, folder / "whole.cert", "whole units")
+    found = run("plan_to_csv", EXAMPLES / "adhya4.json", solved(EXAMPLES / "adhya4.json", folder, "--nodes", "20"), folder / "coarse", "--round", "1000")
+    if not found.stderr.startswith("cost 0, which is ") or found.returncode:
+        yield f"steps of 1000, of which no product takes one: {found.stderr}"
+
+
+def minutes(folder):
+    found = run("solve_for", "1", EXAMPLES / "haverly1.json", "--gap", "0.001")
+    (folder / "done.cert").write_text(found.stdout)
+    yield from accepted(EXAMPLES / "haverly1.json", folder / "done.cert", "Haverly 1")
+    if found.returncode or found.stderr or "\ncost -400000000000000 1\n" not in found.stdout:
+        yield f"Haverly 1: {found.returncode} {found.stderr}"
+    net, journal = folder / "made.json", folder / "made.journal"
+    net.write_text(pool("make", "9").stdout)
+    begun = time.monotonic()
+    found = run("solve_for", "0.05", net, "--journal", journal, "--progress", "--gap", "0")
+    (folder / "over.cert").write_text(found.stdout)
+    yield from accepted(net, folder / "over.cert", "after three seconds")
+    if found.returncode != 10 or not 3 <= time.monotonic() - begun < 60 or not all(" splits, bound -" in line and "%)" in line for line in found.stderr.splitlines()) or not found.stderr:
+        yield f"after three seconds: {found.returncode} {time.monotonic() - begun} {found.stderr}"
+    words = [str(TOP / "tools" / "solve_for"), "10", str(net), "--journal", str(journal), "--gap", "0"]
+    stopped = subprocess.Popen(words, stdout=subprocess.PIPE, stderr=subprocess.PIPE, text=True, preexec_fn=heeds_interrupts)
+    time.sleep(3)
+    stopped.send_signal(signal.SIGINT)
+    out, error = stopped.communicate(timeout=100)
+    (folder / "stopped.cert").write_text(out)
+    yield from accepted(net, folder / "stopped.cert", "where it is interrupted")
+    counts = [int(re.search(r"(?m)^splits ([0-9]+)$", text)[1]) for text in (found.stdout, out)]
+    if stopped.returncode != 10 or error or not 0 < counts[0] < counts[1] or out.splitlines()[8 : 8 + counts[0]] != found.stdout.splitlines()[8 : 8 + counts[0]]:
+        yield f"where it is interrupted: {stopped.returncode} {error} {counts}"
+    if (found := run("solve_for", "1", EXAMPLES / "no_plan.json")).returncode != 12 or found.stdout != pool("solve", EXAMPLES / "no_plan.json").stdout:
+        yield f"no plan: {found.returncode} {found.stdout}"
+
+
 # ---- bad input: the words, the status, and the first line on standard error
 
 
@@ -196,6 +302,28 @@ BAD = [
     ("prices", ["{examples}/no_plan.json", "{examples}/no_plan.cert"], 1, "{examples}/no_plan.cert: no plan obeys, so there is nothing to be worth more (tools/why_none says why)"),
     ("prices", ["{row1}", "{row1c}", "--step", "0"], 2, "usage: prices"),
     ("prices", ["nowhere", "{row1c}"], 20, "nowhere: No such file or directory"),
+    ("check_plan", ["{row1}", "arcs.csv"], 3, "arcs.csv:3: column C (flow): X -> A is no arc of the network"),
+    ("check_plan", ["{row1}", "twice.json"], 3, "twice.json: flows[1]: the arc A -> X stands twice"),
+    ("check_plan", ["{row1}", "comma.csv"], 3, "comma.csv:2: column C (flow): a number of another form"),
+    ("check_plan", ["{row1}", "form.json"], 3, 'form.json: flows[0]: not of the form {{"from": "A", "to": "P", "flow": "2.5"}}'),
+    ("check_plan", ["{row1}", "{row1}"], 3, "{row1}: no list of flows: a list, or an object with a member flows that is one"),
+    ("check_plan", ["{row1}", "{row1c}"], 3, "{row1c}:1: column A: a column that the table may not have"),
+    ("check_plan", ["{row1}", "good.csv", "--journal", "other.journal"], 21, "other.journal: is there already, and is kept"),
+    ("check_plan", ["{row1}", "good.csv", "--certificate", "nowhere/cert"], 21, "nowhere/cert: No such file or directory"),
+    ("check_plan", ["{row1}", "good.csv", "--certificate", "cert", "--with", "{refused}/gap.cert"], 1, "{refused}/gap.cert: refused gap"),
+    ("check_plan", ["{row1}", "good.csv", "--with", "{row1c}"], 2, "usage: check_plan"),
+    ("check_plan", ["{row1}", "nowhere"], 20, "nowhere: No such file or directory"),
+    ("plan_to_csv", ["{row1}", "{refused}/plan.cert", "tables"], 1, "{refused}/plan.cert: refused plan 1"),
+    ("plan_to_csv", ["{row1}", "{examples}/row1_bound.cert", "tables"], 1, "{examples}/row1_bound.cert: a certificate of the kind bound: it has no plan"),
+    ("plan_to_csv", ["{row1}", "{row1c}", "bad.json/tables"], 21, "bad.json/tables: Not a directory"),
+    ("plan_to_csv", ["{row1}", "{row1c}", "tables", "--round", "-1"], 2, "usage: plan_to_csv"),
+    ("plan_to_csv", ["{examples}/no_plan.json", "{examples}/no_plan.cert", "tables"], 1, "{examples}/no_plan.cert: a certificate of the kind none: it has no plan"),
+    ("solve_for", ["0", "{row1}"], 2, "usage: solve_for"),
+    ("solve_for", ["x", "{row1}"], 2, "usage: solve_for"),
+    ("solve_for", ["1", "bad.json"], 3, "bad.json:2:32: sources[0].cost"),
+    ("solve_for", ["1", "{row1}", "--journal", "bad.journal"], 31, "pool: journal record 0 is bad"),
+    ("solve_for", ["1", "{row1}", "--gap", "x"], 2, "pool: usage: solve NET"),
+    ("solve_for", ["1", "nowhere"], 20, "nowhere: No such file or directory"),
     ("why_none", ["{row1}", "{row1c}"], 1, "{row1c}: a certificate of the kind gap: it does not say that no plan obeys"),
     ("why_none", ["{row1}", "{refused}/bound.cert"], 1, "{refused}/bound.cert: refused bound"),
     ("why_none", ["{examples}/no_plan.json", "{examples}/no_plan.cert", "--keep", "bad.json/x"], 21, "bad.json/x: Not a directory"),
@@ -205,6 +333,11 @@ BAD = [
 def bad_input(folder):
     row1 = pooling.Network.read(EXAMPLES / "row1.json")
     (folder / "bad.json").write_text('{"version": 1,\n "sources":[{"name":"A","cost":2.5, "quality": {}}], "products": [], "arcs": []}')
+    (folder / "arcs.csv").write_text("from,to,flow\nA,X,1\nX,A,1\n")
+    (folder / "good.csv").write_text("from,to,flow\nA,X,100\n")
+    (folder / "comma.csv").write_text('from,to,flow\nA,X,"2,5"\n')
+    (folder / "twice.json").write_text('[{"from": "A", "to": "X", "flow": 1}, {"from": "A", "to": "X", "flow": "1/3"}]')
+    (folder / "form.json").write_text('{"flows": [{"from": "A", "flow": 1}]}')
     (folder / "other.journal").write_bytes(pooling.journal_of(pooling.Network.read(EXAMPLES / "haverly1.json"), None))
     (folder / "bad.journal").write_bytes(pooling.journal_of(row1, pooling.WrittenPlan(1, 1, [], [], [100_000_001])))
     names = {"row1": EXAMPLES / "row1.json", "row1c": EXAMPLES / "row1.cert", "refused": EXAMPLES / "refused", "examples": EXAMPLES}
@@ -232,7 +365,7 @@ def main(*program):
     if program:
         os.environ["POOL"] = os.path.abspath(program[0])
     os.environ["LC_ALL"] = "C"
-    parts = [same_network, literature, by_hand, drawn_networks, a_unit_more, no_plans, bad_input]
+    parts = [same_network, literature, by_hand, drawn_networks, a_unit_more, no_plans, own_plans, tables_of_plans, minutes, bad_input]
     differ = []
     for part in parts:
         with tempfile.TemporaryDirectory() as folder:

@@ -36,6 +36,12 @@ def exact(value):
     return ("-" if value < 0 else "") + text
 
 
+def shown(value):
+    """A fraction as an exact decimal where that has an end, and else rounded down to six decimals."""
+    text = exact(value)
+    return text if "/" not in text else exact(Fraction(Fraction(value) * UNIT // 1, UNIT))
+
+
 def quantity(millionths):
     """A quantity as JSON has it: whole units as a number, others as a text."""
     return millionths // UNIT if millionths % UNIT == 0 else exact(units(millionths))

@@ -30,7 +30,7 @@ from types import ModuleType, SimpleNamespace
 
 HERE = os.path.dirname(os.path.realpath(__file__))
 sys.path.insert(0, HERE)
-from plans import PICOS, UNIT, Broken, Flows, WrittenPlan, broken_rules, cost_of, exact, money, pool_means, product_means, quantity, totals, units, written_plan
+from plans import PICOS, UNIT, Broken, Flows, WrittenPlan, broken_rules, cost_of, exact, money, pool_means, product_means, quantity, shown, totals, units, written_plan
 from relaxation import GRAIN, MAX_SPLITS, Fault, Proof, Rows, Shown, Tree, leaf_bound, new_leaf, refuse, tree_bounds
 
 CERTIFICATE_BYTES = 1_073_741_824
