@@ -90,7 +90,8 @@ def run(*words):
 
 def drawn(net, *plan):
     """The root of the picture of these files."""
-    return tree.fromstring(tool.picture(net.name, net.read_bytes(), plan[0].read_bytes() if plan else None))
+    read = tool.pooling.Network.read(net)
+    return tree.fromstring(tool.drawing(read, tool.read_plan(read, plan[0]) if plan else None, net.name).svg())
 
 
 def arcs(picture):
@@ -134,7 +135,7 @@ def wastewater(folder):
     units = {"W2 to basin 1: 60": 60, "fresh to basin 2: 100": 100, "basin 1 to river: 60": 60, "basin 2 to sewer: 100": 100, "fresh to river: 20": 20}
     if set(widths) != set(units) or max(abs(widths[name] / flow - widths["fresh to river: 20"] / 20) for name, flow in units.items()) > 0.001:
         yield f"waste water: the arcs that carry something are {widths}"
-    for picture, origin in zip(pictures, ("the certificate was checked by tools/second_checker.py", "drawn from a report, which can't be checked")):
+    for picture, origin in zip(pictures, ("the certificate was checked by tools/pooling.py", "drawn from a report, which can't be checked")):
         wanted = ["cost -298 \u00a0\u00a0 bound -340 \u00a0\u00a0 gap 42", "22.5 (at most 50)", "0 (at most 90)", "sends 60 of 60, cost 0, load 30"]
         yield from lacking(picture, [*wanted, f"\u25cf mean within its limits, \u25c6 mean at a limit; {origin}"])
     if arcs(pictures[0]) != arcs(pictures[1]):
@@ -257,7 +258,7 @@ def refused(folder):
         ([row1, EXAMPLES / "haverly1.cert"], 1, f"{EXAMPLES / 'haverly1.cert'}: refused shape"),
         ([row1, folder / "plan.report"], 1, f"{folder / 'plan.report'}: refused report 5"),
         ([EXAMPLES / "wastewater.json", folder / "short.report"], 1, f"{folder / 'short.report'}: refused report 22"),
-        ([EXAMPLES / "row1.cert"], 3, f"{EXAMPLES / 'row1.cert'}: network refused: 2"),
+        ([EXAMPLES / "row1.cert"], 3, f"{EXAMPLES / 'row1.cert'}:1:1: the file: it is no JSON (2)\n    stands there: poolcert 1 kind gap\n    right:        a text in double quotes, a number, a list or an object"),
         ([nowhere], 20, f"{nowhere}: No such file or directory"),
         ([row1, nowhere], 20, f"{nowhere}: No such file or directory"),
     ]

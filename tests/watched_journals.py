@@ -73,10 +73,10 @@ def shipped(folder):
 
 def reading_alone(folder):
     """The journal is opened for reading alone, whatever the rights of who watches."""
-    modes, tool.open = [], lambda name, mode: (modes.append(mode), open(name, mode))[1]
+    modes, tool.pooling.open = [], lambda name, mode: (modes.append(mode), open(name, mode))[1]
     (folder / "read").write_bytes(journal(ROW1, SHIP))
     watch(folder / "read")
-    del tool.open
+    del tool.pooling.open
     if modes != ["rb"]:
         yield f"the journal is opened as {modes}"
 

@@ -18,24 +18,13 @@ as they stand.
 import csv
 import io
 import json
-import os
 import re
-import sys
 from dataclasses import dataclass
 from decimal import Decimal
-from importlib.machinery import SourceFileLoader
-from types import ModuleType
 
+import pooling
 
-def beside(name):
-    """The script of that name in this folder, as a module."""
-    path = os.path.join(os.path.dirname(os.path.realpath(__file__)), name)
-    module = sys.modules[name] = ModuleType(name)
-    SourceFileLoader(name, path).exec_module(module)
-    return module
-
-
-explain = beside("explain")
+explain = pooling.explain
 
 # Of each table: the titles that must be there, those that may be absent, and the words before the name of a quality.
 COLUMNS = {
@@ -44,6 +33,7 @@ COLUMNS = {
     "products": (["name", "price", "max"], ["min"], ["least", "most"]),
     "arcs": (["from", "to"], [], []),
 }
+PLAN = (["from", "to", "flow"], ["spent", "revenue"], [])  # the table of a plan's flows
 NAMES = {"name", "from", "to"}
 PLAIN = re.compile(r"-?(0|[1-9][0-9]*)(\.[0-9]+)?")
 GROUPED = re.compile(r"-?[1-9][0-9]{0,2}([,' \u2019\u00a0\u202f])[0-9]{3}(\1[0-9]{3})*(\.[0-9]+)?")
@@ -125,10 +115,10 @@ def lines_of(file, text):
 class Table:
     """A table that is read: its titles, and its rows as cells by title. Faults are kept in a list."""
 
-    def __init__(self, kind, file, data, faults):
-        self.kind, self.file, self.faults = kind, file, faults
+    def __init__(self, kind, file, data, faults, number=None):
+        self.kind, self.file, self.faults, self.number = kind, file, faults, number or millionths
         self.titles, self.title_line, self.rows = [], 1, []
-        self.needed, self.optional, self.families = COLUMNS[kind]
+        self.needed, self.optional, self.families = COLUMNS.get(kind, PLAN)
         for line, cells in lines_of(file, decoded(file, data)):
             if self.titles:
                 self.take_row(line, cells)
@@ -194,7 +184,7 @@ class Table:
         elif not cell.text.strip():
             if not may_be_empty:
                 self.tell(cell, "a number is absent", "a number, 0 too")
-        elif millionths(cell.text) is None:
+        elif self.number(cell.text) is None:
             self.tell(cell, "a number of another form", meant(cell.text))
 
 
