@@ -1,9 +1,12 @@
 -- How a search ended, by what is printed of it.
-use Rattle.std.proofs.Common.{◌≡◌, ◌≢◌, ℕ, ◌*◌, ◌<◌, ◌≤◌, nat_lt, Bool, true, false, if◌then◌else◌, length, Option, Some, None, ℤ, pos, ◌-ℤ◌, ◌*ℤ◌, ◌≤ℤ◌}
+use Rattle.std.proofs.Common.{◌≡◌, ◌≢◌, ℕ, ◌*◌, ◌<◌, ◌≤◌, nat_lt, Bool, true, false, if◌then◌else◌, length, Option, Some, None, ℤ, pos, ◌+ℤ◌, ◌-ℤ◌, ◌*ℤ◌, ◌≤ℤ◌}
 use Rattle.std.proofs.Common.{int_le, rules, refl, sym, ap, ap₂, subst, ◌∙◌, arith}
 use Rattle.std.proofs.lemmas.Bool.Decides.{nat_tests}
+use Rattle.integers.proofs.Order.{le-mul}
+use Rattle.integers.proofs.Ring.{linear, sorted, additive}
 use Rattle.pool_model.specs.Network.{Net, IsLimited}
-use Rattle.pool_model.specs.Plan.{Written, plan_of, cost_of}
+use Rattle.pool_model.specs.Plan.{Plan, Obeys, Written, plan_of, cost_of}
+use Rattle.pool_model.specs.Claim.{Claimed, with_gap, with_bound, no_plan, Follows}
 use Rattle.row_model.specs.Trees.{tree_bound}
 use Rattle.row_model.specs.Entries.{Searched, start}
 use Rattle.cert_format.specs.Cert.{Cert}
@@ -16,7 +19,7 @@ use Rattle.search_run.specs.Found.{IsFound}
 use Rattle.search_run.specs.declared.orders.Orders.{Orders}
 use Rattle.search_run.specs.declared.ended.Ended.{Ended}
 use Rattle.search_run.specs.declared.ended.Ended.TheVariants as ends
-use Rattle.solve_command.specs.Solution.{IsHeld, IsSolution, IsSolutionFrom, end_by, end_of, status_of}
+use Rattle.solve_command.specs.Solution.{IsHeld, IsNearEnough, IsSolution, IsSolutionFrom, end_by, end_of, status_of}
 use Rattle.run_status.specs.declared.status.Status.TheVariants as statuses
 
 -- ---- the status by the claim
@@ -83,6 +86,34 @@ module _ (n : Net) (o : Orders) (s : Searched) where
   end-held ends.Stuck end = record { stuck = λ e. end.2; undecided = λ e. absurd (cc) }
   end-held ends.Undecided end = record { stuck = λ e. absurd (cc); undecided = λ e. end.1 }
 
+-- ---- near enough
+
+-- a cost over a base, a bound below another cost over a base of its own, and a gap that is small enough
+near-cost : (cost bound gap asked other : ℤ) (base d : ℕ) → gap ≡ cost -ℤ bound *ℤ pos base → gap ≤ℤ (asked *ℤ pos base) → (bound *ℤ pos d) ≤ℤ other
+    → (cost *ℤ pos d) ≤ℤ ((other +ℤ asked *ℤ pos d) *ℤ pos base)
+near-cost cost bound gap asked other base d is small below =
+    let within = le-mul (pos d) (cost -ℤ bound *ℤ pos base) (asked *ℤ pos base) (omega (arith, linear)) (subst (λ g. g ≤ℤ (asked *ℤ pos base)) is small) in
+    let under = le-mul (pos base) (bound *ℤ pos d) other (omega (arith, linear)) below in
+    let split : (pos d *ℤ (cost -ℤ bound *ℤ pos base)) ≡ (cost *ℤ pos d -ℤ pos base *ℤ (bound *ℤ pos d)) = simp sorted (omega (arith, additive)) in
+    let both : ((other +ℤ asked *ℤ pos d) *ℤ pos base) ≡ (pos base *ℤ other +ℤ pos d *ℤ (asked *ℤ pos base)) = simp sorted (omega (arith, additive)) in
+    omega (arith, additive, within, under, split, both)
+
+le_of : (a b : ℤ) → int_le a b ≡ true → a ≤ℤ b
+le_of a b h = search rules
+
+-- closed is told by the gap alone
+closed-by : (near few : Bool) → (if near then statuses.Closed else (if few then statuses.Stuck else statuses.Stopped)) ≡ statuses.Closed → near ≡ true
+closed-by true few e = refl
+closed-by false true e = absurd (cc)
+closed-by false false e = absurd (cc)
+
+near-enough : (n : Net) (asked : ℤ) (nodes splits : ℕ) (claim : Claimed) → Follows n claim → end_by asked nodes splits claim ≡ statuses.Closed → IsNearEnough n asked claim
+near-enough n asked nodes splits (with_gap plan cost base bound gap) follows e =
+    let small = le_of gap (asked *ℤ pos base) (closed-by (int_le gap (asked *ℤ pos base)) (nat_lt splits nodes) e) in
+    λ p obeys. near-cost cost bound gap asked (cost_of n p) base p.base follows.gap_is small (follows.bound_holds p obeys)
+near-enough n asked nodes splits (with_bound bound) follows e = absurd (cc)
+near-enough n asked nodes splits no_plan follows e = absurd (cc)
+
 -- ---- the certificate
 
 pub solved-from : (n : Net) (o : Orders) (begun found : Searched) (ended : Ended) (c : Cert) → IsLimited n → IsRun n o begun found ended → IsFound n o begun found ended
@@ -97,6 +128,8 @@ solved-from n o begun found ended c limited run search is valid = record {
   search = search;
   told = refl;
   ends = end-told n o found ended run.end ∙ ap (λ (x : Cert). end_of o x) (sym is);
+  near = λ closed. near-enough n o.gap o.nodes (length c.splits) c.claim (valid-follows n c limited valid)
+      (sym (end-told n o found ended run.end ∙ ap (λ (x : Cert). end_of o x) (sym is)) ∙ closed);
   held = end-held n o found ended run.end;
 }
 

@@ -1,6 +1,7 @@
 -- What a printed certificate is for its network, and the status that it ends with.
-use Rattle.std.specs.Prelude.{◌≡◌, ◌⊎◌, ℕ, length, nat_lt, if◌then◌else◌, ℤ, pos, ◌*ℤ◌, int_le}
+use Rattle.std.specs.Prelude.{◌≡◌, ◌⊎◌, ℕ, length, nat_lt, if◌then◌else◌, ℤ, pos, ◌+ℤ◌, ◌*ℤ◌, ◌≤ℤ◌, int_le}
 use Rattle.pool_model.specs.Network.{Net}
+use Rattle.pool_model.specs.Plan.{Plan, Obeys, cost_of}
 use Rattle.pool_model.specs.Claim.{Claimed, with_gap, with_bound, no_plan, Follows}
 use Rattle.row_model.specs.Entries.{Searched, start}
 use Rattle.cert_format.specs.Cert.{Cert}
@@ -37,6 +38,12 @@ status_of ends.Stuck = statuses.Stuck
 status_of ends.Infeasible = statuses.Infeasible
 status_of ends.Undecided = statuses.Undecided
 
+-- Near enough: the plan that is claimed costs at most the gap, in picos, more than each plan that obeys, of any denominator.
+abbrev pub IsNearEnough : Net → (gap : ℤ) → Claimed → Type 0
+IsNearEnough n gap (with_gap plan cost base bound apart) = (p : Plan) → Obeys n p → (cost *ℤ pos p.base) ≤ℤ ((cost_of n p +ℤ gap *ℤ pos p.base) *ℤ pos base)
+IsNearEnough n gap (with_bound bound) = ⊥
+IsNearEnough n gap no_plan = ⊥
+
 -- Why a search could not go on: under `Stuck` the least leaf can't be cut at any coordinate of the form, and under `Undecided` it
 -- can't, or there are as many splits as were asked for.
 pub record IsHeld (n : Net) (o : Orders) (found : Searched) (status : Status) : Type 0 where
@@ -65,6 +72,8 @@ pub record IsSolutionFrom (n : Net) (o : Orders) (begun : Searched) (status : St
   -- Promise: 0 stands exactly where a plan is printed and the gap is at most the asked one; 10 where it is above and there are at least
   --   `--nodes` cuts; 11 where it is above and there are fewer; 12 where the kind is `none`; 13 where it is `bound`
   pub ends : status ≡ end_of o c
+  -- Promise: Under 0 of `solve` the printed plan costs at most the asked gap more than any plan that obeys, of whatever denominator
+  pub near : status ≡ statuses.Closed → IsNearEnough n o.gap c.claim
   -- Promise: Under 11 the leaf of the least bound can't be cut at any coordinate of the form; under 13 it can't, or there are at least
   --   `--nodes` cuts
   pub held : IsHeld n o found status
