@@ -56,7 +56,7 @@ class Read:
         self.cost, self.ends, self.rows, self.products = [], {}, [], []
 
     def row(self, name, left, sign, right):
-        if name.startswith("product_"):
+        if not name.startswith("row"):
             return
         self.rows.append((int(name[3:]), "eq" if sign == "=" else "ge", -Fraction(right), terms(left)))
 
@@ -145,7 +145,7 @@ def roots(folder):
     if not shutil.which("glpsol"):
         print("glpsol is not installed, so no relaxation was solved (apt-get install glpk-utils)")
         return
-    for (name, form), bound in ROOTS.items():
+    for (name, form), bound in [*ROOTS.items(), (("empty", "pq"), 0)]:
         (folder / "program").write_text(pool("formulate", EXAMPLES / f"{name}.json", "--form", form))
         for language, words in (("lp", ["--lp"]), ("mod", ["-m"])):
             (folder / "relaxation").write_text(run("program_to_lp", "program", "--relaxation", "--units", "--format", language, at=folder).stdout)

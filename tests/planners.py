@@ -20,6 +20,7 @@ import tempfile
 import time
 import xml.etree.ElementTree as tree
 from fractions import Fraction
+from html.parser import HTMLParser
 from pathlib import Path
 
 sys.dont_write_bytecode = True
@@ -171,6 +172,44 @@ def no_plans(folder):
         yield from accepted(folder / "kept" / "net.json", folder / "kept" / "net.cert", f"{net.stem}, these rules alone")
         if "kind none" not in (folder / "kept" / "net.cert").read_text():
             yield f"{net.stem}: what is kept does not say that no plan obeys"
+
+
+# Names and a title that HTML could trip over, a product that nothing reaches, and a source that gives nothing.
+ODD = {"version": 1, "title": "<script>alert(1)</script> & \"co\"", "sources": [{"name": "<b>", "cost": 1, "max": 0, "quality": {}}], "pools": [{"name": "P'", "max": 0}],
+       "products": [{"name": "X&Y", "price": 9, "max": 100}, {"name": "lonely", "price": 1, "max": 5}], "arcs": [["<b>", "P'"], ["P'", "X&Y"], ["<b>", "X&Y"]]}
+
+
+class Cells(HTMLParser):
+    """The texts of a page's cells and headings, and its elements that stand in a text by mistake."""
+
+    def __init__(self, page):
+        super().__init__()
+        self.found, self.tags = [], []
+        self.feed(page)
+
+    def handle_starttag(self, tag, attributes):
+        self.tags.append(tag)
+
+    def handle_data(self, data):
+        self.found.append(data)
+
+
+def odd_networks(folder):
+    (folder / "odd.json").write_text(json.dumps(ODD))
+    for net in (folder / "odd.json", EXAMPLES / "empty.json", EXAMPLES / "row1.json"):
+        cert = solved(net, folder)
+        page = run("page", net, cert)
+        cells = Cells(page.stdout)
+        if page.returncode or cells.tags.count("script") != 1 or "b" in cells.tags:
+            yield f"{net.stem}: the page ends with {page.returncode}: {page.stderr}"
+        if net.stem == "odd":
+            yield from (f"the page lacks {name}" for name in ("<b>", "P'", "X&Y", "lonely", ODD["title"]) if name not in cells.found)
+        tools = [("what_if", [net, cert]), ("prices", [net, cert]), ("plan_to_csv", [net, cert, folder / net.stem, "--round", "1"]), ("check_plan", [net, folder / net.stem / "flows.csv", "--certificate", folder / "odd.cert"])]
+        for tool, words in tools:
+            found = run(tool, *words)
+            if found.returncode or "Traceback" in found.stderr:
+                yield f"{net.stem}: {tool} ends with {found.returncode}: {found.stderr}"
+        yield from accepted(net, folder / "odd.cert", f"{net.stem}, its plan in whole units")
 
 
 # ---- plans of one's own, tables of plans, runs of so many minutes
@@ -365,7 +404,7 @@ def main(*program):
     if program:
         os.environ["POOL"] = os.path.abspath(program[0])
     os.environ["LC_ALL"] = "C"
-    parts = [same_network, literature, by_hand, drawn_networks, a_unit_more, no_plans, own_plans, tables_of_plans, minutes, bad_input]
+    parts = [same_network, literature, by_hand, drawn_networks, a_unit_more, no_plans, odd_networks, own_plans, tables_of_plans, minutes, bad_input]
     differ = []
     for part in parts:
         with tempfile.TemporaryDirectory() as folder:

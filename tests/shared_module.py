@@ -12,6 +12,7 @@ import os
 import random
 import sys
 import tempfile
+import types
 from fractions import Fraction
 from pathlib import Path
 
@@ -146,6 +147,10 @@ def solved(_):
         yield f"Haverly 1: {found}"
     if pooling.solve(str(EXAMPLES / "no_plan.json")).kind != "none" or found.tables()["flows"] is None:
         yield "a network without a plan is solved"
+    sys.modules["pandas"] = types.SimpleNamespace(DataFrame=lambda rows: ("a table", len(rows)))
+    if found.tables() != {"flows": ("a table", 6), "qualities": ("a table", 1)}:
+        yield f"Haverly 1 as tables: {found.tables()}"
+    del sys.modules["pandas"]
     for words, status in (({"nodes": 20001}, 4), ({"rule": "wide"}, 2), ({"journal": str(EXAMPLES / "row1.json")}, 33)):
         try:
             pooling.solve(str(EXAMPLES / "row1.json"), **words)

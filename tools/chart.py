@@ -25,6 +25,7 @@ def point_of(search):
 class Plot:
     """The curves of bound and cost over splits, as one SVG."""
 
+    COST = "best cost"
     WIDTH, HEIGHT, LEFT, RIGHT, TOP, BOTTOM = 900, 480, 120, 190, 64, 50
 
     def __init__(self, name, points):
@@ -35,7 +36,7 @@ class Plot:
         self.low, self.high, self.most = low - room, high + room, max(points[-1].splits, 1)
         self.draw_axes(name)
         self.draw_curve("bound", [(point.splits, point.bound) for point in points], svg.BLUE, None)
-        self.draw_curve("best cost", [(point.splits, point.cost) for point in points], svg.ORANGE, "7 3")
+        self.draw_curve(self.COST, [(point.splits, point.cost) for point in points], svg.ORANGE, "7 3")
 
     def svg(self, name):
         return svg.document(self.WIDTH, self.HEIGHT, name, self.body)
@@ -104,6 +105,8 @@ def ticks(low, high):
 
 class Range(Plot):
     """The curves of bound and cost over a number of the network, from point to point."""
+
+    COST = "cost"
 
     def __init__(self, name, axis, points):
         self.axis = axis

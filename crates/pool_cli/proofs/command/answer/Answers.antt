@@ -58,13 +58,7 @@ returns-in-Solve-clause-journal g c = λ tells.
     let new = g.D.Disk.told c.solve.new.disk in
     journals_as (shown_request c.args.request) (solve (shown_solving c.in-Solve.words)) c.from.result (solve_status c.solve.result)
     (ap shown_request c.in-Solve.is) c.from.ensures
-<<<<<<< HEAD
-    (λ status s. Journaled (g.S.Shelf.told c.args.shelf.now).files s
-    old new
-    status (λ k. g.K.Sink.taken c.solve.new.out ≡ behind (g.K.Sink.taken c.args.out.now) (text_of k)))
-=======
-    (λ status s. Journaled (g.S.Shelf.files c.args.shelf.now) s old new status (λ k. g.K.Sink.taken c.solve.new.out ≡ behind (g.K.Sink.taken c.args.out.now) (text_of k)))
->>>>>>> h-disk
+    (λ status s. Journaled (g.S.Shelf.told c.args.shelf.now).files s old new status (λ k. g.K.Sink.taken c.solve.new.out ≡ behind (g.K.Sink.taken c.args.out.now) (text_of k)))
     (λ file named. c.solve.ensures.journal file named tells)
 
 -- ---- check

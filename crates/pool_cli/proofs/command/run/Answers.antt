@@ -58,13 +58,7 @@ returns-in-Ok-clause-journal g c = λ s file asks named tells.
     let old = g.D.Disk.told c.args.disk.now in
     let new = g.D.Disk.told c.answer.new.disk in
     subst
-<<<<<<< HEAD
-    (JournalsAs (λ t. Journaled (g.S.Shelf.told c.args.shelf.now).files t
-    old new
-    c.answer.result (λ k. g.K.Sink.taken c.answer.new.out ≡ behind (g.K.Sink.taken c.args.out.now) (text_of k))))
-=======
-    (JournalsAs (λ t. Journaled (g.S.Shelf.files c.args.shelf.now) t old new c.answer.result (λ k. g.K.Sink.taken c.answer.new.out ≡ behind (g.K.Sink.taken c.args.out.now) (text_of k))))
->>>>>>> h-disk
+    (JournalsAs (λ t. Journaled (g.S.Shelf.told c.args.shelf.now).files t old new c.answer.result (λ k. g.K.Sink.taken c.answer.new.out ≡ behind (g.K.Sink.taken c.args.out.now) (text_of k))))
     (sym (c.in-Ok.ensures.only (solve s) asks)) (c.answer.ensures.journal tells) file named
 
 pub returns-in-Ok-clause-apart : goal.returns-in-Ok-clause-apart
