@@ -8,12 +8,10 @@
 //! | Modules | What they do |
 //! |---|---|
 //! | `reading` | the network's numbers as the programs take them |
-//! | `polish` | single units of weight between feeds, where a plan is a new best one |
 //! | `tries` | the order in which plans are tried, and the cheapest of them |
 //! | `solving` | the simplex method of `lp_simplex` on one program after the other |
 #![tactic(auto)]
 
-mod polish;
 mod reading;
 mod solving;
 mod tries;

@@ -1,13 +1,12 @@
 //! In which order plans near a point are tried.
 //!
 //! First the flows of least cost at the point's own proportions. Then steps from the point's own flows, of three radii. Then
-//! steps from the best plan so far, of a radius that doubles where a step gains and shrinks where none does. A plan that is
-//! cheaper than the caller's best one is polished. Last, the exact vertex at the best plan's proportions.
+//! steps from the best plan so far, of a radius that doubles where a step gains and shrinks where none does. Last, the
+//! exact vertex at the best plan's proportions.
 //!
 //! Steps go from plans that this search found, and never from the caller's best plan. So who asks again about the same
 //! point, with what he was answered for his best plan, is told nothing new. The caller's best plan only ends a search early,
-//! before the steps from a plan: where the first step's program takes no plan near the point to be cheaper, or the plan is on
-//! the same hill as the caller's, a little above it.
+//! before the steps from a plan: where the first step's program takes no plan near the point to be cheaper.
 
 use crate::solving::solve;
 use blend_network::Network;
@@ -65,9 +64,6 @@ const LEAST_GAIN: i128 = 1_048_576_000_000;
 /// The part of the limit by which a plan may be dearer and still be gone on from, where the first step's program is against
 /// it.
 const NEAR_LIMIT: i128 = 200;
-
-/// The part of the limit by which a plan may be dearer and still be on the same hill: steps from it would lead to the best plan again.
-const SAME_HILL: i128 = 65_536;
 
 /// A plan that obeys, and what it costs. But for the exact one at the end, all have the grain for their base.
 #[derive(Drop)]
@@ -128,11 +124,8 @@ impl<'a> Search<'a> {
     pub fn run(&mut self, alloc: Global, point: &[i128]) -> Result<(), AllocError> {
         let start = Start::new(alloc, self.outline, point)?;
         self.from_point(alloc, &start)?;
-        if self.is_promising() && !self.is_on_the_hill() {
+        if self.is_promising() {
             self.from_plan(alloc)?;
-        }
-        if self.is_new_best() {
-            self.polish(alloc)?;
         }
         self.exact(alloc)
     }
@@ -198,7 +191,7 @@ impl<'a> Search<'a> {
     }
 
     /// What the best plan costs, in picos over the grain; more than any plan where there is none.
-    pub(crate) fn cost(&self) -> i128 {
+    fn cost(&self) -> i128 {
         self.best.as_ref().map_or(i128::MAX, |found| found.cost.num)
     }
 
@@ -247,37 +240,8 @@ impl<'a> Search<'a> {
         }
     }
 
-    /// Whether the best plan is no cheaper than the limit, and dearer by a small part of it at the most.
-    fn is_on_the_hill(&self) -> bool {
-        match self.limit {
-            None => false,
-            Some(limit) => {
-                let above = self.cost().saturating_sub(limit);
-                above >= 0 && above < limit.wrapping_abs() / SAME_HILL
-            }
-        }
-    }
-
-    /// Whether there is a plan, cheaper than the limit.
-    fn is_new_best(&self) -> bool {
-        self.best.is_some() && self.cost() < self.limit.unwrap_or(i128::MAX)
-    }
-
-    /// The network's numbers.
-    pub(crate) fn outline(&self) -> &'a Outline {
-        self.outline
-    }
-
-    /// The best plan's weights; none where there is no plan.
-    pub(crate) fn weights(&self) -> &[u32] {
-        match &self.best {
-            None => &[],
-            Some(found) => &found.plan.weights,
-        }
-    }
-
     /// The plan of least cost at these proportions, mended.
-    pub(crate) fn at_parts(&mut self, alloc: Global, parts: Vec<u32>) -> Result<(), AllocError> {
+    fn at_parts(&mut self, alloc: Global, parts: Vec<u32>) -> Result<(), AllocError> {
         if let Some(flows) = self.mended_flows(alloc, &parts)? {
             self.keep(WrittenPlan {
                 base: 1_048_576,
