@@ -71,7 +71,9 @@ fn entries_of(
     moment: u64,
     choice: u64,
 ) -> Result<usize, JournalFault> {
-    let image = disk.image(moment, choice)?;
+    let Ok(image) = disk.image(moment, choice) else {
+        return Err(JournalFault::Memory);
+    };
     let mut disk = disk_of(alloc, &[image.as_slice()], 100)?;
     reopen(alloc, &mut disk)
 }
