@@ -69,11 +69,14 @@ def rows_of(text):
 
 
 def same_network(folder):
-    """Valued for its own network, a certificate shows at least what it showed."""
+    """Valued for its own network, a certificate shows at least what it showed. How long that takes of 200 splits is printed, and not judged."""
     for name in ("haverly1", "adhya1", "wastewater", "no_plan"):
         net = EXAMPLES / f"{name}.json"
-        cert = solved(net, folder, "--nodes", "60")
+        cert = solved(net, folder, "--nodes", "200")
+        begun = time.monotonic()
         found = run("what_if", net, cert)
+        if name == "adhya1":
+            print(f"adhya1's certificate of 200 splits is valued anew in {time.monotonic() - begun:.1f} s")
         (folder / "same.cert").write_text(found.stdout)
         yield from accepted(net, folder / "same.cert", f"{name} again")
         if found.returncode or name != "no_plan" and not bound_of(found.stdout) >= bound_of(cert.read_text()):
@@ -294,14 +297,14 @@ def minutes(folder):
     net, journal = folder / "made.json", folder / "made.journal"
     net.write_text(pool("make", "9").stdout)
     begun = time.monotonic()
-    found = run("solve_for", "0.05", net, "--journal", journal, "--progress", "--gap", "0")
+    found = run("solve_for", "0.1", net, "--journal", journal, "--progress", "--gap", "0")
     (folder / "over.cert").write_text(found.stdout)
-    yield from accepted(net, folder / "over.cert", "after three seconds")
-    if found.returncode != 10 or not 3 <= time.monotonic() - begun < 60 or not all(" splits, bound -" in line and "%)" in line for line in found.stderr.splitlines()) or not found.stderr:
-        yield f"after three seconds: {found.returncode} {time.monotonic() - begun} {found.stderr}"
+    yield from accepted(net, folder / "over.cert", "after six seconds")
+    if found.returncode != 10 or not 6 <= time.monotonic() - begun < 100 or not all(" splits, bound -" in line and "%)" in line for line in found.stderr.splitlines()) or not found.stderr:
+        yield f"after six seconds: {found.returncode} {time.monotonic() - begun} {found.stderr}"
     words = [str(TOP / "tools" / "solve_for"), "10", str(net), "--journal", str(journal), "--gap", "0"]
     stopped = subprocess.Popen(words, stdout=subprocess.PIPE, stderr=subprocess.PIPE, text=True, preexec_fn=heeds_interrupts)
-    time.sleep(3)
+    time.sleep(6)
     stopped.send_signal(signal.SIGINT)
     out, error = stopped.communicate(timeout=100)
     (folder / "stopped.cert").write_text(out)

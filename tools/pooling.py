@@ -29,18 +29,20 @@ from importlib.machinery import SourceFileLoader
 from types import ModuleType, SimpleNamespace
 
 HERE = os.path.dirname(os.path.realpath(__file__))
-sys.path.insert(0, HERE)
-from plans import PICOS, UNIT, Broken, Flows, WrittenPlan, broken_rules, cost_of, exact, money, pool_means, product_means, quantity, shown, totals, units, written_plan
-from relaxation import GRAIN, MAX_SPLITS, Fault, Proof, Rows, Shown, Tree, leaf_bound, new_leaf, refuse, tree_bounds
+if HERE not in sys.path:
+    sys.path.append(HERE)  # behind the folders of who imports this
+from pooling_plans import PICOS, UNIT, Broken, Flows, WrittenPlan, broken_rules, cost_of, exact, money, pool_means, product_means, quantity, shown, totals, units, written_plan
+from pooling_rows import GRAIN, MAX_SPLITS, Fault, Proof, Rows, Shown, Tree, leaf_bound, new_leaf, refuse, tree_bounds
 
 CERTIFICATE_BYTES = 1_073_741_824
 U32, U64, I64, I128 = (0, 2**32 - 1), (0, 2**64 - 1), (-(2**63), 2**63 - 1), (-(2**127), 2**127 - 1)
 
 
 def beside(name):
-    """The script of that name in this folder, as a module."""
-    module = sys.modules[name] = ModuleType(name)
-    SourceFileLoader(name, os.path.join(HERE, name)).exec_module(module)
+    """The script of that name in this folder, as a module, which has a name that no other has."""
+    own = f"pooling_{name}"
+    module = sys.modules[own] = ModuleType(own)
+    SourceFileLoader(own, os.path.join(HERE, name)).exec_module(module)
     return module
 
 

@@ -4,7 +4,7 @@ on what is here; whoever writes a tool imports that."""
 from dataclasses import dataclass
 from fractions import Fraction
 
-from relaxation import GRAIN, Fault, refuse
+from pooling_rows import GRAIN, Fault, refuse
 
 UNIT, PICOS = 10**6, 10**12
 MAX_BASE, MAX_FLOW_BASE = GRAIN, 65_536
