@@ -7,19 +7,23 @@ use std::alloc::Global;
 use std::test::Fail;
 use worked_networks::{FAR_APART, HAVERLY_1, network};
 
-/// A network and two proofs, each by its scale and its parts, numbers of rows and multipliers; and what the first shows in the root box
-/// or its first fault, and then the second over the same scratch. Of sulfur that is far apart the product's limit, by qualities and by
-/// proportions, are the rows 3 and 4, which have the same terms.
-const VALUES: &str = "\
-haverly: 1; 1, 6 15000000 = Ok(Bound(-4900000000000000)) Ok(Bound(-3900000000000000))
-haverly: 1, 6 -1; 1, 6 15000000 = Err(Sign) Ok(Bound(-3900000000000000))
-haverly: 1, 45 1; 1, 6 15000000 = Err(UnknownRow) Ok(Bound(-3900000000000000))
-haverly: 1, 6 0; 1, 6 15000000 = Err(ZeroPart) Ok(Bound(-3900000000000000))
-haverly: 1, 5 0, 6 -1; 1, 6 15000000 = Err(Sign) Ok(Bound(-3900000000000000))
-haverly: 0, 6 1; 1, 6 15000000 = Err(ShowsNothing) Ok(Bound(-3900000000000000))
-haverly: 0; 1, 6 15000000 = Err(ShowsNothing) Ok(Bound(-3900000000000000))
-far: 1, 3 2251799813685248; 1, 2 1, 3 2251799813685248 = Ok(Bound(-85070591730234615865843651857942052864)) Err(Wide)
-far: 1, 4 2251799813685248; 1, 2 1, 4 2251799813685248 = Ok(Bound(-85070591730234615865843651857942052864)) Err(Wide)
+/// Two proofs, each by its scale and its parts, numbers of rows and multipliers; and what the first shows in the root box of Haverly's
+/// first network, or its first fault, and then the second over the same scratch.
+const OF_HAVERLY: &str = "\
+1; 1, 6 15000000 = Ok(Bound(-4900000000000000)) Ok(Bound(-3900000000000000))
+1, 6 -1; 1, 6 15000000 = Err(Sign) Ok(Bound(-3900000000000000))
+1, 45 1; 1, 6 15000000 = Err(UnknownRow) Ok(Bound(-3900000000000000))
+1, 6 0; 1, 6 15000000 = Err(ZeroPart) Ok(Bound(-3900000000000000))
+1, 5 0, 6 -1; 1, 6 15000000 = Err(Sign) Ok(Bound(-3900000000000000))
+0, 6 1; 1, 6 15000000 = Err(ShowsNothing) Ok(Bound(-3900000000000000))
+0; 1, 6 15000000 = Err(ShowsNothing) Ok(Bound(-3900000000000000))
+";
+
+/// The same of a network whose qualities are far apart. The product's limit, by qualities and by proportions, are the rows 3 and 4,
+/// which have the same terms.
+const FAR: &str = "\
+1, 3 2251799813685248; 1, 2 1, 3 2251799813685248 = Ok(Bound(-85070591730234615865843651857942052864)) Err(Wide)
+1, 4 2251799813685248; 1, 2 1, 4 2251799813685248 = Ok(Bound(-85070591730234615865843651857942052864)) Err(Wide)
 ";
 
 /// The proof of a text.
@@ -53,16 +57,28 @@ fn told(alloc: Global, net: &Network, proofs: &str) -> Result<String, Fail> {
     values(alloc, net, &first, &second)
 }
 
-#[test]
-fn proofs_show_bounds_or_have_a_first_fault(rt: HostRuntime) -> Result<(), Fail> {
-    let alloc = rt.alloc();
-    let haverly = network(alloc, HAVERLY_1)?;
-    let far = network(alloc, FAR_APART)?;
-    for line in VALUES.lines() {
-        let (asked, answer) = line.split_once(" = ").ok_or("an answer")?;
-        let (name, proofs) = asked.split_once(": ").ok_or("proofs")?;
-        let net = if name == "far" { &far } else { &haverly };
-        assert_eq!(rt; told(alloc, net, proofs)?.as_str(), answer, "of {asked}");
+/// The lines of a table, each with what its proofs show in the network of the file.
+fn shown(alloc: Global, file: &str, table: &str) -> Result<String, Fail> {
+    let net = network(alloc, file)?;
+    let mut lines = String::new(alloc);
+    for line in table.lines() {
+        let (proofs, _) = line.split_once(" = ").ok_or("an answer")?;
+        let answer = told(alloc, &net, proofs)?;
+        lines.push_str(&format!(in alloc; "{proofs} = {answer}\n")?)?;
     }
+    Ok(lines)
+}
+
+#[test]
+fn proofs_of_haverly_in_the_root_box(rt: HostRuntime) -> Result<(), Fail> {
+    let found = shown(rt.alloc(), HAVERLY_1, OF_HAVERLY)?;
+    assert_eq!(rt; found.as_str(), OF_HAVERLY);
+    Ok(())
+}
+
+#[test]
+fn a_weight_of_the_limit_is_narrow(rt: HostRuntime) -> Result<(), Fail> {
+    let found = shown(rt.alloc(), FAR_APART, FAR)?;
+    assert_eq!(rt; found.as_str(), FAR);
     Ok(())
 }
