@@ -17,6 +17,8 @@ const MONEY: i128 = 1_000_000_000_000;
 /// What a look at the root finds, of this many coordinates at the most, while there is no plan.
 fn root_look(alloc: Global, net: &Network, looks: u32) -> Result<Looked, Memory> {
     let tree = Tree::start(alloc, net)?;
+    // A look asks for a network within the limits, and its sizes say that it is.
+    let _sizes = net.sizes();
     let Some(bound) = tree.bound() else {
         return Err(Memory);
     };
