@@ -31,10 +31,10 @@ use cert_format::write_cert;
 use cli_words::SolveWords;
 use disk_model::Disk;
 use edge_io::Sink;
-use shelf_calls::Shelf;
 use recorded_run::RunFault;
 use run_status::{Status, Unread, network_under};
 use search_run::{Ended, Orders};
+use shelf_calls::Shelf;
 use std::alloc::Global;
 
 /// How `solve` ended.
