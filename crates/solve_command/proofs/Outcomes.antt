@@ -1,12 +1,15 @@
 -- What an outcome of `solve` tells of the files.
-use Rattle.std.proofs.Common.{◌≡◌, ◌≢◌, ℕ, inl, inr, List, length, nat_lt, Bool, true, false, if◌then◌else◌, Option, None, Some, ℤ, pos, ◌*ℤ◌, int_le, refl, sym, ap, subst, ◌∙◌}
-use Rattle.pool_model.specs.Network.{Network, net_of}
-use Rattle.cert_format.specs.Cert.{Cert}
+use Rattle.std.proofs.Common.{◌≡◌, ◌≢◌, ◌⊎◌, ◌≤◌, ℕ, inl, inr, List, [], length, arith, nat_lt, Bool, true, false, if◌then◌else◌, Option, None, Some, ℤ, pos, ◌*ℤ◌, int_le, refl, sym, ap, subst, ◌∙◌}
+use Rattle.pool_model.specs.Network.{Net, Network, net_of}
+use Rattle.cert_format.specs.Cert.{Cert, IsCert}
+use Rattle.cert_format.specs.Text.{text_of}
+use Rattle.cert_lengths.specs.Lengths.{HasFewRows, most_bytes}
+use Rattle.cert_lengths.proofs.ValidTexts.{few_rows-fewer}
 use Rattle.cli_words.specs.Requests.{Solving}
 use Rattle.pool_model.specs.Plan.{Written}
 use Rattle.pool_model.specs.Claim.{Claimed, with_gap, with_bound, no_plan, Follows}
 use Rattle.row_model.specs.Trees.{tree_bound}
-use Rattle.row_model.specs.Entries.{Searched}
+use Rattle.row_model.specs.Entries.{Entry, Searched, made_by}
 use Rattle.search_run.specs.Found.{CoversStarts, HasNoStart}
 use Rattle.search_run.specs.declared.ended.Ended.{Ended}
 use Rattle.search_run.specs.declared.ended.Ended.TheVariants as ends
@@ -40,6 +43,15 @@ pub took_whole : (files : Option Files) (s : Solving) (ended : Ended) (text : Li
     → Took (SolvesAs files s) (status_of ended) old new
 took_whole files s ended text old new answers e =
     subst (λ (p : Part). TookPart p (SolvesAs files s) (status_of ended) old new) (sym (printed_end ended)) (text, answers, e)
+
+-- what is printed is short: the search began with the root alone, or with a tree of few enough nodes
+pub printed_short : (n : Net) (s : Solving) (first : List Entry) (status : Status) (c : Cert) → IsWithinBudget n s.nodes → (s.journal ≡ None → first ≡ [])
+    → IsSolutionFrom n (orders_of s) (made_by first) status c → IsCert c → ((s.journal ≡ None) ⊎ HasFewRows n (length (made_by first).tree.splits)) → length (text_of c) ≤ most_bytes
+printed_short n s first status c within alone solution held (inl none) =
+    let root : HasFewRows n 0 = few_rows-fewer n 0 s.nodes (omega arith) within.short in
+    let begun = subst (λ (l : List Entry). HasFewRows n (length (made_by l).tree.splits)) (sym (alone none)) root in
+    (solution.short within.short begun).text held
+printed_short n s first status c within alone solution held (inr few) = (solution.short within.short few).text held
 
 -- how a certificate's claim ends, of a network that was read
 module _ (files : Option Files) (s : Solving) (network : Network) (reads : ReadsUnder files s.net network) (within : IsWithinBudget (net_of network) s.nodes) where

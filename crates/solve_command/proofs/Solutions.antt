@@ -12,6 +12,8 @@ use Rattle.row_model.specs.Entries.{Searched, start}
 use Rattle.cert_format.specs.Cert.{Cert}
 use Rattle.cert_format.specs.Valid.{IsValid}
 use Rattle.cert_checker.proofs.Followed.{valid-follows}
+use Rattle.cert_lengths.specs.Lengths.{HasFewRows}
+use Rattle.cert_lengths.proofs.ValidTexts.{few_rows-grown, short_enough}
 use Rattle.tree_certificate.specs.Certificates.{cert_of, claim_of, gap_of}
 use Rattle.search_core.specs.Cases.{IsClosed, IsNear}
 use Rattle.search_run.specs.Runs.{IsEnd, IsRun}
@@ -131,6 +133,10 @@ solved-from n o begun found ended c limited run search is valid = record {
   near = λ closed. near-enough n o.gap o.nodes (length c.splits) c.claim (valid-follows n c limited valid)
       (sym (end-told n o found ended run.end ∙ ap (λ (x : Cert). end_of o x) (sym is)) ∙ closed);
   held = end-held n o found ended run.end;
+  short = λ asked there.
+      let grown = few_rows-grown n (length found.tree.splits) o.nodes (length begun.tree.splits) search.grown.few asked there in
+      let few : HasFewRows n (length c.splits) = subst (λ (x : Cert). HasFewRows n (length x.splits)) (sym is) grown in
+      record { few = few; text = λ held. short_enough n c limited held valid few };
 }
 
 pub solved : (n : Net) (o : Orders) (begun found : Searched) (ended : Ended) (c : Cert) → IsLimited n → begun ≡ start → IsRun n o begun found ended → IsFound n o begun found ended

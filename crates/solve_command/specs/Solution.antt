@@ -1,11 +1,13 @@
 -- What a printed certificate is for its network, and the status that it ends with.
-use Rattle.std.specs.Prelude.{◌≡◌, ◌⊎◌, ℕ, length, nat_lt, if◌then◌else◌, ℤ, pos, ◌+ℤ◌, ◌*ℤ◌, ◌≤ℤ◌, int_le}
+use Rattle.std.specs.Prelude.{◌≡◌, ◌⊎◌, ◌≤◌, ℕ, length, nat_lt, if◌then◌else◌, ℤ, pos, ◌+ℤ◌, ◌*ℤ◌, ◌≤ℤ◌, int_le}
 use Rattle.pool_model.specs.Network.{Net}
 use Rattle.pool_model.specs.Plan.{Plan, Obeys, cost_of}
 use Rattle.pool_model.specs.Claim.{Claimed, with_gap, with_bound, no_plan, Follows}
 use Rattle.row_model.specs.Entries.{Searched, start}
-use Rattle.cert_format.specs.Cert.{Cert}
+use Rattle.cert_format.specs.Cert.{Cert, IsCert}
+use Rattle.cert_format.specs.Text.{text_of}
 use Rattle.cert_format.specs.Valid.{IsValid}
+use Rattle.cert_lengths.specs.Lengths.{HasFewRows, most_bytes}
 use Rattle.tree_certificate.specs.Certificates.{cert_of}
 use Rattle.search_core.specs.Cases.{IsSpent, IsStuck}
 use Rattle.search_run.specs.Orders.{options_of}
@@ -50,6 +52,12 @@ pub record IsHeld (n : Net) (o : Orders) (found : Searched) (status : Status) : 
   pub stuck : status ≡ statuses.Stuck → IsStuck n o.form found
   pub undecided : status ≡ statuses.Undecided → IsSpent (options_of o) found ⊎ IsStuck n o.form found
 
+-- The tree has few enough nodes for the rows of the network, and so the text of the certificate is short enough for a file that is
+-- checked.
+pub record IsShort (n : Net) (c : Cert) : Type 0 where
+  pub few : HasFewRows n (length c.splits)
+  pub text : IsCert c → length (text_of c) ≤ most_bytes
+
 -- The certificate of what a search found that began with this tree, with the status that it ends with. It is valid, and what it
 -- claims follows. What the steps were, and what follows of the tree and the plan, is said by `search_run`.
 pub record IsSolutionFrom (n : Net) (o : Orders) (begun : Searched) (status : Status) (c : Cert) : Type 0 where
@@ -77,6 +85,9 @@ pub record IsSolutionFrom (n : Net) (o : Orders) (begun : Searched) (status : St
   -- Promise: Under 11 the leaf of the least bound can't be cut at any coordinate of the form; under 13 it can't, or there are at least
   --   `--nodes` cuts
   pub held : IsHeld n o found status
+  -- Promise: Where twice the cuts that a run of `solve` within the budget began with and one, times the rows of the network, is at most
+  --   32,000,000, so it is with the cuts of the tree that it prints
+  pub short : HasFewRows n o.nodes → HasFewRows n (length begun.tree.splits) → IsShort n c
 
 -- the same of a search that began with the root alone
 abbrev pub IsSolution : Net → Orders → Status → Cert → Type 0

@@ -1,5 +1,5 @@
 -- How `solve` ends.
-use Rattle.std.specs.Prelude.{◌≡◌, ◌⊎◌, ◌+◌, ◌*◌, ◌≤◌, ℕ, List, [], Option, None, Some}
+use Rattle.std.specs.Prelude.{◌≡◌, ◌⊎◌, ◌+◌, ◌*◌, ◌≤◌, ℕ, List, [], length, Option, None, Some}
 use Rattle.pool_model.specs.Network.{Net, Network, net_of}
 use Rattle.pool_model.specs.Plan.{Written, plan_of, Obeys}
 use Rattle.pool_model.specs.Starting.{IsStarting}
@@ -9,6 +9,7 @@ use Rattle.row_model.specs.Trees.{most_splits}
 use Rattle.row_model.specs.Entries.{Entry, made_by, AreInOrder}
 use Rattle.cert_format.specs.Cert.{Cert}
 use Rattle.cert_checker.specs.Answers.{Spells}
+use Rattle.cert_lengths.specs.Lengths.{HasFewRows, most_bytes, most_rows}
 use Rattle.cli_words.specs.Requests.{Solving}
 use Rattle.search_run.specs.Found.{HasNoStart}
 use Rattle.search_run.specs.declared.orders.Orders.{Orders}
@@ -45,10 +46,6 @@ solve_status outcomes.WriteFault = statuses.WriteFault
 abbrev pub orders_of : Solving → Orders
 orders_of s = record { form = s.form; nodes = s.nodes; gap = s.gap; rule = s.rule }
 
--- how many rows of a network, node by node, a certificate may speak of
-abbrev pub most_rows : ℕ
-most_rows = 32000000
-
 -- The budget: no more splits than there may be, and of all nodes together no more rows than a certificate may speak of.
 pub record IsWithinBudget (n : Net) (nodes : ℕ) : Type 0 where
   pub few : nodes ≤ most_splits
@@ -69,6 +66,9 @@ pub record SolvesAs (files : Option Files) (s : Solving) (status : Status) (text
   pub alone : s.journal ≡ None → first ≡ []
   pub solution : IsSolutionFrom (net_of network) (orders_of s) (made_by first) status certificate
   pub spelled : Spells text certificate
+  -- Promise: The text that `solve` prints has at most 1,073,741,824 bytes, no more than a file may have that `check` reads: where no journal
+  --   is named, or twice the cuts of the tree that the run began with and one, times the rows of the network, is at most 32,000,000
+  pub short : ((s.journal ≡ None) ⊎ HasFewRows (net_of network) (length (made_by first).tree.splits)) → length text ≤ most_bytes
 
 -- a network is read from the file that is named, and what is asked is within the budget
 pub record WithinUnder (files : Option Files) (s : Solving) : Type 0 where

@@ -10,13 +10,15 @@ use Rattle.solve_command.specs.Recorded.{IsOpened}
 use Rattle.solve_command.specs.Solution.{IsSolutionFrom, status_of}
 use Rattle.solve_command.specs.SolveEnds.{SolvesAs, fault_status, solve_status}
 use Rattle.solve_command.proofs.Journaling.{journaled-printed, journaled-unsolved}
-use Rattle.solve_command.proofs.Outcomes.{disk_fault_is, no_end_fault, no_read_fault, no_write_fault, solution_ends, took_nothing, unsolved_ends}
+use Rattle.solve_command.proofs.Outcomes.{disk_fault_is, no_end_fault, no_read_fault, no_write_fault, printed_short, solution_ends, took_nothing, unsolved_ends}
 use Rattle.solve_command.proofs.solving.solve_network.Goals as goal
 
 pub returns-in-Ok-clause-took : goal.returns-in-Ok-clause-took
 returns-in-Ok-clause-took g c = λ files reads.
     let found = c.in-Ok.solution in
     let begun = c.in-Ok.ensures.solved in
+    let solution =
+    subst (λ (o : Orders). IsSolutionFrom (net_of c.args.net.now) o (made_by begun.first) (status_of found.ended) (shown_cert found.certificate)) c.in-Some.ensures.orders begun.solution in
     c.print.ensures.took files (shown_solving c.args.words.now) (record {
       network = c.args.net.now;
       certificate = shown_cert found.certificate;
@@ -25,8 +27,10 @@ returns-in-Ok-clause-took g c = λ files reads.
       first = begun.first;
       in_order = begun.in_order;
       alone = begun.alone;
-      solution = subst (λ (o : Orders). IsSolutionFrom (net_of c.args.net.now) o (made_by begun.first) (status_of found.ended) (shown_cert found.certificate)) c.in-Some.ensures.orders begun.solution;
+      solution = solution;
       spelled = record { is = c.in-Ok.ensures.certificate; text = refl };
+      short = printed_short (net_of c.args.net.now) (shown_solving c.args.words.now) begun.first (status_of found.ended) (shown_cert found.certificate) c.in-Some.ensures.within
+          begun.alone solution c.in-Ok.ensures.certificate;
     })
 
 pub returns-in-Ok-clause-ends : goal.returns-in-Ok-clause-ends
