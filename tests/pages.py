@@ -8,6 +8,7 @@ command that begins with ./pool or tools/ in a line of its own runs as written, 
 files are linked, with the status that stands behind it as `# ends with N`, else 0. Where the program isn't built, the first
 of these commands builds it, which takes a while.
 
+Of tools/help.txt: its commands, options and choices are those of docs/FORMATS.md.
 Of the pages of the crates (the lines `//!` of src/lib.rt): each file of lemmas of a crate that another crate cites is
 named by its own crate's page.
 """
@@ -111,6 +112,21 @@ def unnamed_lemmas():
             yield f"crates/{other}/src/lib.rt: the page does not name proofs/{file}.antt, which is cited in {', '.join(citing[other, file])}"
 
 
+def help_apart():
+    """Lines of tools/help.txt that are not the commands of docs/FORMATS.md with their positionals, options and choices, or lack one."""
+    rows = re.findall(r"(?m)^\|\s*(?:`(\w+)`)?\s*\|\s*([A-Z ]*?)\s*\|\s*(`--.*?|)\s*\|[^|]*\|$", (TOP / "docs" / "FORMATS.md").read_text())
+    wanted = []
+    for command, positionals, option in rows:
+        if command:
+            wanted.append(f"{command} {positionals.strip()}")
+        named = re.match(r"`(--\w+)` (.*?): ", option)
+        if named and wanted:
+            wanted[-1] += f" [{named[1]} {'|'.join(re.findall(r'`([a-z]+)`', named[2])) or named[2]}]"
+    shown = re.findall(r"(?m)^  ((?:[a-z]+) [A-Z][^\n]*?)(?: {3,}.*)?$", (TOP / "tools" / "help.txt").read_text())
+    if not wanted or shown != wanted:
+        yield f"tools/help.txt has {shown}, and docs/FORMATS.md {wanted}"
+
+
 def commands(page):
     """The commands of a page, as written in lines of their own, each with the status that it ends with."""
     for line in page.read_text().splitlines():
@@ -137,7 +153,7 @@ def main():
             judges.append(crates_left_out)
         tried += len(list(commands(page)))
         found += [f"{page.relative_to(TOP)}: {fault}" for judge in judges for fault in judge(page)]
-    found += unnamed_lemmas()
+    found += [*unnamed_lemmas(), *help_apart()]
     print(*found, sep="\n", end="\n" if found else "")
     print(f"{len(PAGES)} pages, {tried} commands of theirs, {len(found)} faults")
     return 1 if found else 0
