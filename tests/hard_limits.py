@@ -11,7 +11,6 @@ processor's time (SIGXCPU). Prints what differs, and in its last line how much w
 import argparse
 import fcntl
 import os
-import re
 import resource
 import shutil
 import signal
@@ -23,20 +22,17 @@ from pathlib import Path
 
 sys.dont_write_bytecode = True
 import journal_bytes as made
-from journals import DISK_FAULT, EXAMPLES, ROW1, Case, Done, Trial, acknowledged, differs, ends_as, program
+from journals import DISK_FAULT, EXAMPLES, ROW1, Done, Trial, acknowledged, differs, ends_as, program
 
 PAGE = resource.getpagesize()
 SIZES = 40
 SMALL_STACK = 128 * 1024
 PIPE_SIZE = 1031  # F_SETPIPE_SZ, of Linux
-PIECE = 65536  # what a check reads at a time
 USAGE = "pool: usage: solve NET, check NET CERT, report NET CERT, formulate NET, make N or trial N\n"
 OUT_OF_MEMORY = Done(23, "", "pool: out of memory\n")
 WRITE_FAULT = "pool: write fault\n"
 READ_FAULT = Done(20, "", "pool: read fault\n")
 FAULTS = [READ_FAULT, Done(21, "", WRITE_FAULT), Done(22, "", DISK_FAULT), OUT_OF_MEMORY]
-FAILING = {"openat": ["EIO", "ENOMEM", "EINTR"], "read": ["EIO", "ENOMEM", "EINTR"], "write": ["EIO", "ENOSPC", "EINTR"], "lseek": ["EIO"],
-           "fstat": ["EIO"], "newfstatat": ["EIO"], "statx": ["EIO"], "fsync": ["EIO", "EINTR"], "ftruncate": ["EIO", "EINTR"]}
 
 
 def limits(*pairs, ignored=()):
@@ -175,69 +171,6 @@ def odd_files(trial):
             yield from differs(f"{words[0]} {name}", run(trial, words), wanted)
             trial.tried["odd files"] += 1
     yield from differs("check with a certificate that can't be read", run(trial, ["check", ROW1, "/proc/self/mem"]), READ_FAULT)
-
-
-# ---- calls of the system that fail
-
-
-def calls_of(trial, case, name):
-    """How many calls of that name a run makes, the loader's among them."""
-    trace = trial.folder / "trace"
-    trial.journal.unlink(missing_ok=True)
-    trial.solve(case, before=["strace", "-f", "-o", trace, "-e", f"trace={name}"])
-    return len(re.findall(rf"(?m)^\d+ +{name}\(", trace.read_text()))
-
-
-def failed_calls(trial, case):
-    """Each call of the system fails in turn, as an interrupted one too: the run ends as ever, or says which side failed."""
-    trial.journal.unlink(missing_ok=True)
-    if not shutil.which("strace") or trial.solve(case, before=["strace", "-f", "-o", "/dev/null"]) != case.done:
-        trial.tried["calls that fail (no strace here)"] += 0
-        return
-    for name, faults in FAILING.items():
-        for number in range(1, calls_of(trial, case, name) + 1):
-            for fault in faults:
-                trial.journal.unlink(missing_ok=True)
-                inject = f"inject={name}:error={fault}:when={number}"
-                done = trial.solve(case, before=["strace", "-f", "-o", "/dev/null", "-e", f"trace={name}", "-e", inject])
-                label = f"{case.label}: {name} {number} with {fault}"
-                loader = done.status == 127 and "loading shared libraries" in done.error
-                if done != case.done and done not in FAULTS and not loader:
-                    yield f"{label}: {done}"
-                found = made.payloads(trial.left())
-                yield from differs(f"{label}: entries", found, case.entries()[: len(found)])
-                yield from ends_as(trial, case, label)
-                trial.tried["calls that fail"] += 1
-
-
-def traced(trial, words, *options):
-    """Runs the program on words under strace."""
-    done = subprocess.run(["strace", "-f", *map(str, options), trial.pool, *map(str, words)], capture_output=True, text=True)
-    trial.tried["runs"] += 1
-    return Done(done.returncode, done.stdout, done.stderr)
-
-
-def failed_reads(trial):
-    """Each read of a check fails in turn, of a certificate in pieces: 20, nothing printed; one that is broken off is tried again."""
-    certificate, trace = trial.folder / "chain.cert", trial.folder / "trace"
-    certificate.write_text(chain(20000))
-    words = ["check", EXAMPLES / "two_feeds.json", certificate]
-    wanted = run(trial, words)
-    if not shutil.which("strace") or traced(trial, words, "-o", trace, "-e", "trace=read") != wanted:
-        trial.tried["reads that fail (no strace here)"] += 0
-        return
-    told = 0
-    for number in range(1, len(re.findall(r"(?m)^\d+ +read\(", trace.read_text())) + 1):
-        for fault, answer in (("EIO", READ_FAULT), ("EINTR", wanted)):
-            done = traced(trial, words, "-o", "/dev/null", "-e", "trace=read", "-e", f"inject=read:error={fault}:when={number}")
-            loader = done.status == 127 and "loading shared libraries" in done.error
-            if done != answer and not loader:
-                yield f"check: read {number} with {fault}: {done}"
-            told += done == READ_FAULT
-            trial.tried["reads that fail"] += 1
-    pieces = -(-certificate.stat().st_size // PIECE)
-    if told < 2 + pieces + 1:
-        yield f"check: {told} reads failed, of a network and of {pieces} pieces and an end"
 
 
 # ---- disks that fill
@@ -420,8 +353,6 @@ def parts(trial, long):
     yield from long_texts(trial)
     yield from few_files(trial, row1)
     yield from odd_files(trial)
-    yield from failed_calls(trial, row1)
-    yield from failed_reads(trial)
     yield from each_size(trial, row1)
     yield from ended_by_size(trial, row1)
     yield from filling_disk(trial, many)

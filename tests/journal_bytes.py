@@ -63,14 +63,18 @@ def is_unborn(data):
     return len(data) <= 1 or data[0] == 0 or data[0] >= 2 and data[1:8] == MAGIC
 
 
+def text_bytes(data):
+    """The bytes of the text that a born file holds."""
+    return data[13 : 13 + int.from_bytes(data[9:13], "big")]
+
+
 def text_of(data):
-    """The text that a born file holds."""
-    return data[13 : 13 + int.from_bytes(data[9:13], "big")].decode()
+    return text_bytes(data).decode()
 
 
 def places(data):
     """Where each record's gate stands, up to the first closed one and with it."""
-    at = 0 if is_unborn(data) else len(header(text_of(data)))
+    at = 0 if is_unborn(data) else len(header("")) + len(text_bytes(data))
     found = [at]
     while not is_unborn(data) and data[at : at + 1] == bytes([GATE]):
         at += HEAD + int.from_bytes(data[at + 1 : at + HEAD], "big")
@@ -86,7 +90,7 @@ def payloads(data):
 
 def splits(entries):
     """The splits among the payloads, each as a line of a certificate has it."""
-    cuts = [struct.unpack(">HIq", entry[1:15]) for entry in entries if entry[0] == 1]
+    cuts = [struct.unpack(">HIq", entry[1:15]) for entry in entries if entry[:1] == b"\1" and len(entry) >= 15]
     return [f"split {leaf} {coord} {cut}" for leaf, coord, cut in cuts]
 
 

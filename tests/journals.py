@@ -1,8 +1,8 @@
 #!/usr/bin/env python3
 """Whether a run with a journal loses nothing, and goes on where it was stopped: `journals.py POOL [--long]`
 
-The program runs on real files. It is killed at random moments, from a fixed seed, and resumed; each of its calls of the disk is
-made the last one, and each is made to fail; disks get full; files are made by hand, byte by byte from docs/FORMATS.md
+The program runs on real files. It is killed at random moments, from a fixed seed, and resumed (kills.py does so before each of its
+calls, and has each fail); disks get full; files are made by hand, byte by byte from docs/FORMATS.md
 (journal_bytes.py). What a run left is read by that format too. In the end each run has to print what one prints that nobody
 stopped. Prints what differs, and in its last line how much was tried. With --long it kills ten times as often.
 """
@@ -14,7 +14,6 @@ import re
 import resource
 import shutil
 import signal
-import stat
 import subprocess
 import sys
 import tempfile
@@ -363,40 +362,6 @@ def killed(trial, case, kills):
     trial.tried["ends after kills"] += ends
 
 
-def device_calls(trial, case):
-    """The calls of a run that change or sync its journal, in order, each with its number among those of its name."""
-    trace, numbers, calls = trial.folder / "trace", Counter(), []
-    trial.journal.unlink(missing_ok=True)
-    trial.solve(case, before=["strace", "-f", "-o", trace, "-e", "trace=write,fsync,ftruncate"])
-    for line in trace.read_text().splitlines():
-        found = re.match(r"\d+ +(write|fsync|ftruncate)\((\d+)", line)
-        if found:
-            numbers[found[1]] += 1
-            calls.append((found[1], numbers[found[1]], found[2] == "1"))
-    return [(name, number) for name, number, output in calls if not output]
-
-
-def stopped_calls(trial, case, faults):
-    """Each call of the disk is the last that a run makes, or fails: it ends with 22 then; and a run behind it ends as ever."""
-    trial.journal.unlink(missing_ok=True)
-    if not shutil.which("strace") or trial.solve(case, before=["strace", "-f", "-o", "/dev/null"]).status != case.done.status:
-        trial.tried["stopped calls (no strace here)"] += 0
-        return
-    calls = device_calls(trial, case)
-    yield from differs("calls: folder, sync, birth, entries", len(calls), 2 + 8 + 4 * len(case.entries()))
-    for name, number in calls:
-        for what, wanted in [("signal=KILL", (-9, 137)), *((f"error={fault}", (22,)) for fault in faults)]:
-            trial.journal.unlink(missing_ok=True)
-            done = trial.solve(case, before=["strace", "-f", "-o", "/dev/null", "-e", f"trace={name}", "-e", f"inject={name}:{what}:when={number}"])
-            label = f"{case.label}: {name} {number} with {what}"
-            if done.status not in wanted or done.out or done.error != (DISK_FAULT if done.status == 22 else ""):
-                yield f"{label}: {done}"
-            found = made.payloads(trial.left())
-            yield from differs(f"{label}: entries", found, case.entries()[: len(found)])
-            yield from ends_as(trial, case, label)
-            trial.tried["stopped calls"] += 1
-
-
 # ---- disks that are full, and files that nobody may write
 
 
@@ -571,8 +536,6 @@ def parts(trial, hand, kills):
     yield from refused_files(hand, row1, first)
     yield from stages(trial, row1)
     yield from lost_output(trial, first)
-    yield from stopped_calls(trial, row1, ["EIO", "ENOSPC"])
-    yield from stopped_calls(trial, second, ["EIO"])
     yield from full_files(trial, second)
     yield from full_disk(trial, many)
     yield from no_files(trial, row1)

@@ -143,7 +143,7 @@ def in_units(folder):
 
 def roots(folder):
     if not shutil.which("glpsol"):
-        print("glpsol is not installed, so no relaxation was solved (apt-get install glpk-utils)")
+        print("skipped: no relaxation was solved: glpsol is not installed (apt-get install glpk-utils)")
         return
     for (name, form), bound in [*ROOTS.items(), (("empty", "pq"), 0)]:
         (folder / "program").write_text(pool("formulate", EXAMPLES / f"{name}.json", "--form", form))

@@ -703,6 +703,8 @@ def journal_files():
         (canonical, 33, "not a journal"),
     ):
         yield data, status, f"pool: {words}\n", data
+    # Its entries are not in order, and the gate behind the last one is missing: it is there then.
+    yield head + record + record, 31, "pool: journal record 1 is bad\n", head + record + record + b"\0"
 
 
 def journals(pool):

@@ -1,6 +1,6 @@
 //! The check of a certificate that is read as a stream: each part is judged as it comes.
 
-ghost use Rattle.std.specs.Prelude.{◌≡◌, ◌≢◌, ◌<◌, ◌≤◌, ◌^◌, ℕ, List, Some, Err, length};
+ghost use Rattle.std.specs.Prelude.{◌≡◌, ◌≢◌, ◌≤◌, ℕ, List, Some, Err, length};
 ghost use Rattle.edge_io.specs.Counts.{Rose};
 ghost use Rattle.shelf_calls.specs.Told.{Keeps};
 ghost use Rattle.pool_model.specs.Network.{Net, net_of};
@@ -34,7 +34,6 @@ pub fn check_stream<S: Shelf>(
     shelf: &mut S,
     most: u64,
 ) -> Result<Verdict, StreamRefusal>
-    requires { most < 2 ^ 63 }
     // Some bytes, which are the rest of the file where it is told, are accepted or refused as a text is and are at most so many; or
     // they are more. What the certificate of these bytes claims follows for every plan.
     // Promise: `check` of a file is `check` of its bytes: a file that comes in pieces is accepted or refused as its text is, with what it

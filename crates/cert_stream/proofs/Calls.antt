@@ -13,7 +13,7 @@ use Rattle.cert_items.specs.declared.items.Item as declared
 use Rattle.cert_items.specs.declared.items.State.{State}
 use Rattle.cert_items.specs.declared.items.State.TheVariants as states
 use Rattle.cert_items.specs.Items.{Field, shown_item, Gave}
-use Rattle.cert_stream.specs.Streams.{Reader, at_of, MayFollow, IsAtEnd, Took, Filled, IsMore, TookMore, GivesItem, GivesFault, Ran, Finished, FailsLater, Fails}
+use Rattle.cert_stream.specs.Streams.{Reader, at_of, MayFollow, IsAtEnd, ReaderTook, Filled, IsMore, TookMore, GivesItem, GivesFault, Ran, Finished, FailsLater, Fails}
 
 -- ---- what is taken
 
@@ -30,10 +30,10 @@ pub told : (bytes taken : List ℕ) (now : Option (List ℕ)) → Some bytes ≡
 told bytes taken None e = absurd cc
 told bytes taken (Some z) e = (z, refl, cc)
 
-abbrev pub took-none : (r : Reader) (rest : Option (List ℕ)) → (IsTrue r.ended → IsUsedUp rest) → Took r rest r rest
+abbrev pub took-none : (r : Reader) (rest : Option (List ℕ)) → (IsTrue r.ended → IsUsedUp rest) → ReaderTook r rest r rest
 took-none r rest h = record { taken = []; parts = ahead-nil rest; within = omega arith; used_up = h; over = λ e. (refl, e) }
 
-abbrev pub took-then : {r s t : Reader} {rest now later : Option (List ℕ)} → Took r rest s now → Took s now t later → Took r rest t later
+abbrev pub took-then : {r s t : Reader} {rest now later : Option (List ℕ)} → ReaderTook r rest s now → ReaderTook s now t later → ReaderTook r rest t later
 took-then {r} {s} {t} {rest} {now} {later} h k = record {
   taken = h.taken ++ k.taken;
   parts = h.parts ∙ ap (ahead h.taken) k.parts ∙ ahead-ahead h.taken k.taken later;
@@ -46,7 +46,7 @@ took-then {r} {s} {t} {rest} {now} {later} h k = record {
 }
 
 -- what may follow what the later call took may follow with it
-pub may-follow : {s t : Reader} {now later : Option (List ℕ)} (more : List ℕ) (k : Took s now t later) → MayFollow t more → MayFollow s (k.taken ++ more)
+pub may-follow : {s t : Reader} {now later : Option (List ℕ)} (more : List ℕ) (k : ReaderTook s now t later) → MayFollow t more → MayFollow s (k.taken ++ more)
 may-follow more k f = λ e. let p = k.over e in ap (λ (x : List ℕ). x ++ more) p.0 ∙ f p.1
 
 abbrev pub filled-none : (r : Reader) (rest : Option (List ℕ)) → (IsTrue r.ended → IsUsedUp rest) → Filled r rest r rest
@@ -86,14 +86,14 @@ took-more-then i j a b c le (inr e) f g =
     inr (omega (arith, g.grown, within))
 took-more-then i j a b c le (inl e) (inr f) g = inr f
 
-pub more-then : {r s : Reader} {rest now : Option (List ℕ)} → Took r rest s now → IsMore s.left now → IsMore r.left rest
+pub more-then : {r s : Reader} {rest now : Option (List ℕ)} → ReaderTook r rest s now → IsMore s.left now → IsMore r.left rest
 more-then {r} {s} {rest} {now} h m = λ x e.
     let t = told x h.taken now (sym e ∙ h.parts) in
     let longer : s.left < length t.0 = m t.0 t.1 in
     omega (arith, h.within, longer, ap length t.2, length-append h.taken t.0)
 
 -- a call that failed behind others
-pub fails-then : (e : ItemFault) {r s : Reader} (m k l : ShelfTold) → Took r m.rest s k.rest → RoseBy (r.left - s.left) m.taken k.taken →
+pub fails-then : (e : ItemFault) {r s : Reader} (m k l : ShelfTold) → ReaderTook r m.rest s k.rest → RoseBy (r.left - s.left) m.taken k.taken →
     Keeps m k → Keeps k l → Fails e s.left k l → Fails e r.left m l
 fails-then Read m k l h counted kept more f = rose-behind m.faults k.faults l.faults kept.faults_grow f
 fails-then TooLong {r} {s} m k l h counted kept more f = (more-then h f.0, took-more-then r.left s.left m.taken k.taken l.taken (omega (arith, h.within)) counted f.1 more.taken_grows)

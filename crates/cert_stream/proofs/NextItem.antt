@@ -14,7 +14,7 @@ use Rattle.cert_items.specs.declared.items.State.{State}
 use Rattle.cert_items.specs.declared.items.State.TheVariants as states
 use Rattle.cert_items.specs.Items.{Field, shown_item, next_at}
 use Rattle.cert_stream.specs.Rooms.{IsHandedOut}
-use Rattle.cert_stream.specs.Streams.{Reader, at_of, MayFollow, IsAtEnd, Took, Filled, GivesItem, GivesFault, HasBehind}
+use Rattle.cert_stream.specs.Streams.{Reader, at_of, MayFollow, IsAtEnd, ReaderTook, Filled, GivesItem, GivesFault, HasBehind}
 use Rattle.cert_items.proofs.Lasts.{end-last, last-end}
 use Rattle.cert_stream.proofs.Calls.{took-then, may-follow, filled-at}
 
@@ -60,7 +60,7 @@ stepped-ends item {m} {n} s e = end-last m.state (at_of m []) item n.state (at_o
 stepped-last : (item : declared.Item) {m n : Reader} → Stepped m n (shown_item item) → n.state ≡ states.Ended → item ≡ items.End
 stepped-last item {m} {n} s e = last-end m.state (at_of m []) item n.state (at_of n []) (s.reads [] (λ _. refl)) e
 
-abbrev took-step : {r m n : Reader} {rest now : Option (List ℕ)} → Took r rest m now → n.left ≡ m.left → n.ended ≡ m.ended → Took r rest n now
+abbrev took-step : {r m n : Reader} {rest now : Option (List ℕ)} → ReaderTook r rest m now → n.left ≡ m.left → n.ended ≡ m.ended → ReaderTook r rest n now
 took-step {r} {m} {n} {rest} {now} h left ended = record {
   taken = h.taken;
   parts = h.parts;
@@ -107,7 +107,7 @@ gives-last item {r} {m} {n} {s} {rest} {now} {later} h step close end = record {
     same p q = cc
 
 pub gives-fault : (f : TextFault) {r m s : Reader} {rest now later : Option (List ℕ)} → r.state ≢ states.Ended → Filled r rest m now
-    → ((more : List ℕ) → MayFollow m more → next_at m.state (at_of m more) ≡ Err f.line) → Took m now s later → IsTrue s.ended → GivesFault r rest s later f
+    → ((more : List ℕ) → MayFollow m more → next_at m.state (at_of m more) ≡ Err f.line) → ReaderTook m now s later → IsTrue s.ended → GivesFault r rest s later f
 gives-fault f {r} {m} {s} {rest} {now} {later} going h fault took ended = record {
   going = going;
   took = took-then h.took took;
@@ -153,7 +153,7 @@ a-first [] ne = absurd (ne refl)
 a-first (c ∷ cs) ne = (c, cs, refl)
 
 pub close-behind : (f : TextFault) {n p s : Reader} {now later last : Option (List ℕ)} → Filled n now p later → length p.held ≢ 0 → f.line ≡ p.line →
-    Took p later s last → IsTrue s.ended → HasBehind n now s last f
+    ReaderTook p later s last → IsTrue s.ended → HasBehind n now s last f
 close-behind f {n} {p} {s} {now} {later} {last} h some line took ended =
     let q = a-first p.held some in
     record {
@@ -169,7 +169,7 @@ close-behind f {n} {p} {s} {now} {later} {last} h some line took ended =
 
 -- what a reader takes does not depend on what it holds
 pub let-go : (r : Reader) (held : List ℕ) {s : Reader} {rest now : Option (List ℕ)} →
-    Took (record { state = r.state; line = r.line; held = held; left = r.left; ended = r.ended }) rest s now → Took r rest s now
+    ReaderTook (record { state = r.state; line = r.line; held = held; left = r.left; ended = r.ended }) rest s now → ReaderTook r rest s now
 let-go r held h = record { taken = h.taken; parts = h.parts; within = h.within; used_up = h.used_up; over = h.over }
 
 -- ---- faults

@@ -9,12 +9,12 @@ use Rattle.cert_format.specs.Cert.{Cert, IsCert}
 use Rattle.cert_format.specs.Text.{text_of}
 use Rattle.cert_items.specs.declared.items.State.TheVariants as states
 use Rattle.cert_items.specs.Items.{Field, items_of, next_at, Gave}
-use Rattle.cert_stream.specs.Streams.{Reader, fresh, at_of, IsAtEnd, Took, GivesFault, StandsBehind, Ran, IsRest, IsTextOf, IsFaultyAt, IsPaid}
+use Rattle.cert_stream.specs.Streams.{Reader, fresh, at_of, IsAtEnd, ReaderTook, GivesFault, StandsBehind, Ran, IsRest, IsTextOf, IsFaultyAt, IsPaid}
 use Rattle.cert_stream.proofs.Calls.{told, took-then, gave-append}
 use Rattle.cert_items.proofs.ItemLaws.{gave-end, gave-prefix, gave-fault, gave-behind}
 
 -- where nothing is left, what was taken is the rest
-pub all-taken : {r s : Reader} {rest now : Option (List ℕ)} (h : Took r rest s now) → IsTrue s.ended → IsRest rest h.taken
+pub all-taken : {r s : Reader} {rest now : Option (List ℕ)} (h : ReaderTook r rest s now) → IsTrue s.ended → IsRest rest h.taken
 all-taken {r} {s} {rest} {now} h ended = λ x e.
     let t = told x h.taken now (sym e ∙ h.parts) in
     let none : t.0 ≡ [] = h.used_up ended t.0 t.1 in
@@ -51,7 +51,7 @@ run-fails most rest s now is t later fault ran found = record {
   faulty = by_kind found.is;
 }
   where
-    both : Took (fresh most) rest t later
+    both : ReaderTook (fresh most) rest t later
     both = took-then ran.took found.took
 
     bytes : List ℕ

@@ -1,6 +1,7 @@
 -- A reader that holds 128 bytes, or all that is left, reads its next item in these bytes as in the whole.
 use Rattle.std.proofs.Common.{◌≡◌, ◌⊎◌, ℕ, suc, Bool, true, false, cond, eqb, ◌+◌, ◌-◌, ◌<◌, ◌≤◌, IsTrue, List, [], ◌∷◌, ◌++◌, length, drop, Result, Ok, Err}
 use Rattle.std.proofs.Common.{refl, sym, ap, subst, ◌∙◌, arith, length-append, inl, inr}
+use Rattle.std.proofs.lemmas.Bool.{eqb-true}
 use Rattle.std.proofs.lemmas.List.{append-nil}
 use Rattle.std.proofs.Math.Seq.{drop-append_seam}
 use Rattle.cert_text.specs.Lines.{line_feeds}
@@ -11,6 +12,7 @@ use Rattle.cert_items.specs.Items.{Field, next_at}
 use Rattle.cert_stream.specs.Streams.{Reader, at_of, MayFollow}
 use Rattle.cert_items.proofs.Pieces.{IsBehind}
 use Rattle.cert_items.proofs.ItemPieces.{next_piece}
+use Rattle.cert_stream.proofs.FirstBytes.{no-feed-first}
 
 -- the bytes that are held, and nothing behind them
 abbrev pub alone : Reader → At
@@ -57,12 +59,21 @@ line_feeds-le (c ∷ cs) = by_end (eqb c 10) (line_feeds-le cs)
     by_end true h = omega (arith, h)
     by_end false h = omega (arith, h)
 
--- fewer bytes are left, and no more lines than bytes are behind
-pub item-lines : (r : Reader) (x : Field × State) (b : At) → next_at r.state (alone r) ≡ Ok (x, b) → (length b.rest < length r.held) × (b.line + length b.rest ≤ r.line + length r.held)
+-- an item has a byte beside its line feeds
+fewer-feeds : (r : Reader) (x : Field × State) (b : At) (front : List ℕ) → next_at r.state (alone r) ≡ Ok (x, b) → r.held ≡ front ++ b.rest → 1 ≤ length front → line_feeds front < length front
+fewer-feeds r x b [] e parts long = absurd (omega arith)
+fewer-feeds r x b (c ∷ cs) e parts long = by_end (eqb c 10) refl
+  where
+    by_end : (t : Bool) → eqb c 10 ≡ t → cond t 1 0 + line_feeds cs < suc (length cs)
+    by_end true same = absurd (no-feed-first r.state r.line (cs ++ b.rest) x b (ap (λ (h : List ℕ). next_at r.state (record { line = r.line; rest = h })) (sym (parts ∙ ap (λ (d : ℕ). d ∷ cs ++ b.rest) (eqb-true c 10 same))) ∙ e))
+    by_end false other = omega (arith, line_feeds-le cs)
+
+-- fewer bytes are left, and fewer lines than bytes are behind
+pub item-lines : (r : Reader) (x : Field × State) (b : At) → next_at r.state (alone r) ≡ Ok (x, b) → (length b.rest < length r.held) × (b.line + length b.rest < r.line + length r.held)
 item-lines r x b e =
     let front = item-front r x b e in
     let long : length r.held ≡ length front.front + length b.rest = ap length front.parts ∙ length-append front.front b.rest in
-    (omega (arith, long, front.long), omega (arith, long, front.line, line_feeds-le front.front))
+    (omega (arith, long, front.long), omega (arith, long, front.line, fewer-feeds r x b front.front e front.parts front.long))
 
 pub step-gives : (r s : Reader) (i : Field) (b : At) → IsFull r → next_at r.state (alone r) ≡ Ok ((i, s.state), b) → s.line ≡ b.line → s.held ≡ drop (length r.held - length b.rest) r.held
     → (more : List ℕ) → MayFollow r more → next_at r.state (at_of r more) ≡ Ok ((i, s.state), at_of s more)

@@ -32,6 +32,10 @@ pub record Reader : Type 0 where
 abbrev pub fresh : ℕ → Reader
 fresh most = record { state = states.Begin; line = 1; held = []; left = most; ended = false }
 
+-- the number of a line behind the first; 0 for the first, which is there before any byte
+abbrev pub later : ℕ → ℕ
+later line = line - (2 - line)
+
 -- what the reader has before it, where these bytes come behind those that it holds
 abbrev pub at_of : Reader → List ℕ → At
 at_of r more = record { line = r.line; rest = r.held ++ more }
@@ -48,7 +52,7 @@ pub record IsAtEnd (s : Reader) : Type 0 where
 -- ---- what a call takes
 
 -- calls took these bytes of the file, and no more than they may; a file at its end stays so
-pub record Took (r : Reader) (rest : Option (List ℕ)) (s : Reader) (now : Option (List ℕ)) : Type 0 where
+pub record ReaderTook (r : Reader) (rest : Option (List ℕ)) (s : Reader) (now : Option (List ℕ)) : Type 0 where
   pub taken : List ℕ
   pub parts : rest ≡ ahead taken now
   pub within : s.left + length taken ≡ r.left
@@ -57,7 +61,7 @@ pub record Took (r : Reader) (rest : Option (List ℕ)) (s : Reader) (now : Opti
 
 -- the same, and the reader holds them behind those that it held
 pub record Filled (r : Reader) (rest : Option (List ℕ)) (s : Reader) (now : Option (List ℕ)) : Type 0 where
-  pub took : Took r rest s now
+  pub took : ReaderTook r rest s now
   pub held : s.held ≡ r.held ++ took.taken
   pub state : s.state ≡ r.state
   pub line : s.line ≡ r.line
@@ -74,7 +78,7 @@ TookMore most before after = (before + most < after) ⊎ (after ≡ 2 ^ 64 - 1)
 
 -- a call read this item, of one byte at least, whatever comes behind the bytes that it took; the last one at the file's end
 pub record GivesItem (r : Reader) (rest : Option (List ℕ)) (s : Reader) (now : Option (List ℕ)) (item : declared.Item) : Type 0 where
-  pub took : Took r rest s now
+  pub took : ReaderTook r rest s now
   pub reads : (more : List ℕ) → MayFollow s more
       → next_at r.state (at_of r (took.taken ++ more)) ≡ Ok ((shown_item item, s.state), at_of s more)
   pub some : length s.held < length r.held + length took.taken
@@ -92,13 +96,13 @@ pub record StandsBehind (r : Reader) (taken : List ℕ) (line : ℕ) : Type 0 wh
 -- A call took the file to its end, and found a fault at this line: of the next item, or behind the last line.
 pub record GivesFault (r : Reader) (rest : Option (List ℕ)) (s : Reader) (now : Option (List ℕ)) (fault : TextFault) : Type 0 where
   pub going : r.state ≢ states.Ended
-  pub took : Took r rest s now
+  pub took : ReaderTook r rest s now
   pub at_the_end : IsTrue s.ended
   pub is : (next_at r.state (at_of r took.taken) ≡ Err fault.line) ⊎ StandsBehind r took.taken fault.line
 
 -- the reader took the file to its end, and a byte stood behind the bytes that were read, in this line
 pub record HasBehind (r : Reader) (rest : Option (List ℕ)) (s : Reader) (now : Option (List ℕ)) (fault : TextFault) : Type 0 where
-  pub took : Took r rest s now
+  pub took : ReaderTook r rest s now
   pub at_the_end : IsTrue s.ended
   pub line : fault.line ≡ r.line
   pub first : ℕ
@@ -109,7 +113,7 @@ pub record HasBehind (r : Reader) (rest : Option (List ℕ)) (s : Reader) (now :
 
 -- calls gave these items, whatever comes behind the bytes that they took
 pub record Ran (r : Reader) (rest : Option (List ℕ)) (s : Reader) (now : Option (List ℕ)) (items : List Field) : Type 0 where
-  pub took : Took r rest s now
+  pub took : ReaderTook r rest s now
   pub reads : (more : List ℕ) → MayFollow s more → Gave r.state (at_of r (took.taken ++ more)) items s.state (at_of s more)
   pub some : length s.held + length items ≤ length r.held + length took.taken
 

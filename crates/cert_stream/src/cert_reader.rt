@@ -8,7 +8,7 @@ ghost use Rattle.cert_text.specs.declared.fault.TextFault.{TextFault as AFault};
 ghost use Rattle.cert_stream.specs.declared.fault.ItemFault.TheVariants as faults;
 ghost use Rattle.cert_items.specs.declared.items.State.TheVariants as states;
 ghost use Rattle.cert_items.specs.Items.{shown_item, next_at};
-ghost use Rattle.cert_stream.specs.Streams.{Filled, Took, GivesItem, GivesFault, Finished, FailsLater, Fails, HasBehind, IsMore, TookMore, MayFollow, IsAtEnd, fresh, at_of};
+ghost use Rattle.cert_stream.specs.Streams.{Filled, ReaderTook, GivesItem, GivesFault, Finished, FailsLater, Fails, HasBehind, IsMore, TookMore, MayFollow, IsAtEnd, fresh, at_of};
 
 use crate::fault::ItemFault;
 use crate::held::Held;
@@ -38,20 +38,19 @@ pub struct CertReader {
 
 impl Model for CertReader {
     ghost use Rattle.std.specs.Prelude.{◌+◌, ◌<◌, ◌^◌, length};
-    ghost use Rattle.cert_stream.specs.Streams.{Reader};
+    ghost use Rattle.cert_stream.specs.Streams.{Reader, later};
 
     ghost Value = { Reader };
 
     ghost view = { λ r. record { state = r.state; line = r.line; held = r.held; left = r.left; ended = r.ended } };
 
-    // No line has a number past the last byte's.
-    ghost invariant = { λ r. r.line + length r.held + r.left < 2 ^ 64 };
+    // No line but the first has a number past the last byte's, since each has a byte beside its line feed.
+    ghost invariant = { λ r. later r.line + length r.held + r.left < 2 ^ 64 };
 }
 
 impl CertReader {
     /// Before the first byte of a file that may have at most so many bytes.
     pub fn start(alloc: Global, most: u64) -> Result<CertReader, Memory>
-        requires { most < 2 ^ 63 }
         ensures { IfOk result (λ r. r ≡ fresh most) }
     {
         Ok(CertReader {
@@ -198,7 +197,7 @@ impl CertReader {
     /// Takes the rest and lets it go.
     fn drain<S: Shelf>(&mut self, shelf: &mut S) -> Result<(), ItemFault>
         requires used_up { IsTrue self.old.ended → IsUsedUp (S.told shelf.old).rest }
-        ensures took { OnOk result (Took self.old (S.told shelf.old).rest self.new (S.told shelf.new).rest) }
+        ensures took { OnOk result (ReaderTook self.old (S.told shelf.old).rest self.new (S.told shelf.new).rest) }
         ensures ended { OnOk result (IsTrue self.new.ended) }
         ensures failed { IfErr result (λ e. Fails e self.old.left (S.told shelf.old) (S.told shelf.new)) }
         ensures kept { Keeps (S.told shelf.old) (S.told shelf.new) }

@@ -14,11 +14,11 @@ use Rattle.cert_text.proofs.PieceLaws.{next_digit}
 use Rattle.cert_text.specs.Reading.{digits_at, digits_from, number_from, number_spelling, number_at, is_next_digit, At, found_at, after_word, word_at, first_byte, first_of, behind_byte, behind}
 
 -- after i bytes of the word the text goes on at a
-pub record Follows (word : List ℕ) (start : At) (i : ℕ) (a : At) : Type 0 where
+pub record StepsBehind (word : List ℕ) (start : At) (i : ℕ) (a : At) : Type 0 where
   pub rest : after_word (drop i word) a.rest ≡ after_word word start.rest
   pub line : a.line + line_feeds (drop i word) ≡ start.line + line_feeds word
 
-pub follows-init : (word : List ℕ) (start : At) → Follows word start 0 start
+pub follows-init : (word : List ℕ) (start : At) → StepsBehind word start 0 start
 follows-init word start = record { rest = refl; line = refl }
 
 -- the test of the code: the next byte differs
@@ -48,7 +48,7 @@ other_byte w ws (c ∷ cs) e = by_same (eqb c w) (eqb-false c w) e
     by_same true h f = absurd cc
     by_same false h f = rw (ne_eqb w c (λ e2. h refl (sym e2))) refl
 
-pub follows-step : (word : List ℕ) (start : At) (i : ℕ) (a : At) → i < length word → differs (first_of a) (get_or word i 0) ≡ false → Follows word start i a → Follows word start (i + 1) (behind a)
+pub follows-step : (word : List ℕ) (start : At) (i : ℕ) (a : At) → i < length word → differs (first_of a) (get_or word i 0) ≡ false → StepsBehind word start i a → StepsBehind word start (i + 1) (behind a)
 follows-step word start i a lt e h =
     let split : drop i word ≡ get_or word i 0 ∷ drop (i + 1) word = rw (add-one, drop-cons word i 0) refl in
     let o = one_byte (get_or word i 0) (drop (i + 1) word) a.line a.rest e in
@@ -57,14 +57,14 @@ follows-step word start i a lt e h =
       line = o.1 ∙ ap (λ (w : List ℕ). a.line + line_feeds w) (sym split) ∙ h.line;
     }
 
-pub follows-end : (word : List ℕ) (start : At) (i : ℕ) (a : At) → length word ≤ i → Follows word start i a → word_at word start ≡ Ok (tt, a)
+pub follows-end : (word : List ℕ) (start : At) (i : ℕ) (a : At) → length word ≤ i → StepsBehind word start i a → word_at word start ≡ Ok (tt, a)
 follows-end word start i a le h =
     let nothing : drop i word ≡ [] = drop_of_length-le word le in
     let found : after_word word start.rest ≡ Some a.rest = sym h.rest ∙ ap (λ (w : List ℕ). after_word w a.rest) nothing in
     let line : start.line + line_feeds word ≡ a.line = sym h.line ∙ ap (λ (w : List ℕ). a.line + line_feeds w) nothing ∙ add-zero a.line in
     rw found (rw line refl)
 
-pub follows-fault : (word : List ℕ) (start : At) (i : ℕ) (a : At) → i < length word → differs (first_of a) (get_or word i 0) ≡ true → Follows word start i a → word_at word start ≡ Err start.line
+pub follows-fault : (word : List ℕ) (start : At) (i : ℕ) (a : At) → i < length word → differs (first_of a) (get_or word i 0) ≡ true → StepsBehind word start i a → word_at word start ≡ Err start.line
 follows-fault word start i a lt e h =
     let split : drop i word ≡ get_or word i 0 ∷ drop (i + 1) word = rw (add-one, drop-cons word i 0) refl in
     let none : after_word word start.rest ≡ None = sym h.rest ∙ ap (λ (w : List ℕ). after_word w a.rest) split ∙ other_byte (get_or word i 0) (drop (i + 1) word) a.rest e in

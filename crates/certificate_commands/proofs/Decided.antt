@@ -1,10 +1,11 @@
 -- What the told files decide of `check`, and so of `report`.
-use Rattle.std.proofs.Common.{◌≡◌, ℕ, inl, inr, List, length, Option, Some, refl, ap, subst, arith}
-use Rattle.shelf_calls.specs.Files.{file_of}
+use Rattle.std.proofs.Common.{◌≡◌, ℕ, ◌≤◌, inl, inr, List, length, Option, Some, refl, ap, subst, arith}
+use Rattle.shelf_calls.specs.Files.{file_of, HasFile}
 use Rattle.pool_model.specs.Network.{Network, net_of}
 use Rattle.cert_format.specs.Cert.{Cert}
 use Rattle.cert_format.specs.Valid.{IsValid}
 use Rattle.cert_checker.specs.Answers.{Spells}
+use Rattle.cert_lengths.specs.Lengths.{most_bytes}
 use Rattle.json_walk.specs.declared.fault.ReadNet.{ReadNet}
 use Rattle.run_status.specs.Reads.{Files, IsRefusedAs, ReadsNone, ReadsUnder}
 use Rattle.certificate_commands.specs.CheckEnds.{AreRead, CheckDecided, CheckEnds, JudgedUnder, LongUnder}
@@ -21,6 +22,12 @@ module _ (told : Files) (net cert : List ℕ) where
   not_long n bytes before after r l =
       let same = some_same (file_of told cert) bytes l.more.bytes r.file l.more.are in
       omega (arith, l.more.more, r.short, ap (λ (b : List ℕ). length b) same)
+
+  -- a file that is short enough is not too long
+  pub never_long : (bytes : List ℕ) (before after : ℕ) → HasFile (Some told) cert bytes → length bytes ≤ most_bytes → ¬ CheckEnds (Some told) net cert before after statuses.CertTooLong
+  never_long bytes before after file short l =
+      let same = some_same (file_of told cert) bytes l.more.bytes file l.more.are in
+      omega (arith, l.more.more, short, ap (λ (b : List ℕ). length b) same)
 
   refused : (cause : ReadNet) (before after : ℕ) (n : Network) → IsRefusedAs (Some told) net before after cause → ReadsUnder (Some told) net n → ⊥
   refused cause before after n h reads = refused_unread told net cause n h.own (h.told told refl) reads

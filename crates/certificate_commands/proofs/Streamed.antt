@@ -15,11 +15,12 @@ use Rattle.cert_checker.specs.declared.verdict.Verdict.{Verdict}
 use Rattle.cert_checker.specs.Streams.{IsStreamAnswer}
 use Rattle.cert_checker.proofs.Order.{valid-clear}
 use Rattle.cert_checker.proofs.Streaming.{spelled-same}
-use Rattle.certificate_commands.specs.CheckEnds.{AreRead, CheckEnds, ChecksAs, JudgedUnder, most_bytes}
+use Rattle.cert_lengths.specs.Lengths.{most_bytes}
+use Rattle.certificate_commands.specs.CheckEnds.{AreRead, CheckEnds, ChecksAs, JudgedUnder}
 use Rattle.certificate_commands.specs.OpenedEnds.{AreRest, IsLongRest, JudgedRest, LineOnRest, OpenedEnds}
 use Rattle.run_status.specs.Reads.{Files, ReadsUnder}
 use Rattle.run_status.specs.Took.{Part, whole, front, nothing, printed_by, Took, TookPart}
-use Rattle.verdict_text.specs.Verdicts.{accepted_line, refused_line}
+use Rattle.printed_lines.specs.Verdicts.{accepted_line, refused_line}
 use Rattle.run_status.specs.declared.status.Status.{Status}
 use Rattle.run_status.specs.declared.status.Status.TheVariants as statuses
 
@@ -29,7 +30,7 @@ clear-first : (n : Net) (bytes : List ℕ) (r : Refusal) → GivesFirst n bytes 
 clear-first n bytes r is c spelled valid =
     valid-clear n is.cert r (subst (λ (x : Cert). IsValid n x) (spelled-same bytes c is.cert spelled is.spelled) valid) is.first.holds
 
-refused-invalid : (n : Net) (bytes : List ℕ) (r : Refusal) → IsRefused n bytes r → r ≢ Memory → (c : Cert) → Spells bytes c → ¬ IsValid n c
+pub refused-invalid : (n : Net) (bytes : List ℕ) (r : Refusal) → IsRefused n bytes r → r ≢ Memory → (c : Cert) → Spells bytes c → ¬ IsValid n c
 refused-invalid n bytes (Text fault) is own c spelled = absurd (is.none c spelled)
 refused-invalid n bytes Memory is own c spelled = absurd (own refl)
 refused-invalid n bytes r is own c spelled = clear-first n bytes r is c spelled
@@ -46,9 +47,9 @@ module _ (n : Net) (rest : Option (List ℕ)) where
   abbrev refusing : StreamRefusal → Result Verdict StreamRefusal
   refusing s = Err s
 
-  module _ (s : StreamRefusal) (r : Refusal) (is : s ≡ streams.Refused r) (other : refusing s ≢ refusing (streams.Refused Memory)) (checked : Answered (refusing s)) where
+  module _ (s : StreamRefusal) (r : Refusal) (is : s ≡ streams.Refused r) (other : s ≢ streams.Refused Memory) (checked : Answered (refusing s)) where
     own : r ≢ Memory
-    own e = other (ap (λ (x : StreamRefusal). refusing x) (is ∙ ap (λ (x : Refusal). streams.Refused x) e))
+    own e = other (is ∙ ap (λ (x : Refusal). streams.Refused x) e)
 
     here : Answered (refusing (streams.Refused r))
     here = subst (λ (x : StreamRefusal). Answered (refusing x)) is checked

@@ -1,6 +1,8 @@
 -- How `check` ends.
 use Rattle.std.specs.Prelude.{◌≡◌, ◌≢◌, ◌⊎◌, ℕ, ◌≤◌, List, length, Option, Some}
 use Rattle.shelf_calls.specs.Files.{HasFile, IsTooLong}
+use Rattle.shelf_calls.specs.declared.fault.OpenFault.{OpenFault}
+use Rattle.shelf_calls.specs.declared.fault.OpenFault.TheVariants as open_faults
 use Rattle.pool_model.specs.Network.{Network, Net, net_of}
 use Rattle.pool_model.specs.Claim.{Follows}
 use Rattle.cert_format.specs.Cert.{Cert}
@@ -9,17 +11,14 @@ use Rattle.proof_lines.specs.declared.refusal.Refusal.{Refusal}
 use Rattle.proof_lines.specs.declared.refusal.Refusal.TheVariants as refusals
 use Rattle.cert_checker.specs.declared.verdict.Verdict.{Verdict}
 use Rattle.cert_checker.specs.Answers.{Spells, IsAccepted, IsRefused}
+use Rattle.cert_lengths.specs.Lengths.{most_bytes}
 use Rattle.run_status.specs.Reads.{Files, IsRefusedAs, ReadsNone, ReadsUnder}
 use Rattle.run_status.specs.Took.{IsCutShort, IsNetworkRefused, unread_status}
-use Rattle.verdict_text.specs.Verdicts.{accepted_line, refused_line}
+use Rattle.printed_lines.specs.Verdicts.{accepted_line, refused_line}
 use Rattle.certificate_commands.specs.declared.checking.CheckOutcome.{CheckOutcome}
 use Rattle.certificate_commands.specs.declared.checking.CheckOutcome.TheVariants as outcomes
 use Rattle.run_status.specs.declared.status.Status.{Status}
 use Rattle.run_status.specs.declared.status.Status.TheVariants as statuses
-
--- how many bytes a certificate may have
-abbrev pub most_bytes : ℕ
-most_bytes = 1073741824
 
 -- the status that it ends with
 abbrev pub check_status : CheckOutcome → Status
@@ -30,6 +29,11 @@ check_status outcomes.ReadFault = statuses.ReadFault
 check_status outcomes.TooLong = statuses.CertTooLong
 check_status outcomes.Memory = statuses.OutOfMemory
 check_status outcomes.WriteFault = statuses.WriteFault
+
+-- how it ends where the certificate's file is not opened
+abbrev pub unopened : OpenFault → CheckOutcome
+unopened open_faults.Failed = outcomes.ReadFault
+unopened open_faults.Memory = outcomes.Memory
 
 -- ---- what is printed
 

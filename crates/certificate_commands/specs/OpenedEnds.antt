@@ -2,7 +2,8 @@
 use Rattle.std.specs.Prelude.{ℕ, ◌<◌, ◌≤◌, List, length, Option}
 use Rattle.pool_model.specs.Network.{Net}
 use Rattle.cert_stream.specs.Streams.{IsRest, TookMore}
-use Rattle.certificate_commands.specs.CheckEnds.{IsJudged, LineOn, most_bytes}
+use Rattle.cert_lengths.specs.Lengths.{most_bytes}
+use Rattle.certificate_commands.specs.CheckEnds.{IsJudged, LineOn}
 use Rattle.run_status.specs.declared.status.Status.{Status}
 use Rattle.run_status.specs.declared.status.Status.TheVariants as statuses
 

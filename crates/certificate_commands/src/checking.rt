@@ -1,9 +1,14 @@
 //! The command `check`.
 
-ghost use Rattle.std.specs.Prelude.{◌≡◌, ◌≤◌, ℕ, List, IsTrue};
+ghost use Rattle.std.specs.Prelude.{◌≡◌, ◌≢◌, ◌≤◌, ℕ, List, Option, Err, IsTrue};
 ghost use Rattle.edge_io.specs.Counts.{Grows, Rose};
-ghost use Rattle.pool_model.specs.Network.{Network as ANetwork, net_of};
-ghost use Rattle.certificate_commands.specs.CheckEnds.{CheckEnds, ChecksAs, check_status};
+ghost use Rattle.pool_model.specs.Network.{Net, Network as ANetwork, net_of};
+ghost use Rattle.cert_lengths.specs.Lengths.{most_bytes};
+ghost use Rattle.cert_stream.specs.Streams.{TookMore};
+ghost use Rattle.cert_checker.specs.Streams.{IsStreamAnswer};
+ghost use Rattle.proof_lines.specs.declared.refusal.Refusal.TheVariants as refusals;
+ghost use Rattle.proof_lines.specs.declared.stream_refusal.StreamRefusal.TheVariants as streams;
+ghost use Rattle.certificate_commands.specs.CheckEnds.{CheckEnds, ChecksAs, check_status, unopened};
 ghost use Rattle.certificate_commands.specs.OpenedEnds.{LineOnRest, OpenedEnds};
 ghost use Rattle.run_status.specs.Reads.{ReadsUnder};
 ghost use Rattle.run_status.specs.Took.{Took};
@@ -11,10 +16,10 @@ ghost use Rattle.run_status.specs.Took.{Took};
 use blend_network::Network;
 use cert_checker::{Refusal, StreamRefusal, check_stream};
 use edge_io::Sink;
+use printed_lines::{write_refused, write_verdict};
 use run_status::{Status, Unread, network_under};
 use shelf_calls::{OpenFault, Shelf};
 use std::alloc::Global;
-use verdict_text::{write_refused, write_verdict};
 
 /// How many bytes a certificate may have.
 pub(crate) const MOST_BYTES: usize = 1_073_741_824;
@@ -50,6 +55,18 @@ impl From<CheckOutcome> for Status {
             CheckOutcome::TooLong => Status::CertTooLong,
             CheckOutcome::Memory => Status::OutOfMemory,
             CheckOutcome::WriteFault => Status::WriteFault,
+        }
+    }
+}
+
+impl From<OpenFault> for CheckOutcome {
+    ghost from_gives = { λ fault outcome. outcome ≡ unopened fault };
+
+    // Promise: Of what a shelf may say where CERT is opened want of memory alone is made 23: a failure is made 20
+    fn from(fault: OpenFault) -> CheckOutcome {
+        match fault {
+            OpenFault::Failed => CheckOutcome::ReadFault,
+            OpenFault::Memory => CheckOutcome::Memory,
         }
     }
 }
@@ -94,8 +111,7 @@ fn check_file<S: Shelf, K: Sink>(
 {
     match shelf.open_read(alloc, cert) {
         Ok(()) => check_opened(alloc, network, shelf, out),
-        Err(OpenFault::Failed) => CheckOutcome::ReadFault,
-        Err(OpenFault::Memory) => CheckOutcome::Memory,
+        Err(fault) => CheckOutcome::from(fault),
     }
 }
 
@@ -116,12 +132,28 @@ fn check_opened<S: Shelf, K: Sink>(
             Ok(()) => CheckOutcome::Accepted,
             Err(_) => CheckOutcome::WriteFault,
         },
-        Err(StreamRefusal::Refused(refusal)) => match write_refused(&refusal, out) {
+        Err(refusal) => tell_refusal(refusal, out),
+    }
+}
+
+/// How the check ends of a file that was not accepted: the line is written where the certificate is refused.
+fn tell_refusal<K: Sink>(refusal: StreamRefusal, out: &mut K) -> CheckOutcome
+    requires { refusal ≢ streams.Refused refusals.Memory }
+    ensures took { (n : Net) (rest : Option (List ℕ)) → IsStreamAnswer n rest most_bytes (Err refusal) → Took (LineOnRest n rest) (check_status result) (K.taken out.old) (K.taken out.new) }
+    ensures ends { (n : Net) (rest : Option (List ℕ)) (before after : ℕ) → IsStreamAnswer n rest most_bytes (Err refusal) → (refusal ≡ streams.TooLong → TookMore most_bytes before after)
+        → OpenedEnds n rest before after (check_status result) }
+    ensures read_fault { check_status result ≡ Status.ReadFault → refusal ≡ streams.Read }
+    ensures write_fault { check_status result ≡ Status.WriteFault → Rose (K.faults out.old) (K.faults out.new) }
+    // Promise: Of the causes for which CERT is not accepted want of memory alone is made 23
+    ensures memory { check_status result ≡ Status.OutOfMemory → refusal ≡ streams.Memory }
+{
+    match refusal {
+        StreamRefusal::Refused(refusal) => match write_refused(&refusal, out) {
             Ok(()) => CheckOutcome::Refused(refusal),
             Err(_) => CheckOutcome::WriteFault,
         },
-        Err(StreamRefusal::Read) => CheckOutcome::ReadFault,
-        Err(StreamRefusal::TooLong) => CheckOutcome::TooLong,
-        Err(StreamRefusal::Memory) => CheckOutcome::Memory,
+        StreamRefusal::Read => CheckOutcome::ReadFault,
+        StreamRefusal::TooLong => CheckOutcome::TooLong,
+        StreamRefusal::Memory => CheckOutcome::Memory,
     }
 }

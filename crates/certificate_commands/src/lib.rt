@@ -3,14 +3,16 @@
 //! [`check`] opens the certificate in a file, judges it piece by piece, and writes the line on it. [`report`] takes the file into memory,
 //! has the same check over its bytes, and writes the report of a valid one, or the line of the refusal. What each writes, and when each
 //! status comes, is said in `specs/CheckEnds.antt` and `specs/ReportEnds.antt`: a report ends as the check on the same files does. Each has a
-//! type for how it ended, and the status of each such end (`From`).
+//! type for how it ended, and the status of each such end (`From`). [`short_law`] says of which files both never end with 5.
 //!
 //! The layer above may use the clauses of both. Its proofs may cite `proofs/Decided.antt`: which status comes, by what the files say. It leaves
 //! to others what makes a certificate valid, and what the lines and the report say.
 #![tactic(auto)]
 
 mod checking;
+mod laws;
 mod reporting;
 
 pub use checking::{CheckOutcome, check};
+pub use laws::short_law;
 pub use reporting::{ReportOutcome, report};

@@ -2,10 +2,10 @@
 
 ghost use Rattle.std.specs.Prelude.{◌≡◌, ◌≤◌, ℕ, List, IsTrue};
 ghost use Rattle.edge_io.specs.Counts.{Grows, Rose};
-ghost use Rattle.pool_model.specs.Network.{Network as ANetwork, net_of};
+ghost use Rattle.pool_model.specs.Network.{Net, Network as ANetwork, net_of};
 ghost use Rattle.pool_model.specs.Claim.{Follows};
 ghost use Rattle.cert_format.specs.Cert.{Cert};
-ghost use Rattle.cert_checker.specs.Answers.{Spells};
+ghost use Rattle.cert_checker.specs.Answers.{IsRefused, Spells};
 ghost use Rattle.certificate_commands.specs.CheckEnds.{IsJudged};
 ghost use Rattle.certificate_commands.specs.ReportEnds.{IsOfValid, ReportEnds, ReportOn, ReportsAs, as_check, report_status};
 ghost use Rattle.run_status.specs.Reads.{ReadsUnder};
@@ -16,10 +16,10 @@ use blend_network::Network;
 use cert_checker::Refusal;
 use cert_format::read_cert;
 use edge_io::Sink;
+use printed_lines::write_refused;
 use run_status::{Status, Unread, network_under};
 use shelf_calls::{Shelf, ShelfFault};
 use std::alloc::Global;
-use verdict_text::write_refused;
 
 /// How `report` ended.
 #[derive(Debug, Drop)]
@@ -112,8 +112,21 @@ fn report_bytes<K: Sink>(
 {
     match cert_checker::check(alloc, network, bytes) {
         Ok(_) => report_valid(alloc, network, bytes, out),
-        Err(Refusal::Memory) => ReportOutcome::Memory,
-        Err(refusal) => match write_refused(&refusal, out) {
+        Err(refusal) => tell_refusal(refusal, out),
+    }
+}
+
+/// How the report ends of bytes that are refused: the line is written, unless memory ran out in the check.
+fn tell_refusal<K: Sink>(refusal: Refusal, out: &mut K) -> ReportOutcome
+    ensures took { (network : ANetwork) (bytes : List ℕ) → IsRefused (net_of network) bytes refusal → Took (ReportOn network bytes) (report_status result) (K.taken out.old) (K.taken out.new) }
+    ensures judged { (n : Net) (bytes : List ℕ) → IsRefused n bytes refusal → IsJudged n bytes (as_check (report_status result)) }
+    ensures write_fault { report_status result ≡ Status.WriteFault → Rose (K.faults out.old) (K.faults out.new) }
+    // Promise: Of the causes for which CERT is not accepted want of memory alone is made 23
+    ensures memory { report_status result ≡ Status.OutOfMemory → refusal ≡ Refusal.Memory }
+{
+    match refusal {
+        Refusal::Memory => ReportOutcome::Memory,
+        refusal => match write_refused(&refusal, out) {
             Ok(()) => ReportOutcome::Refused(refusal),
             Err(_) => ReportOutcome::WriteFault,
         },

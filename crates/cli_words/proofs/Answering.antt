@@ -7,7 +7,7 @@ use Rattle.quantity.proofs.Laws.{quantity-only}
 use Rattle.command_items.specs.Items.{Text}
 use Rattle.cli_words.specs.Requests.{Asked, Solving, line_of, solve, check, report, formulate, make, trial}
 use Rattle.cli_words.specs.Asks.{Asks, IsForm, IsGap, IsNodes, IsNumber, IsRule, IsSolving, Says, form_name, rule_name}
-use Rattle.cli_words.specs.Views.{Answers, Means, shown_request}
+use Rattle.cli_words.specs.Views.{Answers, Means, Reads, Takes, shown_request}
 use Rattle.box_space.specs.declared.coordinates.Form.{Form}
 use Rattle.box_space.specs.declared.coordinates.Form.TheVariants.{P, Q, Pq}
 use Rattle.branching.specs.declared.name.RuleName.{RuleName}
@@ -22,12 +22,17 @@ use Rattle.cli_words.proofs.Meanings.{line_named-command}
 
 -- a part that is refused refuses the whole, where the whole needs it
 pub refused : {A B C D : Type 0} (shown : A → B) (Meant : B → Type 0) (whole : C → D) (WholeMeant : D → Type 0) (e : WordsFault) (r : Result C WordsFault)
-    → r ≡ Err e → ((d : D) → WholeMeant d → (b : B) × Meant b) → Answers shown Meant (Err e) → Answers whole WholeMeant r
-refused shown Meant whole WholeMeant e r is part h = subst (Answers whole WholeMeant) (sym is) (go e h)
+    → r ≡ Err e → ((d : D) → WholeMeant d → (b : B) × Meant b) → Reads shown Meant (Err e) → Takes whole WholeMeant r
+refused shown Meant whole WholeMeant e r is part h = subst (Takes whole WholeMeant) (sym is) (go e h)
   where
-    go : (f : WordsFault) → Answers shown Meant (Err f) → Answers whole WholeMeant (Err f)
+    go : (f : WordsFault) → Reads shown Meant (Err f) → Takes whole WholeMeant (Err f)
     go Usage h = λ d m. let b = part d m in h b.0 b.1
-    go Memory h = tt
+    go Memory h = absurd h
+
+-- where something is asked and a text is not copied, memory is wanted
+pub wanting : (command : Text) (value : Text → Option Text) (e : WordsFault) (r : Result Request WordsFault) → r ≡ Err e → e ≡ Memory
+    → (asked : Asked) → Means command value asked → Takes shown_request (Means command value) r
+wanting command value e r is memory asked means = subst (Takes shown_request (Means command value)) (sym (is ∙ ap (λ f. Err f) memory)) (asked, means)
 
 -- texts that a test tells apart
 apart : (a b : Text) → bytes_eq a b ≡ false → a ≡ b → ⊥
@@ -42,7 +47,7 @@ formulating value (formulate net form) m = (form, m.says.1)
 formulating value asked m = absurd (apart _ _ refl m.is)
 
 -- what is meant twice is answered twice
-pub answers_same : {A B : Type 0} (shown : A → B) (M N : B → Type 0) (r : Result A WordsFault) → ((b : B) → M b → N b) → ((b : B) → N b → M b) → Answers shown M r → Answers shown N r
+pub answers_same : {A B : Type 0} (shown : A → B) (M N : B → Type 0) (r : Result A WordsFault) → ((b : B) → M b → N b) → ((b : B) → N b → M b) → Takes shown M r → Answers shown N r
 answers_same shown M N (Ok a) to from h = to (shown a) h
 answers_same shown M N (Err Usage) to from h = λ b n. h b (from b n)
 answers_same shown M N (Err Memory) to from h = tt

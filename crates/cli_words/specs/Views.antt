@@ -29,8 +29,20 @@ pub record Means (command : Text) (value : Text → Option Text) (asked : Asked)
   pub is : command ≡ (line_of asked).command
   pub says : Says value asked
 
--- the answer is a value that is meant, or usage where none is
+-- the answer is a value that is meant, or usage where none is; where it is that memory is wanted, this holds
+abbrev pub AnswersOr : Type 0 → {A B : Type 0} → (A → B) → (B → Type 0) → Result A WordsFault → Type 0
+AnswersOr Wanting shown Meant (Ok a) = Meant (shown a)
+AnswersOr Wanting {A} {B} shown Meant (Err Usage) = (b : B) → ¬ Meant b
+AnswersOr Wanting shown Meant (Err Memory) = Wanting
+
+-- memory is taken before it is known whether a value is meant
 abbrev pub Answers : {A B : Type 0} → (A → B) → (B → Type 0) → Result A WordsFault → Type 0
-Answers shown Meant (Ok a) = Meant (shown a)
-Answers {A} {B} shown Meant (Err Usage) = (b : B) → ¬ Meant b
-Answers shown Meant (Err Memory) = Unit {0}
+Answers shown Meant result = AnswersOr (Unit {0}) shown Meant result
+
+-- memory is taken only where a value is meant
+abbrev pub Takes : {A B : Type 0} → (A → B) → (B → Type 0) → Result A WordsFault → Type 0
+Takes {A} {B} shown Meant result = AnswersOr ((b : B) × Meant b) shown Meant result
+
+-- no memory is taken
+abbrev pub Reads : {A B : Type 0} → (A → B) → (B → Type 0) → Result A WordsFault → Type 0
+Reads shown Meant result = AnswersOr ⊥ shown Meant result

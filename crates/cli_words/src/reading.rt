@@ -5,7 +5,7 @@ ghost use Rattle.clap.specs.Words.{first_of, found_of, rows_of};
 ghost use Rattle.command_items.specs.Views.{has_form};
 ghost use Rattle.cli_words.specs.Requests.{Asked};
 ghost use Rattle.cli_words.specs.Asks.{Asks};
-ghost use Rattle.cli_words.specs.Views.{Answers, Means, shown_request};
+ghost use Rattle.cli_words.specs.Views.{Answers, Means, Reads, Takes, shown_request};
 
 use crate::values::{read_form, read_gap, read_nodes, read_number, read_rule};
 use crate::{Request, SolveWords, WordsFault};
@@ -43,13 +43,14 @@ fn read_formed(alloc: Global, words: &[String]) -> Result<Request, WordsFault>
     read_command(alloc, command, inner)
 }
 
-/// What the command asks with these values.
+/// What the command asks with these values. Memory is taken only where they ask something: for a text of its own.
 fn read_command(
     alloc: Global,
     command: &str,
     matches: &ArgMatches<'_>,
 ) -> Result<Request, WordsFault>
-    ensures { Answers shown_request (Means command.now (λ id. first_of id (rows_of (found_of matches.now)))) result }
+    // Promise: Of words that `clap` has read want of memory is told only where they ask something: a value that means nothing is usage (2)
+    ensures { Takes shown_request (Means command.now (λ id. first_of id (rows_of (found_of matches.now)))) result }
 {
     match command {
         "solve" => read_solve(alloc, matches),
@@ -63,16 +64,18 @@ fn read_command(
 }
 
 fn read_solve(alloc: Global, matches: &ArgMatches<'_>) -> Result<Request, WordsFault>
-    ensures { Answers shown_request (Means (codes "solve") (λ id. first_of id (rows_of (found_of matches.now)))) result }
+    ensures { Takes shown_request (Means (codes "solve") (λ id. first_of id (rows_of (found_of matches.now)))) result }
 {
     let form = read_form(text_of(matches, "form"))?;
     let nodes = read_nodes(text_of(matches, "nodes"))?;
     let gap = read_gap(text_of(matches, "gap"))?;
     let rule = read_rule(text_of(matches, "rule"))?;
-    let journal = owned_option(alloc, text_of(matches, "journal"))?;
-    let net = owned(alloc, text_of(matches, "net"))?;
+    let Some(net) = text_of(matches, "net") else {
+        return Err(WordsFault::Usage);
+    };
+    let journal = copied_option(alloc, text_of(matches, "journal"))?;
     Ok(Request::Solve(SolveWords {
-        net,
+        net: copied(alloc, net)?,
         form,
         nodes,
         gap,
@@ -82,56 +85,57 @@ fn read_solve(alloc: Global, matches: &ArgMatches<'_>) -> Result<Request, WordsF
 }
 
 fn read_check(alloc: Global, matches: &ArgMatches<'_>) -> Result<Request, WordsFault>
-    ensures { Answers shown_request (Means (codes "check") (λ id. first_of id (rows_of (found_of matches.now)))) result }
+    ensures { Takes shown_request (Means (codes "check") (λ id. first_of id (rows_of (found_of matches.now)))) result }
 {
-    let net = owned(alloc, text_of(matches, "net"))?;
-    let cert = owned(alloc, text_of(matches, "cert"))?;
-    Ok(Request::Check(net, cert))
+    let Some(net) = text_of(matches, "net") else {
+        return Err(WordsFault::Usage);
+    };
+    let Some(cert) = text_of(matches, "cert") else {
+        return Err(WordsFault::Usage);
+    };
+    Ok(Request::Check(copied(alloc, net)?, copied(alloc, cert)?))
 }
 
 fn read_report(alloc: Global, matches: &ArgMatches<'_>) -> Result<Request, WordsFault>
-    ensures { Answers shown_request (Means (codes "report") (λ id. first_of id (rows_of (found_of matches.now)))) result }
+    ensures { Takes shown_request (Means (codes "report") (λ id. first_of id (rows_of (found_of matches.now)))) result }
 {
-    let net = owned(alloc, text_of(matches, "net"))?;
-    let cert = owned(alloc, text_of(matches, "cert"))?;
-    Ok(Request::Report(net, cert))
+    let Some(net) = text_of(matches, "net") else {
+        return Err(WordsFault::Usage);
+    };
+    let Some(cert) = text_of(matches, "cert") else {
+        return Err(WordsFault::Usage);
+    };
+    Ok(Request::Report(copied(alloc, net)?, copied(alloc, cert)?))
 }
 
 fn read_formulate(alloc: Global, matches: &ArgMatches<'_>) -> Result<Request, WordsFault>
-    ensures { Answers shown_request (Means (codes "formulate") (λ id. first_of id (rows_of (found_of matches.now)))) result }
+    ensures { Takes shown_request (Means (codes "formulate") (λ id. first_of id (rows_of (found_of matches.now)))) result }
 {
     let form = read_form(text_of(matches, "form"))?;
-    let net = owned(alloc, text_of(matches, "net"))?;
-    Ok(Request::Formulate(net, form))
+    let Some(net) = text_of(matches, "net") else {
+        return Err(WordsFault::Usage);
+    };
+    Ok(Request::Formulate(copied(alloc, net)?, form))
 }
 
 fn read_make(matches: &ArgMatches<'_>) -> Result<Request, WordsFault>
-    ensures { Answers shown_request (Means (codes "make") (λ id. first_of id (rows_of (found_of matches.now)))) result }
+    ensures { Reads shown_request (Means (codes "make") (λ id. first_of id (rows_of (found_of matches.now)))) result }
 {
     let number = read_number(text_of(matches, "number"))?;
     Ok(Request::Make(number))
 }
 
 fn read_trial(matches: &ArgMatches<'_>) -> Result<Request, WordsFault>
-    ensures { Answers shown_request (Means (codes "trial") (λ id. first_of id (rows_of (found_of matches.now)))) result }
+    ensures { Reads shown_request (Means (codes "trial") (λ id. first_of id (rows_of (found_of matches.now)))) result }
 {
     let number = read_number(text_of(matches, "number"))?;
     Ok(Request::Trial(number))
 }
 
-/// The value, as a text of its own.
-fn owned(alloc: Global, value: Option<&str>) -> Result<String, WordsFault>
-    ensures { Answers string_bytes (λ text. option_map (λ s. s.now) value.entry ≡ Some text) result }
-{
-    match value {
-        None => Err(WordsFault::Usage),
-        Some(text) => copied(alloc, text),
-    }
-}
-
 /// The value, if there is one, as a text of its own.
-fn owned_option(alloc: Global, value: Option<&str>) -> Result<Option<String>, WordsFault>
-    ensures { Answers (option_map string_bytes) (λ text. option_map (λ s. s.now) value.entry ≡ text) result }
+fn copied_option(alloc: Global, value: Option<&str>) -> Result<Option<String>, WordsFault>
+    ensures ok { IfOk result (λ text. option_map string_bytes text ≡ option_map (λ s. s.now) value.entry) }
+    ensures err { IfErr result (λ e. e ≡ WordsFault.Memory) }
 {
     match value {
         None => Ok(None),
@@ -139,6 +143,7 @@ fn owned_option(alloc: Global, value: Option<&str>) -> Result<Option<String>, Wo
     }
 }
 
+/// The text, as one of its own.
 fn copied(alloc: Global, text: &str) -> Result<String, WordsFault>
     ensures ok { IfOk result (λ s. string_bytes s ≡ text.now) }
     ensures err { IfErr result (λ e. e ≡ WordsFault.Memory) }

@@ -2,7 +2,7 @@
 
 ghost use Rattle.std.specs.Prelude.{option_map, IsSomeAnd};
 ghost use Rattle.cli_words.specs.Asks.{IsForm, IsGap, IsMoney, IsNodes, IsNumber, IsRule};
-ghost use Rattle.cli_words.specs.Views.{Answers};
+ghost use Rattle.cli_words.specs.Views.{Reads};
 
 use crate::WordsFault;
 use box_space::Form;
@@ -11,7 +11,7 @@ use quantity::quantity_of;
 
 /// The form that is named; pq where none is.
 pub(crate) fn read_form(text: Option<&str>) -> Result<Form, WordsFault>
-    ensures { Answers (λ f. f) (IsForm (option_map (λ s. s.now) text.entry)) result }
+    ensures { Reads (λ f. f) (IsForm (option_map (λ s. s.now) text.entry)) result }
 {
     match text {
         None => Ok(Form::Pq),
@@ -24,7 +24,7 @@ pub(crate) fn read_form(text: Option<&str>) -> Result<Form, WordsFault>
 
 /// The rule that is named; widest where none is.
 pub(crate) fn read_rule(text: Option<&str>) -> Result<RuleName, WordsFault>
-    ensures { Answers (λ r. r) (IsRule (option_map (λ s. s.now) text.entry)) result }
+    ensures { Reads (λ r. r) (IsRule (option_map (λ s. s.now) text.entry)) result }
 {
     match text {
         None => Ok(RuleName::Widest),
@@ -38,7 +38,7 @@ pub(crate) fn read_rule(text: Option<&str>) -> Result<RuleName, WordsFault>
 
 /// The number of nodes that is written; 1000 where none is.
 pub(crate) fn read_nodes(text: Option<&str>) -> Result<u64, WordsFault>
-    ensures { Answers (λ n. n) (IsNodes (option_map (λ s. s.now) text.entry)) result }
+    ensures { Reads (λ n. n) (IsNodes (option_map (λ s. s.now) text.entry)) result }
 {
     match text {
         Some(text) => digits_of(text),
@@ -48,7 +48,7 @@ pub(crate) fn read_nodes(text: Option<&str>) -> Result<u64, WordsFault>
 
 /// The gap that is written, in picos; 0.01 of money where none is.
 pub(crate) fn read_gap(text: Option<&str>) -> Result<i128, WordsFault>
-    ensures { Answers (λ g. g) (IsGap (option_map (λ s. s.now) text.entry)) result }
+    ensures { Reads (λ g. g) (IsGap (option_map (λ s. s.now) text.entry)) result }
 {
     match text {
         Some(text) => read_money(text),
@@ -58,7 +58,7 @@ pub(crate) fn read_gap(text: Option<&str>) -> Result<i128, WordsFault>
 
 /// The number that is written; usage where none is.
 pub(crate) fn read_number(text: Option<&str>) -> Result<u64, WordsFault>
-    ensures { Answers (λ n. n) (λ n. IsSomeAnd (option_map (λ s. s.now) text.entry) (λ t. IsNumber t n)) result }
+    ensures { Reads (λ n. n) (λ n. IsSomeAnd (option_map (λ s. s.now) text.entry) (λ t. IsNumber t n)) result }
 {
     match text {
         Some(text) => digits_of(text),
@@ -68,7 +68,7 @@ pub(crate) fn read_number(text: Option<&str>) -> Result<u64, WordsFault>
 
 /// One to twenty decimal digits, of a number of at most `2^64 - 1`.
 fn digits_of(text: &str) -> Result<u64, WordsFault>
-    ensures { Answers (λ n. n) (IsNumber text.now) result }
+    ensures { Reads (λ n. n) (IsNumber text.now) result }
 {
     if text.len() > MOST_DIGITS || text.starts_with('+') {
         return Err(WordsFault::Usage);
@@ -81,7 +81,7 @@ fn digits_of(text: &str) -> Result<u64, WordsFault>
 
 /// A quantity of money, in picos.
 fn read_money(text: &str) -> Result<i128, WordsFault>
-    ensures { Answers (λ g. g) (IsMoney text.now) result }
+    ensures { Reads (λ g. g) (IsMoney text.now) result }
 {
     let Some(millionths) = quantity_of(text) else {
         return Err(WordsFault::Usage);

@@ -125,7 +125,7 @@ flag_dashes (x ∷ y ∷ z ∷ zs) p e = ap (λ b. (x == 45) && b) (and_false (y
 
 -- ---- what is held
 
-pub record Holds (c : List Rule) (h : Held) (given : List (Text × Text)) : Type 0 where
+pub record HoldsRules (c : List Rule) (h : Held) (given : List (Text × Text)) : Type 0 where
   pub rows : (settled c h).rows ≡ rows_for given
   pub passes : settle_passes c false h ≡ true
 
@@ -184,22 +184,22 @@ module _ (c : List Rule) (name : Text) (h : Held) (p : ℕ) where
   value_passes n word v = rw (plain_dashes word v, plain_long word v, plain_short word v) refl
 
 -- what is held after one more item
-pub holds_positional : (c : List Rule) (h : Held) (given : List (Text × Text)) (id word : Text) (p : ℕ) → Holds c h given
-    → arg_by_id c id ≡ Some (positional_rule id p) → has_row id (rows_for given) ≡ false → Holds c (pending_one c h id (word ∷ [])) (given ++ (id, word) ∷ [])
+pub holds_positional : (c : List Rule) (h : Held) (given : List (Text × Text)) (id word : Text) (p : ℕ) → HoldsRules c h given
+    → arg_by_id c id ≡ Some (positional_rule id p) → has_row id (rows_for given) ≡ false → HoldsRules c (pending_one c h id (word ∷ [])) (given ++ (id, word) ∷ [])
 holds_positional c h given id word p held at new = record {
   rows = rw (at, held.rows) (row_added id word given new);
   passes = rw (at, held.rows, new) refl;
 }
 
-pub holds_option : (c : List Rule) (h : Held) (given : List (Text × Text)) (id word : Text) → Holds c h given
-    → arg_by_id c id ≡ Some (option_rule id) → has_row id (rows_for given) ≡ false → Holds c (pending_one c h id (word ∷ [])) (given ++ (id, word) ∷ [])
+pub holds_option : (c : List Rule) (h : Held) (given : List (Text × Text)) (id word : Text) → HoldsRules c h given
+    → arg_by_id c id ≡ Some (option_rule id) → has_row id (rows_for given) ≡ false → HoldsRules c (pending_one c h id (word ∷ [])) (given ++ (id, word) ∷ [])
 holds_option c h given id word held at new = record {
   rows = rw (at, held.rows) (row_added id word given new);
   passes = rw (at, held.rows, new) refl;
 }
 
-pub holds_attached : (c : List Rule) (h : Held) (given : List (Text × Text)) (id word : Text) → Holds c h given
-    → has_row id (rows_for given) ≡ false → Holds c (reacted c (option_rule id) (word ∷ []) h) (given ++ (id, word) ∷ [])
+pub holds_attached : (c : List Rule) (h : Held) (given : List (Text × Text)) (id word : Text) → HoldsRules c h given
+    → has_row id (rows_for given) ≡ false → HoldsRules c (reacted c (option_rule id) (word ∷ []) h) (given ++ (id, word) ∷ [])
 holds_attached c h given id word held new = record {
   rows = rw held.rows (row_added id word given new);
   passes = refl;
@@ -242,7 +242,7 @@ pub record Ends (name : Text) (c : List Rule) (w : Walk) (words : List Text) (gi
   pub place : ℕ
   pub passes : walk_passes (leaf name c) [] w words ≡ true
   pub end : fold (walked c []) w words ≡ standing held place
-  pub holds : Holds c held given
+  pub holds : HoldsRules c held given
 
 pub ends_next : (name : Text) (c : List Rule) (w after : Walk) (word : Text) (words : List Text) (given : List (Text × Text)) → walked c [] w word ≡ after
     → turn_passes (leaf name c) [] w word ≡ true → Ends name c after words given → Ends name c w (word ∷ words) given
@@ -276,7 +276,7 @@ state c (Some n) h p = waits_for (pending_one c h n []) p n
 -- words of the form are walked to their items
 abbrev pub Walks : Text → List Rule → List Text → Type 0
 Walks name c words = (waiting : Option Text) (h : Held) (p : ℕ) (ps : List Text) (given : List (Text × Text)) (items : List Given)
-    → items_after waiting words ≡ Some items → ServesAll c ps p items → Apart (given ++ labelled ps items) → Holds c h given
+    → items_after waiting words ≡ Some items → ServesAll c ps p items → Apart (given ++ labelled ps items) → HoldsRules c h given
     → Ends name c (state c waiting h p) words (given ++ labelled ps items)
 
 module _ (name : Text) (c : List Rule) where
@@ -284,7 +284,7 @@ module _ (name : Text) (c : List Rule) where
   walks_item : (words : List Text) → Walks name c words → (h after : Held) (p : ℕ) (ps : List Text) (given : List (Text × Text)) (n : Option Text) (word : Text) (rest : List Given)
       → items_after None words ≡ Some rest → ServesAll c (places_after n ps) (position_after n p) rest
       → Apart (given ++ labelled ps (record { name = n; value = word } ∷ rest))
-      → Holds c after (given ++ (unwrap_or n (next_place ps), word) ∷ [])
+      → HoldsRules c after (given ++ (unwrap_or n (next_place ps), word) ∷ [])
       → Ends name c (standing after (position_after n p)) words (given ++ labelled ps (record { name = n; value = word } ∷ rest))
   walks_item words ih h after p ps given n word rest e serves apart holds =
       let same = append_assoc given ((unwrap_or n (next_place ps), word) ∷ []) (labelled (places_after n ps) rest) in
@@ -293,7 +293,7 @@ module _ (name : Text) (c : List Rule) where
 
   walks_positional : (words : List Text) → Walks name c words → (word : Text) (h : Held) (p : ℕ) (ps : List Text) (given : List (Text × Text)) (rest : List Given)
       → is_value word ≡ true → items_after None words ≡ Some rest → ServesAll c ps p (record { name = None; value = word } ∷ rest)
-      → Apart (given ++ labelled ps (record { name = None; value = word } ∷ rest)) → Holds c h given
+      → Apart (given ++ labelled ps (record { name = None; value = word } ∷ rest)) → HoldsRules c h given
       → Ends name c (standing h p) (word ∷ words) (given ++ labelled ps (record { name = None; value = word } ∷ rest))
   walks_positional words ih word h p ps given rest v e serves apart holds =
       let new = new_row given (labelled (places_after None ps) rest) (next_place ps) word apart in
@@ -303,7 +303,7 @@ module _ (name : Text) (c : List Rule) where
 
   walks_attached : (words : List Text) → Walks name c words → (word n value : Text) (h : Held) (p : ℕ) (ps : List Text) (given : List (Text × Text)) (rest : List Given)
       → long_of word ≡ Some (n, Some value) → items_after None words ≡ Some rest → ServesAll c ps p (record { name = Some n; value = value } ∷ rest)
-      → Apart (given ++ labelled ps (record { name = Some n; value = value } ∷ rest)) → Holds c h given
+      → Apart (given ++ labelled ps (record { name = Some n; value = value } ∷ rest)) → HoldsRules c h given
       → Ends name c (standing h p) (word ∷ words) (given ++ labelled ps (record { name = Some n; value = value } ∷ rest))
   walks_attached words ih word n value h p ps given rest l e serves apart holds =
       let new = new_row given (labelled ps rest) n value apart in
@@ -314,7 +314,7 @@ module _ (name : Text) (c : List Rule) where
 
   walks_value : (words : List Text) → Walks name c words → (word n : Text) (h : Held) (p : ℕ) (ps : List Text) (given : List (Text × Text)) (rest : List Given)
       → is_value word ≡ true → items_after None words ≡ Some rest → ServesAll c ps p (record { name = Some n; value = word } ∷ rest)
-      → Apart (given ++ labelled ps (record { name = Some n; value = word } ∷ rest)) → Holds c h given
+      → Apart (given ++ labelled ps (record { name = Some n; value = word } ∷ rest)) → HoldsRules c h given
       → Ends name c (state c (Some n) h p) (word ∷ words) (given ++ labelled ps (record { name = Some n; value = word } ∷ rest))
   walks_value words ih word n h p ps given rest v e serves apart holds =
       let new = new_row given (labelled ps rest) n word apart in
@@ -330,7 +330,7 @@ module _ (name : Text) (c : List Rule) where
 
   walks_name : (words : List Text) → Walks name c words → (word n : Text) (h : Held) (p : ℕ) (ps : List Text) (given : List (Text × Text)) (items : List Given)
       → long_of word ≡ Some (n, None) → items_after (Some n) words ≡ Some items → ServesAll c ps p items
-      → Apart (given ++ labelled ps items) → Holds c h given → Ends name c (standing h p) (word ∷ words) (given ++ labelled ps items)
+      → Apart (given ++ labelled ps items) → HoldsRules c h given → Ends name c (standing h p) (word ∷ words) (given ++ labelled ps items)
   walks_name words ih word n h p ps given items l e serves apart holds =
       let first = waiting_first n words items e in
       let served = subst (ServesAll c ps p) first.1.1 serves in
@@ -339,7 +339,7 @@ module _ (name : Text) (c : List Rule) where
       (ih (Some n) h p ps given items e serves apart holds)
 
   step_value : (words : List Text) → Walks name c words → (word n : Text) (h : Held) (p : ℕ) (ps : List Text) (given : List (Text × Text)) (items : List Given)
-      → items_after (Some n) (word ∷ words) ≡ Some items → ServesAll c ps p items → Apart (given ++ labelled ps items) → Holds c h given
+      → items_after (Some n) (word ∷ words) ≡ Some items → ServesAll c ps p items → Apart (given ++ labelled ps items) → HoldsRules c h given
       → Ends name c (state c (Some n) h p) (word ∷ words) (given ++ labelled ps items)
   step_value words ih word n h p ps given items e serves apart holds =
       let s = item_some (Some n) word (λ x. items_after x words) items e in
@@ -348,7 +348,7 @@ module _ (name : Text) (c : List Rule) where
       (subst (λ xs. Apart (given ++ labelled ps xs)) s.1.2 apart) holds)
 
   step_flag : (words : List Text) → Walks name c words → (word : Text) (o : Option (Text × Option Text)) (h : Held) (p : ℕ) (ps : List Text) (given : List (Text × Text)) (items : List Given)
-      → long_of word ≡ o → flag o (λ x. items_after x words) ≡ Some items → ServesAll c ps p items → Apart (given ++ labelled ps items) → Holds c h given
+      → long_of word ≡ o → flag o (λ x. items_after x words) ≡ Some items → ServesAll c ps p items → Apart (given ++ labelled ps items) → HoldsRules c h given
       → Ends name c (standing h p) (word ∷ words) (given ++ labelled ps items)
   step_flag words ih word None h p ps given items l e serves apart holds = cc
   step_flag words ih word (Some (n, None)) h p ps given items l e serves apart holds = walks_name words ih word n h p ps given items l e serves apart holds
@@ -360,7 +360,7 @@ module _ (name : Text) (c : List Rule) where
 
   step_none : (words : List Text) → Walks name c words → (word : Text) (b : Bool) (h : Held) (p : ℕ) (ps : List Text) (given : List (Text × Text)) (items : List Given)
       → is_value word ≡ b → cond b (item None word (λ x. items_after x words)) (flag (long_of word) (λ x. items_after x words)) ≡ Some items
-      → ServesAll c ps p items → Apart (given ++ labelled ps items) → Holds c h given
+      → ServesAll c ps p items → Apart (given ++ labelled ps items) → HoldsRules c h given
       → Ends name c (standing h p) (word ∷ words) (given ++ labelled ps items)
   step_none words ih word true h p ps given items v e serves apart holds =
       let s = item_some None word (λ x. items_after x words) items e in
@@ -376,9 +376,9 @@ module _ (name : Text) (c : List Rule) where
   nothing_left : (items : List Given) → Some [] ≡ Some items → items ≡ []
   nothing_left items e = cc
 
-  walks_nothing : (h : Held) (p : ℕ) (given : List (Text × Text)) → Holds c h given → Ends name c (standing h p) [] (given ++ [])
+  walks_nothing : (h : Held) (p : ℕ) (given : List (Text × Text)) → HoldsRules c h given → Ends name c (standing h p) [] (given ++ [])
   unfolding walk_passes
-  walks_nothing h p given holds = record { held = h; place = p; passes = refl; end = refl; holds = subst (Holds c h) (sym (append-nil given)) holds }
+  walks_nothing h p given holds = record { held = h; place = p; passes = refl; end = refl; holds = subst (HoldsRules c h) (sym (append-nil given)) holds }
 
   pub walks : (words : List Text) → Walks name c words
   walks [] None h p ps given items e serves apart holds =

@@ -2,7 +2,7 @@
 use Rattle.std.proofs.Common.{◌≡◌, ℕ, ◌+◌, ◌≤◌, min, List, ◌∷◌, ◌++◌, length, get_or, take, drop, Option, Some, None}
 use Rattle.std.proofs.Common.{Result, Ok, Err, IfSome, OnErr, option_map, refl, sym, ◌∙◌, ap, subst, arith, length-take, length-drop}
 use Rattle.std.proofs.lemmas.List.{take-append-drop, take_all, take_min, drop_all, drop_more, append-nil}
-use Rattle.disk_calls.specs.Disks.{written, Torn, Shortened, Follows, Among, Only, IsWithin, IsOneOf}
+use Rattle.disk_calls.specs.Disks.{written, Torn, Shortened, ComesBy, Among, Only, IsWithin}
 
 -- ---- one image
 
@@ -56,16 +56,16 @@ pub among-all : (old since P : List ℕ → Type 0) → Among old since → ((c 
 among-all old since P crash here c left = here c (crash c left)
 
 -- each image that comes by a step from one that has Q
-pub follows-all : (step : List ℕ → List ℕ → Type 0) (old since Q P : List ℕ → Type 0) → Follows step old since → ((c : List ℕ) → old c → Q c)
+pub follows-all : (step : List ℕ → List ℕ → Type 0) (old since Q P : List ℕ → Type 0) → ComesBy step old since → ((c : List ℕ) → old c → Q c)
     → ((i c : List ℕ) → Q i → step i c → P c) → (c : List ℕ) → since c → P c
 follows-all step old since Q P crash had here c left = let from = crash c left in here from.0 c (had from.0 from.1) from.2
 
 -- each image that comes by a step from the only one
-pub only-all : (step : List ℕ → List ℕ → Type 0) (old since P : List ℕ → Type 0) (file : List ℕ) → Follows step old since → Only file old
+pub only-all : (step : List ℕ → List ℕ → Type 0) (old since P : List ℕ → Type 0) (file : List ℕ) → ComesBy step old since → Only file old
     → ((c : List ℕ) → step file c → P c) → (c : List ℕ) → since c → P c
 only-all step old since P file crash only here = follows-all step old since (λ i. i ≡ file) P crash only (λ i c is by. here c (subst (λ (w : List ℕ). step w c) is by))
 
-pub behind-all : (old since P : List ℕ → Type 0) (file : List ℕ) (at n : ℕ) → Follows (Torn at n) old since → Only file old → at ≡ length file
+pub behind-all : (old since P : List ℕ → Type 0) (file : List ℕ) (at n : ℕ) → ComesBy (Torn at n) old since → Only file old → at ≡ length file
     → ((rest : List ℕ) → length rest ≤ n → P (file ++ rest)) → (c : List ℕ) → since c → P c
 behind-all old since P file at n crash only is here =
     only-all (Torn at n) old since P file crash only (λ c torn. let parts = torn_behind at n file c is torn in subst P (sym parts.2) (here parts.0 parts.1))
@@ -76,11 +76,6 @@ behind-all old since P file at n crash only is here =
 pub reaches-file : (reads : Option (List ℕ)) (place : ℕ) → IsWithin reads place → (file : List ℕ) × (reads ≡ Some file) × (place ≤ length file)
 reaches-file None place reached = absurd reached
 reaches-file (Some file) place reached = (file, refl, reached)
-
--- what an attach gives is known
-pub one_of-file : (reads : Option (List ℕ)) (images : List ℕ → Type 0) → IsOneOf reads images → (file : List ℕ) × (reads ≡ Some file) × images file
-one_of-file None images is = absurd is
-one_of-file (Some file) images is = (file, refl, is)
 
 -- a clause on the file, at the file
 pub at-file : (reads : Option (List ℕ)) (file : List ℕ) (P : List ℕ → Type 0) → reads ≡ Some file → IfSome reads P → P file

@@ -1,7 +1,7 @@
 //! A disk that may crash at any moment.
 
 ghost use Rattle.std.specs.Prelude.{◌≡◌, ◌+◌, ◌^◌, ◌≤◌, IsTrue, IfOk, IfSome, OnOk, OnErr, length, take, drop, option_map};
-ghost use Rattle.disk_calls.specs.Disks.{DiskTold, written, Torn, Shortened, Only, Reaches, IsOneOf, LeavesBy, LeavesNothingNew, GoesOn, Fails};
+ghost use Rattle.disk_calls.specs.Disks.{DiskTold, written, Torn, Shortened, Only, Reaches, LeavesBy, LeavesNothingNew, Elapses, IsSameDevice, GoesOn, Finds, Fails};
 
 /// The longest file, in bytes.
 pub const MAX_LENGTH: u64 = 1 << 62;
@@ -25,10 +25,14 @@ pub trait Disk {
     /// Opens the file of that name, and makes it, empty, where there is none.
     fn attach(&mut self, name: &str) -> Result<(), DiskFailed>
         requires { IsTrue ((told self.old).admits name.now) }
-        ensures open { OnOk result (IsTrue (told self.old).tells → IsOneOf (told self.new).reads (told self.old).may_leave) }
+        // Promise: An attach that is done finds one of the images of before: a read gives that file, and it is noted as the file that was
+        //   attached; no other call notes one
+        ensures open { OnOk result (IsTrue (told self.old).tells → Finds (told self.old) (told self.new)) }
         ensures crash { LeavesNothingNew (told self.old) (told self.new) }
-        ensures goes_on { GoesOn (told self.old) (told self.new) }
-        ensures failed { OnErr result (Fails (told self.old) (told self.new)) };
+        ensures time { Elapses (told self.old) (told self.new) }
+        ensures same_device { IsSameDevice (told self.old) (told self.new) }
+        ensures failed { OnErr result (Fails (told self.old) (told self.new)) }
+        ensures not_attached { OnErr result ((told self.new).attached ≡ (told self.old).attached) };
 
     /// The length of the file, which is at most `2^62`.
     fn len(&mut self) -> Result<u64, DiskFailed>

@@ -9,9 +9,9 @@
 //! of it. Disks in memory, which tell, are left to the layer above.
 //!
 //! The layer above stands on the clauses of the trait alone. `specs/Disks.antt` has their words: `DiskTold` is what there is to know of a
-//! disk, `GoesOn` what every call keeps, `Fails` what every failure means. The lemmas of `proofs/Moments.antt` go from "this holds of
-//! each image since a moment" over one call more to the same after it; those of `proofs/Calling.antt` say what one torn write or cut
-//! leaves. `append_byte` is a small call that is proved by them.
+//! disk, `Finds` what an attach does, `GoesOn` what every other call keeps, `Fails` what every failure means. The lemmas of
+//! `proofs/Moments.antt` go from "this holds of each image since a moment" over one call more to the same after it; those of
+//! `proofs/Calling.antt` say what one torn write or cut leaves. `append_byte` is a small call that is proved by them.
 #![tactic(auto)]
 
 mod append;

@@ -1,11 +1,11 @@
 -- What holds of the images of a file in memory.
-use Rattle.std.specs.Prelude.{◌≡◌, ℕ, ◌+◌, ◌-◌, ◌≤◌, ◌⊎◌, min, List, [], ◌∷◌, ◌++◌, length, take, drop, Some, None, Bool, true, false, if◌then◌else◌, refl}
+use Rattle.std.specs.Prelude.{◌≡◌, ℕ, ◌+◌, ◌-◌, ◌<◌, ◌≤◌, ◌⊎◌, min, List, [], ◌∷◌, ◌++◌, length, take, drop, Some, None, Bool, true, false, if◌then◌else◌, refl}
 use Rattle.std.proofs.Common.{sym, ◌∙◌, ap, subst, inl, inr, arith, append_assoc, length-append, length-take, length-drop}
 use Rattle.std.proofs.lemmas.Bool.{cases_lt}
 use Rattle.std.proofs.lemmas.List.{take_at, drop_at, take_all, drop_all, drop-drop, take-append-le, take_min}
 use Rattle.disk_calls.proofs.Calling.{torn-same, shortened-same}
-use Rattle.disk_calls.specs.Disks.{written, Torn, Shortened, Follows, Only, Elapses}
-use Rattle.disk_model.specs.Steps.{after_step, file_after, Lands, Leaves, IsImage, MayLeave, LeftSince}
+use Rattle.disk_calls.specs.Disks.{written, Torn, Shortened, ComesBy, Only}
+use Rattle.disk_model.specs.Steps.{after_step, file_after, Lands, Leaves, IsImage, MayLeave, LeftSince, LeftUntil}
 use Rattle.disk_model.specs.declared.step.Step.{Step}
 use Rattle.disk_model.specs.declared.step.Step.TheVariants.{Write, Cut, Sync}
 
@@ -90,14 +90,40 @@ counts-now start steps t c le now = (length steps, le, omega arith, subst (λ (w
 pub only-now : (start : List ℕ) (steps : List Step) (c : List ℕ) → LeftSince start steps (length steps) c → MayLeave start steps c
 only-now start steps c (k, le, within, left) = subst (λ (w : List Step). MayLeave start w c) (take_all k steps le) left
 
+pub since-before : (start : List ℕ) (steps : List Step) (t u : ℕ) (c : List ℕ) → t ≤ u → LeftSince start steps u c → LeftSince start steps t c
+since-before start steps t u c le (k, from, within, left) = (k, omega (arith, le, from), within, left)
+
+pub up-to-now : (start : List ℕ) (steps : List Step) (t u : ℕ) (c : List ℕ) → length steps ≤ u → LeftSince start steps t c → LeftUntil start steps u c
+up-to-now start steps t u c le (k, from, within, left) = (k, omega (arith, le, within), within, left)
+
+pub ends-now : (start : List ℕ) (steps : List Step) (t : ℕ) (c : List ℕ) → LeftUntil start steps t c → LeftUntil start steps (length steps) c
+ends-now start steps t c (k, le, within, left) = (k, within, within, left)
+
 -- ---- time over a call
 
-pub time-same : (start : List ℕ) (steps : List Step) → Elapses (length steps) (length steps) (LeftSince start steps) (LeftSince start steps)
-time-same start steps = record { later = omega arith; nothing_else = λ t c le left. inl left; keeps = λ t c le left. left }
+-- how time goes on from some steps to others
+pub record Lasts (start : List ℕ) (before now : List Step) : Type 0 where
+  pub later : length before ≤ length now
+  pub nothing_else : (t : ℕ) (c : List ℕ) → t ≤ length before → LeftSince start now t c → LeftSince start before t c ⊎ LeftSince start now (length before) c
+  pub keeps : (t : ℕ) (c : List ℕ) → t ≤ length before → LeftSince start before t c → LeftSince start now t c
+  pub nothing_earlier : (t : ℕ) (c : List ℕ) → LeftUntil start now t c → LeftUntil start before t c ⊎ ((length before < t) × LeftSince start now (length before) c)
+  pub keeps_past : (t : ℕ) (c : List ℕ) → LeftUntil start before t c → LeftUntil start now t c
+
+pub time-same : (start : List ℕ) (steps : List Step) → Lasts start steps steps
+time-same start steps = record {
+  later = omega arith;
+  nothing_else = λ t c le left. inl left;
+  keeps = λ t c le left. left;
+  nothing_earlier = λ t c left. inl left;
+  keeps_past = λ t c left. left;
+}
 
 -- the steps up to a moment before the last step are those of before it
 earlier : (start : List ℕ) (ss : List Step) (s : Step) (k : ℕ) (c : List ℕ) → k ≤ length ss → MayLeave start (take k (ss ++ s ∷ [])) c → MayLeave start (take k ss) c
 earlier start ss s k c le left = subst (λ (w : List Step). MayLeave start w c) (take-append-le k ss (s ∷ []) le) left
+
+later-on : (start : List ℕ) (ss : List Step) (s : Step) (k : ℕ) (c : List ℕ) → k ≤ length ss → MayLeave start (take k ss) c → MayLeave start (take k (ss ++ s ∷ [])) c
+later-on start ss s k c le left = subst (λ (w : List Step). MayLeave start w c) (sym (take-append-le k ss (s ∷ []) le)) left
 
 pub left-push : (start : List ℕ) (ss : List Step) (s : Step) (t : ℕ) (c : List ℕ) → LeftSince start (ss ++ s ∷ []) t c → LeftSince start ss t c ⊎ MayLeave start (ss ++ s ∷ []) c
 left-push start ss s t c (k, le, within, left) = elim (cases_lt (length ss) k) [
@@ -105,14 +131,19 @@ left-push start ss s t c (k, le, within, left) = elim (cases_lt (length ss) k) [
   | inr less ↦ inl (k, le, less, earlier start ss s k c less left)
 ]
 
-pub time-push : (start : List ℕ) (ss : List Step) (s : Step) → Elapses (length ss) (length (ss ++ s ∷ [])) (LeftSince start ss) (LeftSince start (ss ++ s ∷ []))
+pub time-push : (start : List ℕ) (ss : List Step) (s : Step) → Lasts start ss (ss ++ s ∷ [])
 time-push start ss s = record {
   later = omega (arith, length-append ss (s ∷ []));
   nothing_else = λ t c le left. elim (left-push start ss s t c left) [
     | inl past ↦ inl past
     | inr now ↦ inr (counts-now start (ss ++ s ∷ []) (length ss) c (omega (arith, length-append ss (s ∷ []))) now)
   ];
-  keeps = λ t c le left. (left.0, left.1, omega (arith, length-append ss (s ∷ []), left.2), subst (λ (w : List Step). MayLeave start w c) (sym (take-append-le left.0 ss (s ∷ []) left.2)) left.3);
+  keeps = λ t c le left. (left.0, left.1, omega (arith, length-append ss (s ∷ []), left.2), later-on start ss s left.0 c left.2 left.3);
+  nothing_earlier = λ t c left. elim (cases_lt (length ss) left.0) [
+    | inl more ↦ inr (omega (arith, more, left.1), (left.0, omega (arith, more), left.2, left.3))
+    | inr less ↦ inl (left.0, left.1, less, earlier start ss s left.0 c less left.3)
+  ];
+  keeps_past = λ t c left. (left.0, left.1, omega (arith, length-append ss (s ∷ []), left.2), later-on start ss s left.0 c left.2 left.3);
 }
 
 -- ---- images over a call
@@ -137,21 +168,21 @@ leaves-lands (Cut to) file images c here left = left
 leaves-lands Sync file images c here left = (file, here, left)
 
 -- each image since the start of a step comes from one before it by the step
-pub crash-to : (start : List ℕ) (ss later : List Step) (s : Step) → later ≡ ss ++ s ∷ [] → Follows (Lands s) (MayLeave start ss) (LeftSince start later (length ss))
+pub crash-to : (start : List ℕ) (ss later : List Step) (s : Step) → later ≡ ss ++ s ∷ [] → ComesBy (Lands s) (MayLeave start ss) (LeftSince start later (length ss))
 crash-to start ss later s is c left = elim (crash-push start ss s c (subst (λ (w : List Step). LeftSince start w (length ss) c) is left)) [
   | inl past ↦ (c, past, lands-same s c)
   | inr now ↦ leaves-lands s (file_after ss start) (MayLeave start ss) c (file-image ss start (λ i. i ≡ start) refl) now
 ]
 
 -- the same where the step never came
-pub crash-same : (start : List ℕ) (ss later : List Step) (s : Step) → later ≡ ss → Follows (Lands s) (MayLeave start ss) (LeftSince start later (length ss))
+pub crash-same : (start : List ℕ) (ss later : List Step) (s : Step) → later ≡ ss → ComesBy (Lands s) (MayLeave start ss) (LeftSince start later (length ss))
 crash-same start ss later s is c left = (c, only-now start ss c (subst (λ (w : List Step). LeftSince start w (length ss) c) is left), lands-same s c)
 
-pub time-to : (start : List ℕ) (ss later : List Step) (s : Step) → later ≡ ss ++ s ∷ [] → Elapses (length ss) (length later) (LeftSince start ss) (LeftSince start later)
-time-to start ss later s is = subst (λ (w : List Step). Elapses (length ss) (length w) (LeftSince start ss) (LeftSince start w)) (sym is) (time-push start ss s)
+pub time-to : (start : List ℕ) (ss later : List Step) (s : Step) → later ≡ ss ++ s ∷ [] → Lasts start ss later
+time-to start ss later s is = subst (Lasts start ss) (sym is) (time-push start ss s)
 
-pub time-stays : (start : List ℕ) (ss later : List Step) → later ≡ ss → Elapses (length ss) (length later) (LeftSince start ss) (LeftSince start later)
-time-stays start ss later is = subst (λ (w : List Step). Elapses (length ss) (length w) (LeftSince start ss) (LeftSince start w)) (sym is) (time-same start ss)
+pub time-stays : (start : List ℕ) (ss later : List Step) → later ≡ ss → Lasts start ss later
+time-stays start ss later is = subst (Lasts start ss) (sym is) (time-same start ss)
 
 -- after a sync the file is the only image
 pub synced-only : (start : List ℕ) (ss later : List Step) (bytes : List ℕ) → later ≡ ss ++ Sync ∷ [] → bytes ≡ file_after ss start → Only bytes (MayLeave start later)

@@ -1,8 +1,9 @@
 -- What a disk in memory holds, and what it was told to do.
-use Rattle.std.specs.Prelude.{◌≡◌, ℕ, ◌+◌, ◌-◌, ◌^◌, min, List, Some, None, true, length, take, if◌then◌else◌}
+use Rattle.std.specs.Prelude.{◌≡◌, ℕ, ◌+◌, ◌-◌, ◌^◌, min, List, Some, None, true, length, map, take, Vec, if◌then◌else◌}
+use Rattle.std.specs.declared.alloc.Global.{Global}
 use Rattle.disk_calls.specs.Disks.{DiskTold}
-use Rattle.disk_model.specs.Steps.{held, file_after, synced_after, MayLeave, LeftSince}
-use Rattle.disk_model.specs.Images.{reads-held, counts-now, only-now}
+use Rattle.disk_model.specs.Steps.{held, file_after, synced_after, MayLeave, LeftSince, LeftUntil}
+use Rattle.disk_model.specs.Images.{reads-held, counts-now, only-now, since-before, up-to-now, ends-now}
 use Rattle.disk_model.specs.declared.mem_disk.MemDisk.{MemDisk}
 
 -- the file's bytes
@@ -15,13 +16,18 @@ told_of d = record {
   tells = true;
   admits = λ _. true;
   faults = d.faults;
+  attached = map (λ (v : Vec ℕ Global). v.items) d.found.items;
   reads = if d.attached then Some (bytes_of d) else None;
   moment = length d.steps.items;
   may_leave = MayLeave d.start.items d.steps.items;
   left_since = LeftSince d.start.items d.steps.items;
+  left_until = LeftUntil d.start.items d.steps.items;
   reads_image = λ file is. reads-held d.attached (bytes_of d) d.start.items d.steps.items file d.follows is;
   counts_now = λ t c le now. counts-now d.start.items d.steps.items t c le now;
   only_now = λ c left. only-now d.start.items d.steps.items c left;
+  since_before = λ t u c le left. since-before d.start.items d.steps.items t u c le left;
+  up_to_now = λ t u c le left. up-to-now d.start.items d.steps.items t u c le left;
+  ends_now = λ t c left. ends-now d.start.items d.steps.items t c left;
 }
 
 -- these bytes are an image of that moment

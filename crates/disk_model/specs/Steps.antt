@@ -46,6 +46,10 @@ MayLeave start steps c = IsImage steps start (λ i. i ≡ start) c
 abbrev pub LeftSince : List ℕ → List Step → ℕ → List ℕ → Type 0
 LeftSince start steps t c = (k : ℕ) × (t ≤ k) × (k ≤ length steps) × MayLeave start (take k steps) c
 
+-- what a crash may have left at some moment up to t
+abbrev pub LeftUntil : List ℕ → List Step → ℕ → List ℕ → Type 0
+LeftUntil start steps t c = (k : ℕ) × (k ≤ t) × (k ≤ length steps) × MayLeave start (take k steps) c
+
 -- what the last sync put on the disk, after a step
 abbrev pub synced_step : Step → List ℕ → List ℕ → List ℕ
 synced_step (Write at bytes) file synced = synced

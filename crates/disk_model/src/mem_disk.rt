@@ -1,8 +1,8 @@
 //! A disk in memory.
 
-ghost use Rattle.std.specs.Prelude.{◌≡◌, ◌+◌, ◌^◌, ◌<◌, ◌≤◌, ◌⊎◌, [], None, false, length, take, drop, Contains, IsTrue, IfOk, IfSome, OnOk, OnErr, IsErr, option_map, Some};
+ghost use Rattle.std.specs.Prelude.{◌≡◌, ◌+◌, ◌^◌, ◌<◌, ◌≤◌, ◌⊎◌, ◌++◌, ◌∷◌, [], None, false, length, take, drop, Contains, IsTrue, IfOk, IfSome, OnOk, OnErr, IsErr, option_map, Some};
 ghost use Rattle.edge_io.specs.Counts.{Grows, Rose};
-ghost use Rattle.disk_calls.specs.Disks.{written, Torn, Shortened, Only, Reaches, IsOneOf, LeavesBy, LeavesNothingNew, GoesOn, Fails};
+ghost use Rattle.disk_calls.specs.Disks.{written, Torn, Shortened, Only, Reaches, LeavesBy, LeavesNothingNew, Elapses, IsSameDevice, GoesOn, Finds, Fails};
 ghost use Rattle.disk_model.specs.Steps.{held, file_after, after_step, Lands, Replayed, Takes};
 
 use crate::step::{Step, WHOLLY};
@@ -19,6 +19,7 @@ pub struct MemDisk {
     steps: Vec<Step>,
     changed: Option<Vec<u8>>,
     attached: bool,
+    found: Vec<Vec<u8>>,
     failing: Vec<u64>,
     calls: u64,
     faults: u64,
@@ -59,6 +60,7 @@ impl MemDisk {
             steps: Vec::new(alloc),
             changed: None,
             attached: false,
+            found: Vec::new(alloc),
             failing,
             calls: 0,
             faults: 0,
@@ -148,6 +150,7 @@ impl MemDisk {
         ensures grows { Grows self.old.faults self.new.faults }
         ensures unknown { self.new.attached ≡ false }
         ensures same_file { IsSameFile self.old self.new }
+        ensures same_found { self.new.found ≡ self.old.found }
         ensures same_failing { self.new.failing ≡ self.old.failing }
         ensures same_calls { self.new.calls ≡ self.old.calls }
     {
@@ -190,6 +193,24 @@ impl MemDisk {
         }
     }
 
+    /// Notes the file as what an attach found, where the call is not told to fail, the file is no longer than the longest and memory lasts:
+    /// whether it did.
+    fn note(&mut self) -> bool
+        ensures noted { IsTrue result → (told_of self.new).attached ≡ (told_of self.old).attached ++ bytes_of self.old ∷ [] }
+        ensures not_noted { result ≡ false → (told_of self.new).attached ≡ (told_of self.old).attached }
+        ensures untold { IsTrue result → ¬ Contains (failing_of self.old) (calls_of self.old) }
+        ensures same_file { IsSameFile self.old self.new }
+        ensures kept { KeepsCounts self.old self.new }
+    {
+        if self.failing.contains(&self.calls) || self.bytes().len() as u64 > MAX_LENGTH {
+            return false;
+        }
+        match Vec::from_slice(self.alloc, self.bytes()) {
+            Ok(file) => self.found.push(file).is_ok(),
+            Err(_) => false,
+        }
+    }
+
     /// Goes a sync, where the call is not told to fail and memory lasts: whether it did.
     fn settle(&mut self) -> bool
         ensures bytes { bytes_of self.new ≡ bytes_of self.old }
@@ -213,20 +234,21 @@ impl Disk for MemDisk {
 
     fn attach(&mut self, _name: &str) -> Result<(), DiskFailed>
         // What every disk does.
-        ensures open { OnOk result (IsOneOf (told_of self.new).reads (told_of self.old).may_leave) }
+        ensures open { OnOk result (Finds (told_of self.old) (told_of self.new)) }
         ensures crash { LeavesNothingNew (told_of self.old) (told_of self.new) }
-        ensures goes_on { GoesOn (told_of self.old) (told_of self.new) }
+        ensures time { Elapses (told_of self.old) (told_of self.new) }
+        ensures same_device { IsSameDevice (told_of self.old) (told_of self.new) }
         ensures failed { OnErr result (Fails (told_of self.old) (told_of self.new)) }
+        ensures not_attached { OnErr result ((told_of self.new).attached ≡ (told_of self.old).attached) }
 
         // What this one gives, and when it fails.
         ensures whole { OnOk result ((told_of self.new).reads ≡ Some (bytes_of self.old)) }
         ensures same_file { IsSameFile self.old self.new }
         ensures told { Contains (failing_of self.old) (calls_of self.old) → IsErr result }
-        ensures only { OnErr result (Contains (failing_of self.old) (calls_of self.old) ⊎ (2 ^ 62 < length (bytes_of self.old))) }
         ensures counted { IsCounted self.old self.new }
     {
-        let short = self.bytes().len() as u64 <= MAX_LENGTH;
-        self.count(short)?;
+        let noted = self.note();
+        self.count(noted)?;
         self.attached = true;
         Ok(())
     }

@@ -1,13 +1,30 @@
 //! Proportions of feeds in their pools, and what the pools mix at them.
 
-use crate::outline::{GRAIN, Outline, add_at};
+use crate::outline::{Outline, add_at};
 use lp_sparse::lookup::at;
 use std::alloc::{AllocError, Global};
 
-/// Proportions over the grain, with the qualities and the cost of a unit that they give each pool, over the grain too.
+/// Proportions, by feed, in parts of a base.
+#[derive(Clone, Copy)]
+pub struct Proportions<'a> {
+    pub base: u32,
+    pub parts: &'a [u32],
+}
+
+impl<'a> Proportions<'a> {
+    /// Proportions in parts of the grain.
+    pub fn over_grain(parts: &'a [u32]) -> Proportions<'a> {
+        Proportions {
+            base: 1_048_576,
+            parts,
+        }
+    }
+}
+
+/// Proportions, with the qualities and the cost of a unit that they give each pool, over their base too.
 #[derive(Drop)]
 pub struct Blend<'a> {
-    parts: &'a [u32],
+    proportions: Proportions<'a>,
     qualities: Vec<i128>,
     costs: Vec<i128>,
 }
@@ -17,8 +34,9 @@ impl<'a> Blend<'a> {
     pub fn new(
         alloc: Global,
         outline: &Outline,
-        parts: &'a [u32],
+        proportions: Proportions<'a>,
     ) -> Result<Blend<'a>, AllocError> {
+        let parts = proportions.parts;
         let pools = outline.nodes.pools.len();
         let places = pools.saturating_mul(outline.quality_count());
         let mut qualities = vec![in alloc; 0i128; places]?;
@@ -26,15 +44,20 @@ impl<'a> Blend<'a> {
         mix_qualities(outline, parts, &mut qualities);
         mix_costs(outline, parts, &mut costs);
         Ok(Blend {
-            parts,
+            proportions,
             qualities,
             costs,
         })
     }
 
+    /// What the proportions are counted over.
+    pub fn base(&self) -> i128 {
+        i128::from(self.proportions.base)
+    }
+
     /// A feed's proportion.
     pub fn part(&self, feed: usize) -> i128 {
-        i128::from(at(self.parts, feed, 0))
+        i128::from(at(self.proportions.parts, feed, 0))
     }
 
     /// A quality of a pool.

@@ -1,12 +1,12 @@
 //! The flows of least cost at given proportions.
 //!
 //! Where the pools' qualities are fixed, what is left is a linear program in the outflows and the directs. Its columns are
-//! the outs and then the directs, in millionths. Its rows count in parts of the grain where proportions are in them: that
+//! the outs and then the directs, in millionths. Its rows count over the base where proportions are in them: that
 //! each source, pool and product stays within its maximum and each product gets its minimum, and that its mean keeps each
 //! limit.
 
 use crate::blend::Blend;
-use crate::outline::{Arc, GRAIN, Outline};
+use crate::outline::{Arc, Outline};
 use crate::program::SmallProgram;
 use lp_sparse::lookup::at;
 use std::alloc::{AllocError, Global};
@@ -53,12 +53,12 @@ pub fn flow_program(
 ) -> Result<SmallProgram, AllocError> {
     let mut program = SmallProgram::new(alloc);
     add_columns(&mut program, outline, blend)?;
-    add_rows(alloc, &mut program, outline)?;
+    add_rows(alloc, &mut program, outline, blend.base())?;
     add_terms(&mut program, outline, blend)?;
     Ok(program)
 }
 
-/// The outs and the directs, with what a unit costs, in parts of the grain.
+/// The outs and the directs, with what a unit costs, over the base.
 fn add_columns(
     program: &mut SmallProgram,
     outline: &Outline,
@@ -66,15 +66,16 @@ fn add_columns(
 ) -> Result<(), AllocError> {
     for arc in outline.arcs.outs.iter() {
         let product = outline.product(arc.to);
-        let price = product.price.wrapping_mul(GRAIN);
+        let price = product.price.wrapping_mul(blend.base());
         let high = outline.pool_max(arc.from).min(product.max);
         program.add_variable(0, high, blend.cost(arc.from).wrapping_sub(price))?;
     }
     for arc in outline.arcs.directs.iter() {
         let source = outline.source(arc.from);
         let product = outline.product(arc.to);
-        let cost = source.cost.wrapping_sub(product.price).wrapping_mul(GRAIN);
-        program.add_variable(0, source.max.min(product.max), cost)?;
+        let cost = source.cost.wrapping_sub(product.price);
+        let high = source.max.min(product.max);
+        program.add_variable(0, high, cost.wrapping_mul(blend.base()))?;
     }
     Ok(())
 }
@@ -84,8 +85,9 @@ fn add_rows(
     alloc: Global,
     program: &mut SmallProgram,
     outline: &Outline,
+    base: i128,
 ) -> Result<(), AllocError> {
-    add_maxima(alloc, program, outline)?;
+    add_maxima(alloc, program, outline, base)?;
     for product in 0..outline.nodes.products.len() {
         program.add_row(alloc, false, asked(outline, product).wrapping_neg())?;
     }
@@ -101,9 +103,10 @@ fn add_maxima(
     alloc: Global,
     program: &mut SmallProgram,
     outline: &Outline,
+    base: i128,
 ) -> Result<(), AllocError> {
     for source in outline.nodes.sources.iter() {
-        program.add_row(alloc, false, source.max.wrapping_mul(GRAIN))?;
+        program.add_row(alloc, false, source.max.wrapping_mul(base))?;
     }
     for max in outline.nodes.pools.iter() {
         program.add_row(alloc, false, *max)?;
@@ -125,7 +128,7 @@ fn add_terms(
         add_out_terms(program, outline, blend, layout, out)?;
     }
     for direct in 0..outline.arcs.directs.len() {
-        add_direct_terms(program, outline, layout, direct)?;
+        add_direct_terms(program, outline, blend.base(), layout, direct)?;
     }
     Ok(())
 }
@@ -164,7 +167,7 @@ fn add_out_terms(
     for (number, limit) in outline.limits(arc.to).iter().enumerate() {
         let quality = blend.quality(outline, arc.from, limit.quality);
         let row = first.saturating_add(number);
-        program.add_term(row, out, limit.room(quality))?;
+        program.add_term(row, out, limit.room(quality, blend.base()))?;
     }
     Ok(())
 }
@@ -173,18 +176,19 @@ fn add_out_terms(
 fn add_direct_terms(
     program: &mut SmallProgram,
     outline: &Outline,
+    base: i128,
     layout: Layout,
     direct: usize,
 ) -> Result<(), AllocError> {
     let arc = outline.direct(direct);
     let column = layout.directs.saturating_add(direct);
-    program.add_term(arc.from, column, GRAIN.wrapping_neg())?;
+    program.add_term(arc.from, column, base.wrapping_neg())?;
     add_product_terms(program, layout, arc, column)?;
     let first = layout.limits.saturating_add(outline.first_limit(arc.to));
     for (number, limit) in outline.limits(arc.to).iter().enumerate() {
-        let quality = outline.quality(arc.from, limit.quality);
+        let gap = limit.gap(outline.quality(arc.from, limit.quality));
         let row = first.saturating_add(number);
-        program.add_term(row, column, limit.room(quality.wrapping_mul(GRAIN)))?;
+        program.add_term(row, column, gap.wrapping_mul(base))?;
     }
     Ok(())
 }

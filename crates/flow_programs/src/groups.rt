@@ -6,16 +6,16 @@ use std::alloc::{AllocError, Global};
 
 /// The numbers of arcs, those of one node after another.
 #[derive(Drop)]
-pub struct Groups {
+pub struct ArcsByEnd {
     arcs: Vec<usize>,
     /// For each node the end of its arcs in the list.
     ends: Vec<usize>,
 }
 
-impl Groups {
+impl ArcsByEnd {
     /// The arcs by the node at which they end.
-    pub fn by_end(alloc: Global, arcs: &[Arc], nodes: usize) -> Result<Groups, AllocError> {
-        let mut groups = Groups {
+    pub fn by_end(alloc: Global, arcs: &[Arc], nodes: usize) -> Result<ArcsByEnd, AllocError> {
+        let mut groups = ArcsByEnd {
             arcs: Vec::new(alloc),
             ends: Vec::new(alloc),
         };

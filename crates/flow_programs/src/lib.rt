@@ -3,7 +3,7 @@
 //! Where the proportions of a network's pools are fixed, its plans are the points of a small linear program in the outflows
 //! and the directs. [`flow_program`] puts it together from an [`Outline`], the network's numbers as plain lists, and a
 //! [`Blend`], what the pools mix; [`SmallProgram::lp`] is what advice is asked on. [`flows_of`] reads the flows off the point
-//! of an advice, [`rounded`] brings proportions to their base, and [`Flows::mend`] lowers flows that were rounded until they
+//! of an advice, [`rounded`] brings proportions to the grain and [`small_parts`] to a small base, and [`ArcFlows::mend`] lowers flows that were rounded until they
 //! keep each limit again. [`step_program`] moves proportions and flows together, and [`step_end`] reads off where its point
 //! leads; [`vertex_of`] has the flows of an advice exactly.
 //!
@@ -21,15 +21,17 @@ mod mending;
 mod outline;
 mod program;
 mod rounding;
+mod small;
 mod steps;
 mod vertex;
 
-pub use blend::Blend;
+pub use blend::{Blend, Proportions};
 pub use flows::{Layout, flow_program, flows_of};
-pub use groups::Groups;
-pub use mending::Flows;
+pub use groups::ArcsByEnd;
+pub use mending::ArcFlows;
 pub use outline::{Arc, Arcs, GRAIN, Limit, Meetings, Nodes, Outline, Product, Qualities, Source};
 pub use program::SmallProgram;
 pub use rounding::rounded;
-pub use steps::{Place, Reach, Stepped, step_end, step_program};
+pub use small::{SmallParts, small_parts};
+pub use steps::{Outlook, Place, Reach, Stepped, step_end, step_program};
 pub use vertex::{Vertex, vertex_of};

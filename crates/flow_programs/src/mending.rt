@@ -5,7 +5,7 @@
 //! for what is missing, round after round. Only where that does not end is the product dropped.
 
 use crate::blend::Blend;
-use crate::outline::{GRAIN, Limit, Outline};
+use crate::outline::{Limit, Outline};
 use lp_sparse::least_cut;
 use lp_sparse::lookup::{at, put};
 
@@ -14,7 +14,7 @@ const ROUNDS: u32 = 64;
 
 /// Flows in millionths, by out and by direct.
 #[derive(Drop)]
-pub struct Flows {
+pub struct ArcFlows {
     pub outs: Vec<u64>,
     pub directs: Vec<u64>,
 }
@@ -34,7 +34,7 @@ struct Balance {
     worst: Option<Along>,
 }
 
-impl Flows {
+impl ArcFlows {
     /// Lowers the flows until no maximum is passed and no limit is broken.
     pub fn mend(&mut self, outline: &Outline, blend: &Blend) {
         for product in 0..outline.nodes.products.len() {
@@ -82,11 +82,11 @@ impl Flows {
 
     /// Lowers flows from a source until it sends no more than its maximum: first its directs, then what its pools send.
     fn mend_source(&mut self, outline: &Outline, blend: &Blend, source: usize) {
-        let max = outline.source(source).max.wrapping_mul(GRAIN);
+        let max = outline.source(source).max.wrapping_mul(blend.base());
         let mut over = self.sent(outline, blend, source).wrapping_sub(max);
         for (direct, arc) in outline.arcs.directs.iter().enumerate() {
             if arc.from == source {
-                over = lower(&mut self.directs, direct, over, GRAIN);
+                over = lower(&mut self.directs, direct, over, blend.base());
             }
         }
         for (feed, arc) in outline.arcs.feeds.iter().enumerate() {
@@ -106,13 +106,13 @@ impl Flows {
         over
     }
 
-    /// What a source sends out, in parts of the grain.
+    /// What a source sends out, over the base.
     fn sent(&self, outline: &Outline, blend: &Blend, source: usize) -> i128 {
         let mut sent = 0i128;
         for (direct, arc) in outline.arcs.directs.iter().enumerate() {
             if arc.from == source {
                 let flow = i128::from(at(&self.directs, direct, 0));
-                sent = sent.wrapping_add(flow.wrapping_mul(GRAIN));
+                sent = sent.wrapping_add(flow.wrapping_mul(blend.base()));
             }
         }
         for (feed, arc) in outline.arcs.feeds.iter().enumerate() {
@@ -184,13 +184,15 @@ impl Flows {
             let pool = outline.out(*out).from;
             let quality = blend.quality(outline, pool, limit.quality);
             let flow = at(&self.outs, *out, 0);
-            balance.add(Along::Out(*out), limit.room(quality), flow);
+            let room = limit.room(quality, blend.base());
+            balance.add(Along::Out(*out), room, flow);
         }
         for direct in outline.meetings.directs_into.of(product) {
             let source = outline.direct(*direct).from;
-            let quality = outline.quality(source, limit.quality).wrapping_mul(GRAIN);
+            let room = limit.gap(outline.quality(source, limit.quality));
             let flow = at(&self.directs, *direct, 0);
-            balance.add(Along::Direct(*direct), limit.room(quality), flow);
+            let room = room.wrapping_mul(blend.base());
+            balance.add(Along::Direct(*direct), room, flow);
         }
         balance
     }

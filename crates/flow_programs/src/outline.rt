@@ -1,10 +1,10 @@
 //! A network's numbers as plain lists, in which anything may be looked up.
 
-use crate::groups::Groups;
+use crate::groups::ArcsByEnd;
 use lp_sparse::lookup::at;
 use std::alloc::{AllocError, Global};
 
-/// How many parts a proportion is counted in.
+/// How many parts proportions are counted in where no smaller base serves.
 pub const GRAIN: i128 = 1_048_576;
 
 /// A source: its cost in millionths of money a unit, its maximum in millionths.
@@ -43,9 +43,9 @@ impl Limit {
         self.between(self.value, quality)
     }
 
-    /// The same for a quality over the grain.
-    pub fn room(self, quality: i128) -> i128 {
-        self.between(self.value.wrapping_mul(GRAIN), quality)
+    /// The same for a quality over a base.
+    pub fn room(self, quality: i128, base: i128) -> i128 {
+        self.between(self.value.wrapping_mul(base), quality)
     }
 
     fn between(self, limit: i128, quality: i128) -> i128 {
@@ -76,9 +76,9 @@ pub struct Arcs {
 /// The arcs by a node at one of their ends.
 #[derive(Drop)]
 pub struct Meetings {
-    pub feeds_into: Groups,
-    pub outs_into: Groups,
-    pub directs_into: Groups,
+    pub feeds_into: ArcsByEnd,
+    pub outs_into: ArcsByEnd,
+    pub directs_into: ArcsByEnd,
 }
 
 /// The qualities of the sources, and the limits of the products.
@@ -228,9 +228,9 @@ impl Meetings {
         let pools = nodes.pools.len();
         let products = nodes.products.len();
         Ok(Meetings {
-            feeds_into: Groups::by_end(alloc, &arcs.feeds, pools)?,
-            outs_into: Groups::by_end(alloc, &arcs.outs, products)?,
-            directs_into: Groups::by_end(alloc, &arcs.directs, products)?,
+            feeds_into: ArcsByEnd::by_end(alloc, &arcs.feeds, pools)?,
+            outs_into: ArcsByEnd::by_end(alloc, &arcs.outs, products)?,
+            directs_into: ArcsByEnd::by_end(alloc, &arcs.directs, products)?,
         })
     }
 }

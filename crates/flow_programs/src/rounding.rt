@@ -19,7 +19,9 @@ pub fn rounded(alloc: Global, outline: &Outline, numbers: &[i128]) -> Result<Vec
     add_rests(alloc, outline, numbers, &mut parts)?;
     for round in 0..ROUNDS {
         let _ = round;
-        keep_limits(outline, numbers, &mut parts);
+        if !keep_limits(outline, numbers, &mut parts) {
+            break;
+        }
     }
     short_parts(alloc, &parts)
 }
@@ -55,8 +57,9 @@ fn add_rests(
     Ok(())
 }
 
-/// Moves parts where a limit that the numbers keep is broken.
-fn keep_limits(outline: &Outline, numbers: &[i128], parts: &mut [i128]) {
+/// Moves parts where a limit that the numbers keep is broken. Whether any were moved.
+fn keep_limits(outline: &Outline, numbers: &[i128], parts: &mut [i128]) -> bool {
+    let mut moved = false;
     for arc in outline.arcs.outs.iter() {
         for limit in outline.limits(arc.to) {
             let missing = room(outline, arc.from, *limit, parts).wrapping_neg();
@@ -64,10 +67,12 @@ fn keep_limits(outline: &Outline, numbers: &[i128], parts: &mut [i128]) {
                 let span = Span::new(outline, arc.from, *limit, parts);
                 if is_kept(outline, arc.from, *limit, numbers, span) {
                     span.shift(parts, missing);
+                    moved = true;
                 }
             }
         }
     }
+    moved
 }
 
 /// What the numbers of a pool's feeds leave of a limit, in millionths times their unit.

@@ -6,7 +6,7 @@
 //! optimization of continuous processing systems, 1961; on pooling C. A. Haverly, Studies of the behavior of recursion for
 //! the pooling problem, 1978). Changes are at most a radius, and sum to 0 in each pool.
 
-use crate::blend::Blend;
+use crate::blend::{Blend, Proportions};
 use crate::flows::{Layout, flow_program};
 use crate::outline::{GRAIN, Limit, Outline};
 use crate::program::SmallProgram;
@@ -29,11 +29,19 @@ pub struct Place<'a> {
     pub outflows: &'a [u64],
 }
 
-/// The proportions to which a step leads, and what its program takes the flows there to cost, in picos over the grain.
+/// The proportions to which a step leads, and how its program sees it.
 #[derive(Drop)]
 pub struct Stepped {
     pub parts: Vec<u32>,
+    pub outlook: Outlook,
+}
+
+/// What a step's program takes the flows at its end to cost, in picos over the grain, and how far it moves a proportion at the most, in
+/// parts of the grain.
+#[derive(Clone, Copy)]
+pub struct Outlook {
     pub cost: i128,
+    pub length: i128,
 }
 
 /// Where a step leads, by a point of its program.
@@ -47,8 +55,22 @@ pub fn step_end(
     let numbers = moved(alloc, outline, place.parts, point)?;
     Ok(Stepped {
         parts: rounded(alloc, outline, &numbers)?,
-        cost: program.cost(point),
+        outlook: Outlook {
+            cost: program.cost(point),
+            length: length(outline, point),
+        },
     })
+}
+
+/// How far the program moves a proportion at the most, rounded up.
+fn length(outline: &Outline, point: &[i128]) -> i128 {
+    let layout = Layout::new(outline);
+    let mut most = 0;
+    for feed in 0..outline.arcs.feeds.len() {
+        let change = at(point, layout.feeds.saturating_add(feed), 0);
+        most = most.max(change.wrapping_abs());
+    }
+    most.unbounded_shr(32).wrapping_add(1)
 }
 
 /// The proportions with what the program changes of them, in units of 2^-32 of the grain's parts.
@@ -76,7 +98,7 @@ pub fn step_program(
     reach: Reach,
 ) -> Result<SmallProgram, AllocError> {
     let layout = Layout::new(outline);
-    let blend = Blend::new(alloc, outline, place.parts)?;
+    let blend = Blend::new(alloc, outline, Proportions::over_grain(place.parts))?;
     let mut program = flow_program(alloc, outline, &blend)?;
     let outflows = outline.pool_outflows(alloc, place.outflows)?;
     for (feed, arc) in outline.arcs.feeds.iter().enumerate() {

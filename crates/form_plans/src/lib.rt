@@ -1,7 +1,7 @@
 //! The way back from points of the exact programs to written plans.
 //!
-//! [`q::plan_of`] and [`pq::plan_of`] take a [`PropPoint`](program_points::PropPoint) apart, [`p::plan_of`] a
-//! [`QualPoint`](program_points::QualPoint): they test whether it is a point of the program, row by row and product by product,
+//! [`q::plan_of`] and [`pq::plan_of`] take a [`PropPoint`] apart, [`p::plan_of`] a [`QualPoint`]; `point_of` beside each of them gives such a
+//! point of a plan. They test whether it is a point of the program, row by row and product by product,
 //! and give the plan that it stands for, over the least bases for its flows and, of a point of P, for the parts of its feeds. The
 //! plan is well written, it obeys, and it has the point's flows and its cost. [`FormFault`] says why a point has no plan:
 //! [`FormFault::NotAPoint`] exactly where it is none of the program within the limits, and then [`FormFault::TooFine`] exactly
@@ -34,3 +34,4 @@ pub use feeds::weights;
 pub use flow_divisors::{divided, flow_divisor};
 pub use part_bases::part_base;
 pub use point_checks::flows_fit;
+pub use program_points::{PropPoint, QualPoint};

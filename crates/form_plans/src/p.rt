@@ -21,6 +21,7 @@ use blend_network::Network;
 use plan_core::WrittenPlan;
 use point_checks::is_qual_point;
 use program_points::QualPoint;
+pub use program_points::p::point_of;
 use std::alloc::Global;
 
 /// The written plan of a point: each feed's part of what its pool sends as its weight, over the least base that makes all parts

@@ -10,6 +10,7 @@ use crate::q;
 use blend_network::Network;
 use plan_core::WrittenPlan;
 use program_points::PropPoint;
+pub use program_points::pq::point_of;
 use std::alloc::Global;
 
 /// The written plan of a point, as of one of form Q: its further rows hold at each of those.

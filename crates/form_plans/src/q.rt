@@ -13,6 +13,7 @@ use blend_network::Network;
 use plan_core::WrittenPlan;
 use point_checks::is_prop_point;
 use program_points::PropPoint;
+pub use program_points::q::point_of;
 use std::alloc::Global;
 
 /// The written plan of a point: its proportions as weights, and its flows over the least base that makes them whole. It is well

@@ -15,8 +15,8 @@ use Rattle.journal_format.specs.Files.{record_bytes, records, behind_gate, IsRec
 use Rattle.journal_format.specs.Faults.{IsAllowed, IsBad}
 use Rattle.journal_format.specs.Records.{Opens, IsRecordAt, AreRecordsAt}
 use Rattle.journal_format.specs.Gives.{Gives}
-use Rattle.journal_format.specs.declared.fault.Unread.{Unread}
-use Rattle.journal_format.specs.declared.opening.Opening.TheVariants.{CutShort, Payload}
+use Rattle.journal_format.specs.declared.fault.EntryUnread.{EntryUnread}
+use Rattle.journal_format.specs.declared.opening.RecordHead.TheVariants.{CutShort, Payload}
 use Rattle.journal_format.proofs.Numbers.{IsBytes, wide4, length-field, number_again}
 use Rattle.journal_format.proofs.Entries.{payload_again, payload_takes}
 
@@ -191,7 +191,7 @@ first_bytes at end n file size is =
     ap (λ (k : ℕ). take k (drop at file)) same ∙ take_min 5 (drop at file)
 
 -- what a reader made of all the bytes
-pub read_spells : {E : Type 0} (shown : E → Entry) (bytes : List ℕ) (r : Result E Unread) → IsBytes bytes → Gives shown r (payload_at bytes) →
+pub read_spells : {E : Type 0} (shown : E → Entry) (bytes : List ℕ) (r : Result E EntryUnread) → IsBytes bytes → Gives shown r (payload_at bytes) →
     IfOk r (λ e. (bytes ≡ payload (shown e)) × EntryFits (shown e))
 read_spells shown bytes (Ok e) fits gives = payload_takes bytes (shown e) fits gives
 read_spells shown bytes (Err e) fits gives = tt

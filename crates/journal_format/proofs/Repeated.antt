@@ -1,8 +1,8 @@
 -- Reading so many of the same, one after another, as a loop does.
 use Rattle.std.proofs.Common.{◌≡◌, ℕ, zero, suc, ◌-◌, ◌+◌, ◌≤◌, ◌<◌, List, [], ◌∷◌, ◌++◌, Option, Some, None, refl, sym, ap, ◌∙◌, append_assoc, arith}
 use Rattle.std.proofs.lemmas.List.{append-nil}
-use Rattle.journal_format.specs.declared.fault.Unread.{Unread}
-use Rattle.journal_format.specs.declared.fault.Unread.TheVariants.{Malformed, Memory}
+use Rattle.journal_format.specs.declared.fault.EntryUnread.{EntryUnread}
+use Rattle.journal_format.specs.declared.fault.EntryUnread.TheVariants.{Malformed, Memory}
 use Rattle.journal_format.specs.Fields.{number_at}
 use Rattle.journal_format.specs.Reading.{◌>>=◌, part_at, parts_at, numbers_at}
 use Rattle.journal_format.specs.Gives.{Fails}
@@ -27,7 +27,7 @@ module _ {A : Type 0} (one : List ℕ → Option (A × List ℕ)) (many : ℕ �
       more (count - (i + 1)) bytes ∙ ap (λ o. o >>= λ first. many (count - (i + 1)) first.1 >>= λ others. Some (first.0 ∷ others.0, others.1)) h in
       sym (ap (λ n. with_front front (many n bytes)) k ∙ ap (with_front front) step ∙ regroup front x (many (count - (i + 1)) behind)) ∙ so_far
 
-  ends : (e : Unread) (front : List A) (count i : ℕ) (bytes : List ℕ) (total : Option (List A × List ℕ)) → i < count → Fails e (one bytes)
+  ends : (e : EntryUnread) (front : List A) (count i : ℕ) (bytes : List ℕ) (total : Option (List A × List ℕ)) → i < count → Fails e (one bytes)
       → with_front front (many (count - i) bytes) ≡ total → Fails e total
   ends Memory front count i bytes total lt h so_far = tt
   ends Malformed front count i bytes total lt h so_far =
@@ -55,7 +55,7 @@ pub parts-goes_on : (front : List Part) (count i : ℕ) (bytes : List ℕ) (x : 
     → with_front front (parts_at (count - i) bytes) ≡ total → with_front (front ++ x ∷ []) (parts_at (count - (i + 1)) behind) ≡ total
 parts-goes_on = goes_on part_at parts_at parts-none parts-more
 
-pub parts-ends : (e : Unread) (front : List Part) (count i : ℕ) (bytes : List ℕ) (total : Option (List Part × List ℕ)) → i < count → Fails e (part_at bytes)
+pub parts-ends : (e : EntryUnread) (front : List Part) (count i : ℕ) (bytes : List ℕ) (total : Option (List Part × List ℕ)) → i < count → Fails e (part_at bytes)
     → with_front front (parts_at (count - i) bytes) ≡ total → Fails e total
 parts-ends = ends part_at parts_at parts-none parts-more
 
@@ -77,7 +77,7 @@ pub numbers-goes_on : (width : ℕ) (front : List ℕ) (count i : ℕ) (bytes : 
     → with_front front (numbers_at width (count - i) bytes) ≡ total → with_front (front ++ x ∷ []) (numbers_at width (count - (i + 1)) behind) ≡ total
 numbers-goes_on width = goes_on (number_at width) (numbers_at width) (numbers-none width) (numbers-more width)
 
-pub numbers-ends : (width : ℕ) (e : Unread) (front : List ℕ) (count i : ℕ) (bytes : List ℕ) (total : Option (List ℕ × List ℕ)) → i < count → Fails e (number_at width bytes)
+pub numbers-ends : (width : ℕ) (e : EntryUnread) (front : List ℕ) (count i : ℕ) (bytes : List ℕ) (total : Option (List ℕ × List ℕ)) → i < count → Fails e (number_at width bytes)
     → with_front front (numbers_at width (count - i) bytes) ≡ total → Fails e total
 numbers-ends width = ends (number_at width) (numbers_at width) (numbers-none width) (numbers-more width)
 

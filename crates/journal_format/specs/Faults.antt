@@ -3,7 +3,7 @@ use Rattle.std.specs.Prelude.{◌≡◌, ◌≢◌, ℕ, ◌<◌, ◌≤◌, ◌
 use Rattle.std.specs.List.{AllByRecursion}
 use Rattle.row_model.specs.Entries.{Entry}
 use Rattle.journal_format.specs.Payload.{payload}
-use Rattle.journal_format.specs.Files.{header, record_bytes, IsRecordable, HasMagic, IsBorn, Holds}
+use Rattle.journal_format.specs.Files.{header, record_bytes, IsRecordable, HasMagic, IsBorn, HoldsEntries}
 use Rattle.journal_format.specs.declared.fault.JournalFault.{JournalFault}
 use Rattle.journal_format.specs.declared.fault.JournalFault.TheVariants.{Disk, NotAJournal, UnknownVersion, OtherNetwork, BadRecord, Memory}
 
@@ -23,7 +23,7 @@ pub record IsBad (largest : ℕ) (rest : List ℕ) : Type 0 where
 pub record IsBadAt (text : List ℕ) (largest n : ℕ) (file : List ℕ) : Type 0 where
   pub list : List Entry
   pub rest : List ℕ
-  pub holds : Holds text list rest file
+  pub holds : HoldsEntries text list rest file
   pub allowed : AllByRecursion (IsAllowed largest) list
   pub count : n ≡ length list
   pub bad : IsBad largest rest

@@ -68,17 +68,17 @@ pub record IsBorn (file : List ℕ) : Type 0 where
 
 -- The file is born with this text, and its records up to the first closed gate, which stands before the rest, hold the
 -- entries of the list, in order.
-pub record Holds (text : List ℕ) (list : List Entry) (rest file : List ℕ) : Type 0 where
+pub record HoldsEntries (text : List ℕ) (list : List Entry) (rest file : List ℕ) : Type 0 where
   pub parts : file ≡ header 1 text ++ (records list ++ rest)
   pub each : AllByRecursion IsRecordable list
 
 -- what the file stands for: no entry before birth, and then those of its records up to the first closed gate
 abbrev pub Stands : List ℕ → List ℕ → List Entry → Type 0
-Stands file text list = (IsUnborn file × (list ≡ [])) ⊎ ((rest : List ℕ) × IsClosed rest × Holds text list rest file)
+Stands file text list = (IsUnborn file × (list ≡ [])) ⊎ ((rest : List ℕ) × IsClosed rest × HoldsEntries text list rest file)
 
 -- the file stands for the list, and the first closed gate is there
 abbrev pub IsKept : List ℕ → List Entry → List ℕ → Type 0
-IsKept text list file = (rest : List ℕ) × IsShut rest × Holds text list rest file
+IsKept text list file = (rest : List ℕ) × IsShut rest × HoldsEntries text list rest file
 
 -- the file's birth byte is 2 or more, and all that is written before birth stands behind it
 abbrev pub IsHalfBorn : List ℕ → List ℕ → Type 0

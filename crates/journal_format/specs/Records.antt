@@ -3,15 +3,15 @@ use Rattle.std.specs.Prelude.{◌≡◌, ℕ, ◌+◌, ◌<◌, ◌^◌, ◌⊎�
 use Rattle.std.specs.List.{AllByRecursion}
 use Rattle.row_model.specs.Entries.{Entry}
 use Rattle.journal_format.specs.Fields.{field}
-use Rattle.journal_format.specs.Files.{header, record_bytes, records, IsClosed, IsShut, Holds}
+use Rattle.journal_format.specs.Files.{header, record_bytes, records, IsClosed, IsShut, HoldsEntries}
 use Rattle.journal_format.specs.Faults.{IsAllowed, IsBad, IsFree}
 use Rattle.journal_format.specs.declared.fault.JournalFault.{JournalFault}
 use Rattle.journal_format.specs.declared.fault.JournalFault.TheVariants.{BadRecord}
-use Rattle.journal_format.specs.declared.opening.Opening.{Opening}
-use Rattle.journal_format.specs.declared.opening.Opening.TheVariants.{Closed, CutShort, Payload}
+use Rattle.journal_format.specs.declared.opening.RecordHead.{RecordHead}
+use Rattle.journal_format.specs.declared.opening.RecordHead.TheVariants.{Closed, CutShort, Payload}
 
 -- what stands before a payload: no open gate; or one, with fewer than four bytes behind it; or one, and a length
-abbrev pub Opens : List ℕ → Opening → Type 0
+abbrev pub Opens : List ℕ → RecordHead → Type 0
 Opens rest Closed = IsClosed rest
 Opens rest CutShort = (behind : List ℕ) × (rest ≡ 1 ∷ behind) × (length behind < 4)
 Opens rest (Payload n) = (n < 2 ^ 32) × (rest ≡ 1 ∷ field 4 n ++ drop 5 rest)
@@ -44,7 +44,7 @@ pub record IsBadBehind (largest at : ℕ) (file : List ℕ) (fault : JournalFaul
 pub record IsKeptAt (gate : ℕ) (text : List ℕ) (list : List Entry) (file : List ℕ) : Type 0 where
   pub rest : List ℕ
   pub shut : IsShut rest
-  pub holds : Holds text list rest file
+  pub holds : HoldsEntries text list rest file
   pub place : gate ≡ length (header 1 text) + length (records list)
 
 -- the file is born with this text, and its records begin at this place

@@ -2,7 +2,7 @@
 
 ghost use Rattle.std.specs.Prelude.{◌≡◌};
 ghost use Rattle.journal_format.specs.declared.fault.JournalFault.TheVariants as faults;
-ghost use Rattle.journal_format.specs.declared.fault.Unread.TheVariants as unread;
+ghost use Rattle.journal_format.specs.declared.fault.EntryUnread.TheVariants as unread;
 
 use disk_calls::DiskFailed;
 use std::alloc::{AllocError, AllocFailed};
@@ -50,25 +50,25 @@ impl<T: Drop> From<AllocFailed<T>> for JournalFault {
 
 /// Why bytes are not read as an entry.
 #[derive(Clone, Copy, Debug, PartialEq, Eq)]
-pub enum Unread {
+pub enum EntryUnread {
     /// They are no entry's.
     Malformed,
     /// There was no memory. It may come in place of any other answer.
     Memory,
 }
 
-impl From<AllocError> for Unread {
+impl From<AllocError> for EntryUnread {
     ghost from_gives = { λ _ e. e ≡ unread.Memory };
 
-    fn from(_e: AllocError) -> Unread {
-        Unread::Memory
+    fn from(_e: AllocError) -> EntryUnread {
+        EntryUnread::Memory
     }
 }
 
-impl<T: Drop> From<AllocFailed<T>> for Unread {
+impl<T: Drop> From<AllocFailed<T>> for EntryUnread {
     ghost from_gives = { λ _ e. e ≡ unread.Memory };
 
-    fn from(_e: AllocFailed<T>) -> Unread {
-        Unread::Memory
+    fn from(_e: AllocFailed<T>) -> EntryUnread {
+        EntryUnread::Memory
     }
 }

@@ -4,7 +4,7 @@ ghost use Rattle.std.specs.Prelude.{◌≡◌};
 ghost use Rattle.journal_format.specs.Fields.{field, signed_field, number_at, signed_at};
 ghost use Rattle.journal_format.specs.Gives.{Gives};
 
-use crate::fault::Unread;
+use crate::fault::EntryUnread;
 use byteorder::{BigEndian, ByteOrder};
 
 // ---- written
@@ -48,41 +48,41 @@ pub(crate) fn i64_field(n: i64) -> [u8; 8]
 // ---- read: the number, and the bytes behind it
 
 #[tactic(auto, unfolding(crate::specs::Fields::number_at))]
-pub(crate) fn u16_at(bytes: &[u8]) -> Result<(u16, &[u8]), Unread>
+pub(crate) fn u16_at(bytes: &[u8]) -> Result<(u16, &[u8]), EntryUnread>
     ensures { Gives (λ x. (x.0, x.1.now)) result (number_at 2 bytes.now) }
 {
     if bytes.len() < 2 {
-        return Err(Unread::Malformed);
+        return Err(EntryUnread::Malformed);
     }
     Ok((BigEndian::read_u16(bytes), &bytes[2..]))
 }
 
 #[tactic(auto, unfolding(crate::specs::Fields::number_at))]
-pub(crate) fn u32_at(bytes: &[u8]) -> Result<(u32, &[u8]), Unread>
+pub(crate) fn u32_at(bytes: &[u8]) -> Result<(u32, &[u8]), EntryUnread>
     ensures { Gives (λ x. (x.0, x.1.now)) result (number_at 4 bytes.now) }
 {
     if bytes.len() < 4 {
-        return Err(Unread::Malformed);
+        return Err(EntryUnread::Malformed);
     }
     Ok((BigEndian::read_u32(bytes), &bytes[4..]))
 }
 
 #[tactic(auto, unfolding(crate::specs::Fields::number_at))]
-pub(crate) fn u64_at(bytes: &[u8]) -> Result<(u64, &[u8]), Unread>
+pub(crate) fn u64_at(bytes: &[u8]) -> Result<(u64, &[u8]), EntryUnread>
     ensures { Gives (λ x. (x.0, x.1.now)) result (number_at 8 bytes.now) }
 {
     if bytes.len() < 8 {
-        return Err(Unread::Malformed);
+        return Err(EntryUnread::Malformed);
     }
     Ok((BigEndian::read_u64(bytes), &bytes[8..]))
 }
 
 #[tactic(auto, unfolding(crate::specs::Fields::number_at, crate::specs::Fields::signed_at))]
-pub(crate) fn i64_at(bytes: &[u8]) -> Result<(i64, &[u8]), Unread>
+pub(crate) fn i64_at(bytes: &[u8]) -> Result<(i64, &[u8]), EntryUnread>
     ensures { Gives (λ x. (x.0, x.1.now)) result (signed_at bytes.now) }
 {
     if bytes.len() < 8 {
-        return Err(Unread::Malformed);
+        return Err(EntryUnread::Malformed);
     }
     Ok((BigEndian::read_i64(bytes), &bytes[8..]))
 }

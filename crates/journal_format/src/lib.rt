@@ -31,11 +31,11 @@ mod page;
 mod reading;
 mod writing;
 
-pub use fault::{JournalFault, Unread};
+pub use fault::{EntryUnread, JournalFault};
 pub use head::{State, newborn_file, state_of};
 pub use laws::{in_order_law, one_list_law, own_law};
 pub use longest::largest_payload;
-pub use opening::{HEAD, Opening, opening_of};
+pub use opening::{HEAD, RecordHead, opening_of};
 pub use page::Page;
 pub use reading::read_payload;
 pub use writing::{payload_len, put_behind_gate};

@@ -10,7 +10,7 @@ pub const HEAD: usize = 5;
 
 /// What stands before the payload of a record.
 #[derive(Clone, Copy, Debug, PartialEq, Eq)]
-pub enum Opening {
+pub enum RecordHead {
     /// No open gate.
     Closed,
     /// An open gate, and fewer bytes than a length has.
@@ -20,12 +20,12 @@ pub enum Opening {
 }
 
 /// What stands at the front of the bytes, which are the first five of a record, or all that there are.
-pub fn opening_of(head: &[u8]) -> Opening
+pub fn opening_of(head: &[u8]) -> RecordHead
     ensures { (rest : List ℕ) → head.now ≡ take HEAD rest → Opens rest result }
 {
     match head {
-        [1, _, _, _, _, ..] => Opening::Payload(BigEndian::read_u32(&head[1..])),
-        [1, ..] => Opening::CutShort,
-        _ => Opening::Closed,
+        [1, _, _, _, _, ..] => RecordHead::Payload(BigEndian::read_u32(&head[1..])),
+        [1, ..] => RecordHead::CutShort,
+        _ => RecordHead::Closed,
     }
 }

@@ -8,7 +8,7 @@ ghost use Rattle.journal_format.specs.Payload.{payload, EntryFits};
 ghost use Rattle.journal_format.specs.Gives.{Gives};
 ghost use Rattle.journal_format.specs.Reading.{part_at, parts_at, proof_at, half_at, split_at, numbers_at, list_at, plan_at, root_entry_at, split_entry_at, plan_entry_at, entry_at, payload_at};
 
-use crate::fault::Unread;
+use crate::fault::EntryUnread;
 use crate::fields::{i64_at, u16_at, u32_at, u64_at};
 use box_space::{Part, Proof, Split};
 use box_tree::Entry;
@@ -18,7 +18,7 @@ use std::alloc::Global;
 // Each of these answers what stands at the front, and the bytes behind it.
 
 #[tactic(auto, unfolding(crate::specs::Reading::part_at))]
-fn part(bytes: &[u8]) -> Result<(Part, &[u8]), Unread>
+fn part(bytes: &[u8]) -> Result<(Part, &[u8]), EntryUnread>
     ensures { Gives (λ x. (shown_part x.0, x.1.now)) result (part_at bytes.now) }
 {
     let (row, rest) = u32_at(bytes)?;
@@ -26,7 +26,7 @@ fn part(bytes: &[u8]) -> Result<(Part, &[u8]), Unread>
     Ok((Part { row, mult }, rest))
 }
 
-fn parts(alloc: Global, count: u32, bytes: &[u8]) -> Result<(Vec<Part>, &[u8]), Unread>
+fn parts(alloc: Global, count: u32, bytes: &[u8]) -> Result<(Vec<Part>, &[u8]), EntryUnread>
     ensures { Gives (λ x. (map shown_part x.0.items, x.1.now)) result (parts_at count bytes.now) }
 {
     let mut parts = Vec::new(alloc);
@@ -40,7 +40,7 @@ fn parts(alloc: Global, count: u32, bytes: &[u8]) -> Result<(Vec<Part>, &[u8]), 
 }
 
 #[tactic(auto, unfolding(crate::specs::Reading::proof_at))]
-fn proof(alloc: Global, bytes: &[u8]) -> Result<(Proof, &[u8]), Unread>
+fn proof(alloc: Global, bytes: &[u8]) -> Result<(Proof, &[u8]), EntryUnread>
     ensures { Gives (λ x. (shown_proof x.0, x.1.now)) result (proof_at bytes.now) }
 {
     let (scale, rest) = u64_at(bytes)?;
@@ -50,7 +50,7 @@ fn proof(alloc: Global, bytes: &[u8]) -> Result<(Proof, &[u8]), Unread>
 }
 
 #[tactic(auto, unfolding(crate::specs::Reading::half_at))]
-fn half(alloc: Global, bytes: &[u8]) -> Result<(Option<Proof>, &[u8]), Unread>
+fn half(alloc: Global, bytes: &[u8]) -> Result<(Option<Proof>, &[u8]), EntryUnread>
     ensures { Gives (λ x. (option_map shown_proof x.0, x.1.now)) result (half_at bytes.now) }
 {
     match bytes {
@@ -59,12 +59,12 @@ fn half(alloc: Global, bytes: &[u8]) -> Result<(Option<Proof>, &[u8]), Unread>
             let (proof, rest) = proof(alloc, rest)?;
             Ok((Some(proof), rest))
         }
-        _ => Err(Unread::Malformed),
+        _ => Err(EntryUnread::Malformed),
     }
 }
 
 #[tactic(auto, unfolding(crate::specs::Reading::split_at))]
-fn split(bytes: &[u8]) -> Result<(Split, &[u8]), Unread>
+fn split(bytes: &[u8]) -> Result<(Split, &[u8]), EntryUnread>
     ensures { Gives (λ x. (shown_split x.0, x.1.now)) result (split_at bytes.now) }
 {
     let (leaf, rest) = u16_at(bytes)?;
@@ -74,7 +74,7 @@ fn split(bytes: &[u8]) -> Result<(Split, &[u8]), Unread>
     Ok((Split { leaf, coord, cut }, rest))
 }
 
-fn u32s(alloc: Global, count: u16, bytes: &[u8]) -> Result<(Vec<u32>, &[u8]), Unread>
+fn u32s(alloc: Global, count: u16, bytes: &[u8]) -> Result<(Vec<u32>, &[u8]), EntryUnread>
     ensures { Gives (λ x. (x.0.items, x.1.now)) result (numbers_at 4 count bytes.now) }
 {
     let mut numbers = Vec::new(alloc);
@@ -87,7 +87,7 @@ fn u32s(alloc: Global, count: u16, bytes: &[u8]) -> Result<(Vec<u32>, &[u8]), Un
     Ok((numbers, rest))
 }
 
-fn u64s(alloc: Global, count: u16, bytes: &[u8]) -> Result<(Vec<u64>, &[u8]), Unread>
+fn u64s(alloc: Global, count: u16, bytes: &[u8]) -> Result<(Vec<u64>, &[u8]), EntryUnread>
     ensures { Gives (λ x. (x.0.items, x.1.now)) result (numbers_at 8 count bytes.now) }
 {
     let mut numbers = Vec::new(alloc);
@@ -101,7 +101,7 @@ fn u64s(alloc: Global, count: u16, bytes: &[u8]) -> Result<(Vec<u64>, &[u8]), Un
 }
 
 #[tactic(auto, unfolding(crate::specs::Reading::list_at))]
-fn weights(alloc: Global, bytes: &[u8]) -> Result<(Vec<u32>, &[u8]), Unread>
+fn weights(alloc: Global, bytes: &[u8]) -> Result<(Vec<u32>, &[u8]), EntryUnread>
     ensures { Gives (λ x. (x.0.items, x.1.now)) result (list_at 4 bytes.now) }
 {
     let (count, rest) = u16_at(bytes)?;
@@ -109,7 +109,7 @@ fn weights(alloc: Global, bytes: &[u8]) -> Result<(Vec<u32>, &[u8]), Unread>
 }
 
 #[tactic(auto, unfolding(crate::specs::Reading::list_at))]
-fn flows(alloc: Global, bytes: &[u8]) -> Result<(Vec<u64>, &[u8]), Unread>
+fn flows(alloc: Global, bytes: &[u8]) -> Result<(Vec<u64>, &[u8]), EntryUnread>
     ensures { Gives (λ x. (x.0.items, x.1.now)) result (list_at 8 bytes.now) }
 {
     let (count, rest) = u16_at(bytes)?;
@@ -117,7 +117,7 @@ fn flows(alloc: Global, bytes: &[u8]) -> Result<(Vec<u64>, &[u8]), Unread>
 }
 
 #[tactic(auto, unfolding(crate::specs::Reading::plan_at))]
-fn plan(alloc: Global, bytes: &[u8]) -> Result<(WrittenPlan, &[u8]), Unread>
+fn plan(alloc: Global, bytes: &[u8]) -> Result<(WrittenPlan, &[u8]), EntryUnread>
     ensures { Gives (λ x. (shown_plan x.0, x.1.now)) result (plan_at bytes.now) }
 {
     let (base, rest) = u32_at(bytes)?;
@@ -136,7 +136,7 @@ fn plan(alloc: Global, bytes: &[u8]) -> Result<(WrittenPlan, &[u8]), Unread>
 }
 
 #[tactic(auto, unfolding(crate::specs::Reading::split_entry_at))]
-fn split_entry(alloc: Global, bytes: &[u8]) -> Result<(Entry, &[u8]), Unread>
+fn split_entry(alloc: Global, bytes: &[u8]) -> Result<(Entry, &[u8]), EntryUnread>
     ensures { Gives (λ x. (shown_entry x.0, x.1.now)) result (split_entry_at bytes.now) }
 {
     let (split, rest) = split(bytes)?;
@@ -146,7 +146,7 @@ fn split_entry(alloc: Global, bytes: &[u8]) -> Result<(Entry, &[u8]), Unread>
 }
 
 #[tactic(auto, unfolding(crate::specs::Reading::entry_at, crate::specs::Reading::root_entry_at, crate::specs::Reading::plan_entry_at))]
-fn entry(alloc: Global, bytes: &[u8]) -> Result<(Entry, &[u8]), Unread>
+fn entry(alloc: Global, bytes: &[u8]) -> Result<(Entry, &[u8]), EntryUnread>
     ensures { Gives (λ x. (shown_entry x.0, x.1.now)) result (entry_at bytes.now) }
 {
     match bytes {
@@ -159,12 +159,12 @@ fn entry(alloc: Global, bytes: &[u8]) -> Result<(Entry, &[u8]), Unread>
             let (plan, rest) = plan(alloc, rest)?;
             Ok((Entry::Improve(plan), rest))
         }
-        _ => Err(Unread::Malformed),
+        _ => Err(EntryUnread::Malformed),
     }
 }
 
 /// The entry whose bytes these are, all of them. `Malformed` where they are no entry's.
-pub fn read_payload(alloc: Global, bytes: &[u8]) -> Result<Entry, Unread>
+pub fn read_payload(alloc: Global, bytes: &[u8]) -> Result<Entry, EntryUnread>
     ensures exact { Gives shown_entry result (payload_at bytes.now) }
     ensures spelled { IfOk result (λ e. (bytes.now ≡ payload (shown_entry e)) × EntryFits (shown_entry e)) }
 {
@@ -172,13 +172,13 @@ pub fn read_payload(alloc: Global, bytes: &[u8]) -> Result<Entry, Unread>
 }
 
 #[tactic(auto, unfolding(crate::specs::Reading::payload_at))]
-fn whole(alloc: Global, bytes: &[u8]) -> Result<Entry, Unread>
+fn whole(alloc: Global, bytes: &[u8]) -> Result<Entry, EntryUnread>
     ensures { Gives shown_entry result (payload_at bytes.now) }
 {
     let (entry, rest) = entry(alloc, bytes)?;
     if rest.is_empty() {
         Ok(entry)
     } else {
-        Err(Unread::Malformed)
+        Err(EntryUnread::Malformed)
     }
 }

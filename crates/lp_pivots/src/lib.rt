@@ -8,7 +8,7 @@
 //!
 //! | Modules | What they do |
 //! |---|---|
-//! | `simplex`, `basis`, `sums` | the state: who is basic, and sums that follow each change exactly |
+//! | `simplex` | a program with the state on it, which is that of `lp_state` |
 //! | `lists` | the basis from a list of numbers, and as one |
 //! | `passes` | the loop, which counts its passes |
 //! | `refactor`, `residual`, `bound` | new factors; duals and values brought to rest; the best bound so far |
@@ -20,7 +20,6 @@
 //! units of the program, is left to `lp_simplex`.
 #![tactic(auto)]
 
-mod basis;
 mod bound;
 mod lists;
 mod passes;
@@ -32,6 +31,5 @@ mod residual;
 mod simplex;
 mod stall;
 mod step;
-mod sums;
 
 pub use simplex::{End, Simplex};

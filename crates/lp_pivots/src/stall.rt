@@ -4,10 +4,11 @@
 //! are alike goes back to A. Charnes (Optimality and degeneracy in linear programming, 1952) and P. Wolfe (A technique for
 //! resolving degeneracy in linear programming, 1963). The program that is solved in the end is the one with its own costs.
 
-use crate::simplex::{NO_BOUND, Simplex};
+use crate::simplex::Simplex;
 use lp_factors::Column;
 use lp_sparse::fixed::product;
 use lp_sparse::lookup::at;
+use lp_state::NO_BOUND;
 
 /// Pivots without gain, beyond the size of the kernel, after which the costs are moved.
 const STALL: usize = 100;

@@ -3,7 +3,7 @@
 //! A variable is its low end plus a power of two times a value from 0 to at most 1; each row and all costs together are
 //! brought to numbers of at most 1. Then one tolerance serves all.
 
-use crate::scaling::{Merged, RowRange, Widths, range_of};
+use crate::scaling::{Merged, RowOnBox, Widths, range_of};
 use linear_program::{Lp, LpRow, Term};
 use lp_sparse::fixed::{COEF_BITS, DUAL_BITS, VALUE_BITS, bit_length, clamped, rounded, shifted};
 use lp_sparse::lookup::at;
@@ -66,16 +66,16 @@ pub fn scale(alloc: Global, lp: &Lp) -> Result<Scaled, AllocError> {
     for (place, row) in lp.rows.iter().enumerate() {
         merged.read(row, &widths)?;
         match range_of(lp, row, merged.terms(), &widths) {
-            RowRange::Below => return Ok(Scaled::NoPoint {
+            RowOnBox::Below => return Ok(Scaled::NoPoint {
                 row: place,
                 sign: 1,
             }),
-            RowRange::Above => return Ok(Scaled::NoPoint {
+            RowOnBox::Above => return Ok(Scaled::NoPoint {
                 row: place,
                 sign: -1,
             }),
-            RowRange::Idle => program.add_idle_row(row)?,
-            RowRange::Open { at_low } => {
+            RowOnBox::Idle => program.add_idle_row(row)?,
+            RowOnBox::Open { at_low } => {
                 program.add_row(row, merged.terms(), at_low, &widths)?;
             }
         }

@@ -92,7 +92,7 @@ impl Merged {
 
 /// What a row does on the box.
 #[derive(Clone, Copy)]
-pub enum RowRange {
+pub enum RowOnBox {
     /// Its activity is below 0 at every point.
     Below,
     /// It has to be 0, and is above 0 at every point.
@@ -104,7 +104,7 @@ pub enum RowRange {
 }
 
 /// What a row does on the box, given its terms as `Merged` has them.
-pub fn range_of(lp: &Lp, row: &LpRow, terms: &[Term], widths: &Widths) -> RowRange {
+pub fn range_of(lp: &Lp, row: &LpRow, terms: &[Term], widths: &Widths) -> RowOnBox {
     let mut at_low = row.constant;
     for term in row.terms.iter() {
         let low = at(&lp.low, term.var as usize, 0);
@@ -121,12 +121,12 @@ pub fn range_of(lp: &Lp, row: &LpRow, terms: &[Term], widths: &Widths) -> RowRan
         }
     }
     if greatest < 0 {
-        RowRange::Below
+        RowOnBox::Below
     } else if row.equal && least > 0 {
-        RowRange::Above
+        RowOnBox::Above
     } else if (!row.equal && least >= 0) || (least == 0 && greatest == 0) {
-        RowRange::Idle
+        RowOnBox::Idle
     } else {
-        RowRange::Open { at_low }
+        RowOnBox::Open { at_low }
     }
 }

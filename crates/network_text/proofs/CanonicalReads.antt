@@ -112,17 +112,17 @@ data_if None = None
 data_if (Some q) = Some (quantity_data q)
 
 -- under each name stands its quantity, if it is set
-abbrev Holds : Members → List (List ℕ) → List (Option ℤ) → Type 0
-Holds ms [] [] = Unit {0}
-Holds ms [] (q ∷ qs) = ⊥
-Holds ms (n ∷ ns) [] = ⊥
-Holds ms (n ∷ ns) (q ∷ qs) = (get_member n ms ≡ data_if q) × Holds ms ns qs
+abbrev HoldsMembers : Members → List (List ℕ) → List (Option ℤ) → Type 0
+HoldsMembers ms [] [] = Unit {0}
+HoldsMembers ms [] (q ∷ qs) = ⊥
+HoldsMembers ms (n ∷ ns) [] = ⊥
+HoldsMembers ms (n ∷ ns) (q ∷ qs) = (get_member n ms ≡ data_if q) × HoldsMembers ms ns qs
 
 get_other : (m n : List ℕ) (q : Option ℤ) (ms : Members) → m ≢ n → get_member m (set_at n q ms) ≡ get_member m ms
 get_other m n None ms apart = refl
 get_other m n (Some q) ms apart = get_member-put_other m n (quantity_data q) ms apart
 
-holds_set : (n : List ℕ) (o : Option ℤ) (ms : Members) (ns : List (List ℕ)) (qs : List (Option ℤ)) → AllByRecursion (λ m. m ≢ n) ns → Holds ms ns qs → Holds (set_at n o ms) ns qs
+holds_set : (n : List ℕ) (o : Option ℤ) (ms : Members) (ns : List (List ℕ)) (qs : List (Option ℤ)) → AllByRecursion (λ m. m ≢ n) ns → HoldsMembers ms ns qs → HoldsMembers (set_at n o ms) ns qs
 holds_set n o ms [] [] apart h = tt
 holds_set n o ms [] (q ∷ qs) apart h = h
 holds_set n o ms (m ∷ ns) [] apart h = h
@@ -141,7 +141,7 @@ get_set : (n : List ℕ) (q : Option ℤ) (ms : Members) → get_member n ms ≡
 get_set n None ms h = h
 get_set n (Some q) ms h = get_member-put n (quantity_data q) ms
 
-holds : (ns : List (List ℕ)) (qs : List (Option ℤ)) → AreDistinct ns → length qs ≡ length ns → Holds (set_members ns qs) ns qs
+holds : (ns : List (List ℕ)) (qs : List (Option ℤ)) → AreDistinct ns → length qs ≡ length ns → HoldsMembers (set_members ns qs) ns qs
 holds [] [] distinct len = tt
 holds [] (q ∷ qs) distinct len = absurd (omega arith)
 holds (n ∷ ns) [] distinct len = absurd (omega arith)
@@ -157,7 +157,7 @@ unfolding limit
 limit_there at None o e h = rw e refl
 limit_there at (Some q) o e h = rw (e, h at) refl
 
-each_limit : (at : Place) (ms : Members) (i : ℕ) (ns : List (List ℕ)) (qs : List (Option ℤ)) → Holds ms ns qs
+each_limit : (at : Place) (ms : Members) (i : ℕ) (ns : List (List ℕ)) (qs : List (Option ℤ)) → HoldsMembers ms ns qs
     → AllByRecursion IsSetRead qs → each (λ n k. allows k None (limit at) (object ms)) i ns ≡ Ok qs
 each_limit at ms i [] [] h are = refl
 each_limit at ms i [] (q ∷ qs) h are = absurd h
@@ -171,12 +171,12 @@ limits_read at ns qs distinct len are =
     = set_known (λ k. is_among [] k || is_among ns k) ns qs (list_all_weaker (is_among ns) (λ k. is_among [] k || is_among ns k) ns (λ k h. h) (all_among ns)) in
     rw known (each_limit at (set_members ns qs) 0 ns qs (holds ns qs distinct len) are)
 
-all_there : (ms : Members) (ns : List (List ℕ)) (qs : List ℤ) → Holds ms ns (map Some qs) → list_all (λ k. is_some (get k (object ms))) ns ≡ true
+all_there : (ms : Members) (ns : List (List ℕ)) (qs : List ℤ) → HoldsMembers ms ns (map Some qs) → list_all (λ k. is_some (get k (object ms))) ns ≡ true
 all_there ms [] qs h = refl
 all_there ms (n ∷ ns) [] h = absurd h
 all_there ms (n ∷ ns) (q ∷ qs) h = rw h.0 (all_there ms ns qs h.1)
 
-each_quality : (at : Place) (ms : Members) (i : ℕ) (ns : List (List ℕ)) (qs : List ℤ) → Holds ms ns (map Some qs)
+each_quality : (at : Place) (ms : Members) (i : ℕ) (ns : List (List ℕ)) (qs : List ℤ) → HoldsMembers ms ns (map Some qs)
     → AllByRecursion IsRead qs → each (λ n k. needs at k (quantity at) (object ms)) i ns ≡ Ok qs
 unfolding present
 each_quality at ms i [] [] h are = refl

@@ -7,7 +7,7 @@ use Rattle.row_model.specs.Entries.{Entry}
 use Rattle.disk_calls.specs.Disks.{DiskTold, written}
 use Rattle.disk_calls.proofs.Calling.{written-behind}
 use Rattle.journal_format.specs.Fields.{field}
-use Rattle.journal_format.specs.Files.{header, newborn, records, IsRecordable, IsShut, IsClosed, IsUnborn, Holds, IsKept}
+use Rattle.journal_format.specs.Files.{header, newborn, records, IsRecordable, IsShut, IsClosed, IsUnborn, HoldsEntries, IsKept}
 use Rattle.journal_format.specs.Faults.{IsAllowed, IsFree, Has}
 use Rattle.journal_format.specs.Records.{IsKeptAt, IsHeaded, AreRecordsAt, IsBadBehind}
 use Rattle.node_journal.specs.Settled.{IsOnDisk}
@@ -70,7 +70,7 @@ module _ (text : List ℕ) (start largest : ℕ) (file : List ℕ) (headed : IsH
   parts_of : (list : List Entry) (gate : ℕ) → AreRecordsAt largest start file list gate → file ≡ header 1 text ++ (records list ++ drop gate file)
   parts_of list gate recs = headed.parts ∙ ap (λ (l : List ℕ). header 1 text ++ l) recs.parts
 
-  holds_of : (list : List Entry) (gate : ℕ) → AreRecordsAt largest start file list gate → Holds text list (drop gate file) file
+  holds_of : (list : List Entry) (gate : ℕ) → AreRecordsAt largest start file list gate → HoldsEntries text list (drop gate file) file
   holds_of list gate recs = record { parts = parts_of list gate recs; each = all-recordable largest list recs.allowed }
 
   pub recovered : (list : List Entry) (gate : ℕ) (now : List ℕ) (d : DiskTold) → AreRecordsAt largest start file list gate → IsClosed (drop gate file)

@@ -1,7 +1,7 @@
 -- Runs of calls of a disk, from call to call.
 use Rattle.std.proofs.Common.{◌≡◌, ℕ, ◌≤◌, List, [], ◌∷◌, length, take, drop, Option, Some, None, refl, sym, subst, ◌∙◌, arith}
 use Rattle.std.specs.Prelude.{IsTrue, IfSome}
-use Rattle.disk_calls.specs.Disks.{DiskTold, IsWithin, GoesOn, IsSameDisk, LeavesNothingNew}
+use Rattle.disk_calls.specs.Disks.{DiskTold, IsWithin, Elapses, IsSameDisk, LeavesNothingNew}
 use Rattle.node_journal.specs.Settled.{IsOnDisk, IsSettled, IsQuiet}
 use Rattle.disk_calls.proofs.Moments.{started, goes_further, leaves-weaker, now-has, goes_on-kept}
 
@@ -20,7 +20,7 @@ pub quiet-start : (d : DiskTold) → IsQuiet d d
 quiet-start d = started d d.may_leave (λ c now. now)
 
 -- a call that brings no new image
-pub quiet-call : (old new : DiskTold) → GoesOn old new → LeavesNothingNew old new → IsQuiet old new
+pub quiet-call : (old new : DiskTold) → Elapses old new → LeavesNothingNew old new → IsQuiet old new
 quiet-call old new call crash = goes_on-kept old old new old.may_leave (quiet-start old) call crash
 
 -- one such run after another
@@ -32,4 +32,4 @@ pub still : (old new : DiskTold) (file : List ℕ) → new.reads ≡ old.reads �
 still old new file same run d = record { read = same ∙ d.read; only = λ c now. d.only c (now-has old new old.may_leave run c now) }
 
 pub still_settled : (old new : DiskTold) → IsSameDisk old new → new.reads ≡ old.reads → IsQuiet old new → (IsTrue old.tells → IsSettled old) → IsTrue new.tells → IsSettled new
-still_settled old new one same run settled tells = let was = settled (subst IsTrue one.same_telling tells) in (was.0, still old new was.0 same run was.1)
+still_settled old new one same run settled tells = let was = settled (subst IsTrue one.device.same_telling tells) in (was.0, still old new was.0 same run was.1)

@@ -14,7 +14,7 @@ ghost use Rattle.node_journal.specs.Settled.{IsQuiet};
 use crate::synced::read_back;
 use box_tree::Entry;
 use disk_calls::{Disk, DiskFailed};
-use journal_format::{HEAD, JournalFault, Opening, Unread, opening_of, read_payload};
+use journal_format::{EntryUnread, HEAD, JournalFault, RecordHead, opening_of, read_payload};
 use std::alloc::Global;
 
 /// The entries of the records from a place on, up to the first gate that is not open, and the place of that gate. `room` has the
@@ -80,9 +80,9 @@ fn next_record<D: Disk>(
     ensures failed { IsErrOf result JournalFault.Disk → Rose (D.told disk.old).faults (D.told disk.new).faults }
 {
     match opening_at(disk, at, end)? {
-        Opening::Closed => Ok(None),
-        Opening::CutShort => Err(JournalFault::BadRecord(number)),
-        Opening::Payload(size) => {
+        RecordHead::Closed => Ok(None),
+        RecordHead::CutShort => Err(JournalFault::BadRecord(number)),
+        RecordHead::Payload(size) => {
             let record = open_record(alloc, disk, at, end, number, size, room)?;
             Ok(Some(record))
         }
@@ -90,7 +90,7 @@ fn next_record<D: Disk>(
 }
 
 /// What stands before the payload of the record at a place.
-fn opening_at<D: Disk>(disk: &mut D, at: u64, end: u64) -> Result<Opening, DiskFailed>
+fn opening_at<D: Disk>(disk: &mut D, at: u64, end: u64) -> Result<RecordHead, DiskFailed>
     requires within { at ≤ end }
     requires short { end ≤ 2 ^ 62 }
     requires known { Reaches (D.told disk.old) end }
@@ -111,7 +111,7 @@ fn opening_in<D: Disk>(
     at: u64,
     end: u64,
     head: &mut [u8],
-) -> Result<Opening, DiskFailed>
+) -> Result<RecordHead, DiskFailed>
     requires within { at ≤ end }
     requires size { length head.old ≡ min (end - at) HEAD }
     requires known { Reaches (D.told disk.old) end }
@@ -138,7 +138,7 @@ fn open_record<D: Disk>(
     requires within { at ≤ end }
     requires short { end ≤ 2 ^ 62 }
     requires known { Reaches (D.told disk.old) end }
-    ensures read { (file : List ℕ) → (D.told disk.old).reads ≡ Some file → end ≡ length file → Opens (drop at file) (Opening.Payload size) →
+    ensures read { (file : List ℕ) → (D.told disk.old).reads ≡ Some file → end ≡ length file → Opens (drop at file) (RecordHead.Payload size) →
         MatchResult result (λ x. IsRecordAt (length room.old) at file (shown_entry x.0) x.1) (FailsAt (length room.old) number (drop at file)) }
     ensures reached { IfOk result (λ x. (at < x.1) × (x.1 ≤ end)) }
     ensures same { OnOk result ((D.told disk.new).reads ≡ (D.told disk.old).reads) }
@@ -179,7 +179,7 @@ fn entry_at<D: Disk>(
     read_back(disk, at, room)?;
     match read_payload(alloc, room) {
         Ok(entry) => Ok(Some(entry)),
-        Err(Unread::Malformed) => Ok(None),
-        Err(Unread::Memory) => Err(JournalFault::Memory),
+        Err(EntryUnread::Malformed) => Ok(None),
+        Err(EntryUnread::Memory) => Err(JournalFault::Memory),
     }
 }

@@ -1,18 +1,20 @@
 //! In which order plans near a point are tried.
 //!
 //! First the flows of least cost at the point's own proportions. Then steps from the point's own flows, of three radii. Then
-//! steps from the best plan so far, of a radius that doubles where a step gains and shrinks where none does. Last, the
-//! exact vertex at the best plan's proportions.
+//! steps from the best plan so far, of a radius that doubles where a step gains and shrinks where none does, as long as a step's
+//! program takes some plan to be cheaper. Last, the exact vertex at the best plan's proportions, and at the nearest ones of a
+//! small base.
 //!
 //! Steps go from plans that this search found, and never from the caller's best plan. So who asks again about the same
 //! point, with what he was answered for his best plan, is told nothing new. The caller's best plan only ends a search early,
-//! before the steps from a plan: where the first step's program takes no plan near the point to be cheaper.
+//! before a step from a plan: where the last step's program takes no plan near it to be cheaper, or where the plan is a little above
+//! the caller's, on the same hill as that.
 
 use crate::solving::solve;
 use blend_network::Network;
 use flow_programs::{
-    Blend, Flows, GRAIN, Layout, Outline, Place, Reach, Stepped, Vertex, flow_program, flows_of,
-    rounded, step_end, step_program, vertex_of,
+    ArcFlows, Blend, GRAIN, Layout, Outline, Outlook, Place, Proportions, Reach, Stepped, Vertex,
+    flow_program, flows_of, rounded, small_parts, step_end, step_program, vertex_of,
 };
 use lp_sparse::lookup::{at, put};
 use plan_core::{Cost, WrittenPlan, check_plan, compare_cost};
@@ -61,7 +63,13 @@ const STEPS: u32 = 20;
 /// What a step from a plan has to gain: a millionth of money, in picos over the grain.
 const LEAST_GAIN: i128 = 1_048_576_000_000;
 
-/// The part of the limit by which a plan may be dearer and still be gone on from, where the first step's program is against
+/// The part of a plan's cost that a step's program has to gain, for shorter steps to be tried.
+const LEAST_PART: i128 = 4_194_304;
+
+/// The part of the limit by which a plan may be dearer and still be on the hill of the caller's best plan: steps from it lead there again.
+const SAME_HILL: i128 = 65_536;
+
+/// The part of the limit by which a plan may be dearer and still be gone on from, where the last step's program is against
 /// it.
 const NEAR_LIMIT: i128 = 200;
 
@@ -95,7 +103,7 @@ pub struct Search<'a> {
     best: Option<Found>,
     /// What the best plan of the caller costs, in picos over the grain.
     limit: Option<i128>,
-    /// What the first step's program takes plans near the point to cost, in picos over the grain.
+    /// What the program of the first step takes plans to cost, or that of the last radius from a plan, in picos over the grain.
     outlook: Option<i128>,
 }
 
@@ -124,10 +132,11 @@ impl<'a> Search<'a> {
     pub fn run(&mut self, alloc: Global, point: &[i128]) -> Result<(), AllocError> {
         let start = Start::new(alloc, self.outline, point)?;
         self.from_point(alloc, &start)?;
-        if self.is_promising() {
-            self.from_plan(alloc)?;
+        self.from_plan(alloc)?;
+        if self.is_near() {
+            self.exact(alloc)?;
         }
-        self.exact(alloc)
+        Ok(())
     }
 
     /// The cheapest plan that was found.
@@ -140,43 +149,58 @@ impl<'a> Search<'a> {
         self.at_parts(alloc, Vec::from_slice(alloc, &start.parts)?)?;
         let first = self.cost();
         for reach in FROM_POINT {
+            if self.is_on_the_hill() {
+                break;
+            }
             if reach.radius != MIDDLE || self.cost() >= first {
-                self.after_step(alloc, start, reach)?;
+                let _outlook = self.after_step(alloc, start, reach)?;
             }
         }
         Ok(())
     }
 
-    /// Steps from the best plan, as long as they gain or can be shorter.
+    /// Steps from the best plan, as long as they gain or can be shorter, and may lead below the limit.
     fn from_plan(&mut self, alloc: Global) -> Result<(), AllocError> {
         let mut radius = FIRST_RADIUS;
         for step in 0..STEPS {
             let _ = step;
-            if self.gains(alloc, radius)? {
-                radius = radius.wrapping_mul(2).min(GRAIN);
-            } else {
-                radius /= 4;
-            }
-            if radius < LEAST_RADIUS {
+            if radius < LEAST_RADIUS || self.is_on_the_hill() || !self.is_promising() {
                 break;
             }
+            radius = match self.start(alloc)? {
+                None => 0,
+                Some(start) => self.next_radius(alloc, &start, radius)?,
+            };
         }
         Ok(())
     }
 
-    /// Whether a step of this radius from the best plan gains, with no margin or else with one.
-    fn gains(&mut self, alloc: Global, radius: i128) -> Result<bool, AllocError> {
-        let least = self.cost().wrapping_sub(LEAST_GAIN);
-        match self.start(alloc)? {
-            None => Ok(false),
-            Some(start) => {
-                self.after_step(alloc, &start, Reach { radius, margin: 0 })?;
-                if self.cost() >= least {
-                    self.after_step(alloc, &start, Reach { radius, margin: 1 })?;
+    /// Steps of a radius from the best plan, with no margin or else with one. The next radius: twice as much where one gained, a quarter of
+    /// how far they went where none did, and 0 where the first one's program takes no plan to be cheaper.
+    fn next_radius(
+        &mut self,
+        alloc: Global,
+        start: &Start,
+        radius: i128,
+    ) -> Result<i128, AllocError> {
+        let cost = self.cost();
+        let hoped = cost.wrapping_sub(cost.wrapping_abs() / LEAST_PART);
+        let mut length = 0;
+        for margin in [0, 1] {
+            if let Some(outlook) = self.after_step(alloc, start, Reach { radius, margin })? {
+                if margin == 0 {
+                    self.outlook = Some(outlook.cost);
                 }
-                Ok(self.cost() < least)
+                if self.cost() < cost.wrapping_sub(LEAST_GAIN) {
+                    return Ok(radius.wrapping_mul(2).min(GRAIN));
+                }
+                if margin == 0 && outlook.cost > hoped {
+                    return Ok(0);
+                }
+                length = outlook.length.max(length);
             }
         }
+        Ok(length.min(radius) / 4)
     }
 
     /// The proportions and the outflows of the best plan.
@@ -195,17 +219,24 @@ impl<'a> Search<'a> {
         self.best.as_ref().map_or(i128::MAX, |found| found.cost.num)
     }
 
-    /// The plan at the proportions to which a step leads.
-    fn after_step(&mut self, alloc: Global, start: &Start, reach: Reach) -> Result<(), AllocError> {
+    /// The plan at the proportions to which a step leads. How the step's program sees it, where it has a point.
+    fn after_step(
+        &mut self,
+        alloc: Global,
+        start: &Start,
+        reach: Reach,
+    ) -> Result<Option<Outlook>, AllocError> {
         let place = Place {
             parts: &start.parts,
             outflows: &start.outflows,
         };
         match self.step(alloc, place, reach)? {
-            None => Ok(()),
+            None => Ok(None),
             Some(stepped) => {
-                self.outlook = self.outlook.or(Some(stepped.cost));
-                self.at_parts(alloc, stepped.parts)
+                let Stepped { parts, outlook } = stepped;
+                self.outlook = self.outlook.or(Some(outlook.cost));
+                self.at_parts(alloc, parts)?;
+                Ok(Some(outlook))
             }
         }
     }
@@ -228,8 +259,8 @@ impl<'a> Search<'a> {
         }
     }
 
-    /// Whether steps from the best plan may lead below the limit: the first step's program says so, or the plan is no dearer
-    /// than the limit by more than a part of it.
+    /// Whether steps from the best plan may lead below the limit: a step's program says so, or the plan is no dearer than the limit by
+    /// more than a part of it.
     fn is_promising(&self) -> bool {
         match (self.limit, self.outlook) {
             (Some(limit), Some(outlook)) => {
@@ -240,11 +271,26 @@ impl<'a> Search<'a> {
         }
     }
 
+    /// Whether the best plan is on the hill of the caller's: no cheaper, and dearer by a small part of the limit at the most.
+    fn is_on_the_hill(&self) -> bool {
+        self.is_near() && self.limit.is_some_and(|limit| self.cost() >= limit)
+    }
+
+    /// Whether the best plan is cheaper than the limit, or dearer by a small part of it at the most.
+    fn is_near(&self) -> bool {
+        match self.limit {
+            None => true,
+            Some(limit) => { self.cost().saturating_sub(limit) < limit.wrapping_abs() / SAME_HILL }
+        }
+    }
+
     /// The plan of least cost at these proportions, mended.
     fn at_parts(&mut self, alloc: Global, parts: Vec<u32>) -> Result<(), AllocError> {
-        if let Some(flows) = self.mended_flows(alloc, &parts)? {
+        let proportions = Proportions::over_grain(&parts);
+        let base = proportions.base;
+        if let Some(flows) = self.mended_flows(alloc, proportions)? {
             self.keep(WrittenPlan {
-                base: 1_048_576,
+                base,
                 flow_base: 1,
                 weights: parts,
                 outflows: flows.outs,
@@ -254,15 +300,19 @@ impl<'a> Search<'a> {
         Ok(())
     }
 
-    fn mended_flows(&mut self, alloc: Global, parts: &[u32]) -> Result<Option<Flows>, AllocError> {
-        let blend = Blend::new(alloc, self.outline, parts)?;
+    fn mended_flows(
+        &mut self,
+        alloc: Global,
+        proportions: Proportions<'_>,
+    ) -> Result<Option<ArcFlows>, AllocError> {
+        let blend = Blend::new(alloc, self.outline, proportions)?;
         let mut program = flow_program(alloc, self.outline, &blend)?;
         match solve(alloc, &mut program, &mut self.bases.flows)? {
             None => Ok(None),
             Some(advice) => {
                 let outs = self.outline.arcs.outs.len();
                 let directs = self.outline.arcs.directs.len();
-                let mut flows = Flows {
+                let mut flows = ArcFlows {
                     outs: flows_of(alloc, &advice.point, 0, outs)?,
                     directs: flows_of(alloc, &advice.point, outs, directs)?,
                 };
@@ -272,24 +322,42 @@ impl<'a> Search<'a> {
         }
     }
 
-    /// The plan at the vertex of the flows at the best plan's proportions, if it can be had.
+    /// The plans at the vertex of the flows at the best plan's proportions, over the grain and over a small base, where they can be had.
     fn exact(&mut self, alloc: Global) -> Result<(), AllocError> {
         if let Some(start) = self.start(alloc)? {
-            if let Some(vertex) = self.exact_flows(alloc, &start.parts)? {
-                self.keep(WrittenPlan {
-                    base: 1_048_576,
-                    flow_base: vertex.base,
-                    weights: start.parts,
-                    outflows: vertex.outflows,
-                    direct: vertex.directs,
-                });
+            let small = small_parts(alloc, &start.parts)?;
+            self.at_vertex(alloc, 1_048_576, start.parts)?;
+            if let Some(small) = small {
+                self.at_vertex(alloc, small.base, small.parts)?;
             }
         }
         Ok(())
     }
 
-    fn exact_flows(&mut self, alloc: Global, parts: &[u32]) -> Result<Option<Vertex>, AllocError> {
-        let blend = Blend::new(alloc, self.outline, parts)?;
+    /// The plan at the vertex of the flows at these proportions, if it can be had.
+    fn at_vertex(&mut self, alloc: Global, base: u32, parts: Vec<u32>) -> Result<(), AllocError> {
+        let proportions = Proportions {
+            base,
+            parts: &parts,
+        };
+        if let Some(vertex) = self.exact_flows(alloc, proportions)? {
+            self.keep(WrittenPlan {
+                base,
+                flow_base: vertex.base,
+                weights: parts,
+                outflows: vertex.outflows,
+                direct: vertex.directs,
+            });
+        }
+        Ok(())
+    }
+
+    fn exact_flows(
+        &mut self,
+        alloc: Global,
+        proportions: Proportions<'_>,
+    ) -> Result<Option<Vertex>, AllocError> {
+        let blend = Blend::new(alloc, self.outline, proportions)?;
         let program = flow_program(alloc, self.outline, &blend)?;
         let mut short = flow_program(alloc, self.outline, &blend)?;
         match solve(alloc, &mut short, &mut self.bases.flows)? {
@@ -298,23 +366,27 @@ impl<'a> Search<'a> {
         }
     }
 
-    /// Keeps a plan that obeys and is cheaper than the best.
+    /// Keeps a plan that obeys and is better than the best.
     fn keep(&mut self, plan: WrittenPlan) {
         if let Ok(cost) = check_plan(self.net, &plan) {
-            if self.is_cheaper(&cost) {
+            if self.is_better(&plan, &cost) {
                 self.best = Some(Found { plan, cost });
             }
         }
     }
 
-    fn is_cheaper(&self, cost: &Cost) -> bool {
+    /// Whether a plan of this cost is cheaper than the best, or costs as much and has a smaller base.
+    fn is_better(&self, plan: &WrittenPlan, cost: &Cost) -> bool {
         match &self.best {
             None => true,
-            Some(best) => {
-                cost.base > 0
-                    && best.cost.base > 0
-                    && compare_cost(cost, &best.cost) == Ordering::Less
+            Some(best) if cost.base > 0 && best.cost.base > 0 => {
+                match compare_cost(cost, &best.cost) {
+                    Ordering::Less => true,
+                    Ordering::Equal => plan.base < best.plan.base,
+                    Ordering::Greater => false,
+                }
             }
+            Some(_) => false,
         }
     }
 }

@@ -3,6 +3,7 @@ use Rattle.std.specs.Prelude.{◌≡◌, ◌⊎◌, ℕ, List, Option, Some}
 use Rattle.pool_model.specs.Network.{Network, net_of}
 use Rattle.box_space.specs.declared.coordinates.Form.{Form}
 use Rattle.program_text.specs.Programs.{program_text}
+use Rattle.printed_program.specs.Meaning.{IsTheProblem}
 use Rattle.run_status.specs.Reads.{Files, IsRefusedAs, ReadsNone, ReadsSome, ReadsUnder}
 use Rattle.run_status.specs.Took.{IsCutShort, IsNetworkRefused, unread_status}
 use Rattle.pool_cli.specs.declared.formulate.FormulateOutcome.{FormulateOutcome}
@@ -23,6 +24,9 @@ pub record ProgramUnder (files : Option Files) (name : List ℕ) (form : Form) (
   pub network : Network
   pub reads : ReadsUnder files name network
   pub spelled : text ≡ program_text (net_of network) form
+  -- Promise: The numbers that keep the ends, the rows and the products that `formulate` prints are the points of the exact program of the
+  --   network in the asked form, both ways and at the same cost; their flows are the plans that obey, at the same cost
+  pub means : IsTheProblem (net_of network) form text
 
 -- the text that is printed, by the status
 abbrev pub FormulatesAs : Option Files → List ℕ → Form → Status → List ℕ → Type 0
@@ -44,10 +48,10 @@ FormulateEnds files name before after statuses.OutOfMemory = Unit {0}
 FormulateEnds files name before after status = ⊥
 
 -- the program was printed, or the sink failed
-abbrev pub IsWritten : Status → Type 0
-IsWritten statuses.Done = Unit {0}
-IsWritten statuses.WriteFault = Unit {0}
-IsWritten status = ⊥
+abbrev pub IsFormulated : Status → Type 0
+IsFormulated statuses.Done = Unit {0}
+IsFormulated statuses.WriteFault = Unit {0}
+IsFormulated status = ⊥
 
 -- which status comes, by what the told files say, where the run isn't cut short
 pub record FormulateDecided (told : Files) (name : List ℕ) (status : Status) : Type 0 where
@@ -55,4 +59,4 @@ pub record FormulateDecided (told : Files) (name : List ℕ) (status : Status) :
   pub no_network : ReadsNone told name → IsNetworkRefused status ⊎ IsCutShort status
   -- Promise: Where a network is read, `solve` within the budget prints a certificate, over it ends with 4, and `formulate` prints a
   --   program, or shelf, sink or memory failed, or `solve` ended at the journal that the words name
-  pub some_network : ReadsSome (Some told) name → IsWritten status ⊎ IsCutShort status
+  pub some_network : ReadsSome (Some told) name → IsFormulated status ⊎ IsCutShort status

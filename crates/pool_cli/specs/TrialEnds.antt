@@ -9,8 +9,8 @@ use Rattle.cert_checker.specs.Answers.{IsAccepted, verdict_of}
 use Rattle.branching.specs.declared.name.RuleName.TheVariants.{Widest}
 use Rattle.network_maker.specs.Generated.{generated}
 use Rattle.search_run.specs.declared.orders.Orders.{Orders}
-use Rattle.trial_text.specs.Trial.{trial_text}
-use Rattle.trial_text.specs.declared.trial.Trial.{Trial}
+use Rattle.printed_lines.specs.Trial.{trial_text}
+use Rattle.printed_lines.specs.declared.trial.Trial.{Trial}
 use Rattle.run_status.specs.Messages.{code_of}
 use Rattle.solve_command.specs.Solution.{IsSolution}
 use Rattle.pool_cli.specs.declared.trial.TrialOutcome.{TrialOutcome}

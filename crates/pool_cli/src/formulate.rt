@@ -9,6 +9,7 @@ ghost use Rattle.run_status.specs.Took.{Took};
 use blend_network::Network;
 use box_space::Form;
 use edge_io::Sink;
+use printed_program::network_law;
 use program_text::{FormulationFault, write_formulation};
 use run_status::{Status, Unread, network_under};
 use shelf_calls::Shelf;
@@ -72,6 +73,7 @@ fn formulate_network<K: Sink>(
     ensures read { formulate_status result ≢ Status.ReadFault }
     ensures write_fault { formulate_status result ≡ Status.WriteFault → Rose (K.faults out.old) (K.faults out.new) }
 {
+    network_law(net);
     match write_formulation(alloc, net, form, out) {
         Ok(()) => FormulateOutcome::Done,
         Err(FormulationFault::Memory) => FormulateOutcome::Memory,

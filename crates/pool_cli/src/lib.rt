@@ -10,14 +10,18 @@
 //! for each command. What each command promises stands in a file of its own: `specs/FormulateEnds.antt`, `MakeEnds.antt` and
 //! `TrialEnds.antt` here, `SolveEnds.antt` in `solve_command`, `CheckEnds.antt` and `ReportEnds.antt` in `certificate_commands`.
 //!
+//! [`printed_law`] says of two runs, by these clauses alone, that `check` takes what `solve` printed.
+//!
 //! The layer above may use `run`, and of `run_status` the status that it answers: `Status::code` and `write_message`. It brings the real
 //! files and streams. What a file says is left to `network_json`, and the text of a certificate to `cert_format`.
 #![tactic(auto)]
 
 mod command;
 mod formulate;
+mod laws;
 mod make;
 mod trial;
 
 pub use command::run;
+pub use laws::printed_law;
 pub use run_status::{Status, write_message};

@@ -22,11 +22,11 @@ use cert_checker::{Verdict, check};
 use cert_format::{Certificate, write_cert};
 use edge_io::{MemSink, Memory, Sink};
 use network_maker::make_network;
+use printed_lines::{Trial, write_trial};
 use run_status::Status;
 use search_run::Orders;
 use solve_command::{ended_status, solution_of};
 use std::alloc::Global;
-use trial_text::{Trial, write_trial};
 
 /// How `trial` ended.
 #[derive(Debug, Drop)]

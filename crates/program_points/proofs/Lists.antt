@@ -18,7 +18,7 @@ use Rattle.program_points.specs.declared.points.PropPoint.{PropPoint}
 use Rattle.program_points.specs.declared.points.QualPoint.{QualPoint}
 use Rattle.program_points.specs.Views.{shown_prop, shown_qual}
 use Rattle.program_points.specs.Held.{IsHeldOfQ, IsHeldOfPq, IsHeldOfP}
-use Rattle.program_points.specs.Written.{path_flow, quality_of, mixed_of, written_proportions, written_qualities, ArePropsOf, AreQualsOf}
+use Rattle.program_points.specs.Written.{written_path_flow, quality_of, mixed_of, written_proportions, written_qualities, ArePropsOf, AreQualsOf}
 use Rattle.program_points.proofs.SamePoints.{AreEqualProportions, AreEqualQualities, equal-same, point_of_q-equal, point_of_p-equal}
 use Rattle.program_points.proofs.WrittenQ.{written-point_of_q}
 use Rattle.program_points.proofs.WrittenP.{written-point_of_p}
@@ -54,7 +54,7 @@ props-equal n w q h = record {
   };
   prop_base = sym h.prop_base;
   proportion = λ e lt. sym (ap (λ (xs : List ℕ). get_or xs e 0) h.props);
-  path = λ a lt. sym (place q.w.items (path_flow n w) (path_count n) a 0 h.along lt);
+  path = λ a lt. sym (place q.w.items (written_path_flow n w) (path_count n) a 0 h.along lt);
 }
 
 pub props-held : (n : Net) (w : Written) (q : PropPoint) → IsLimited n → IsWritten n w → Obeys n (plan_of n w) → ArePropsOf n w q → IsHeldOfQ n q
@@ -66,7 +66,7 @@ props-held n w q lim written o h = record {
     x = long q.x.items (plan_of n w).feed n.feeds h.x;
     y = long q.y.items (plan_of n w).out n.outs h.y;
     z = long q.z.items (plan_of n w).direct n.directs h.z;
-    w = long q.w.items (path_flow n w) (path_count n) h.along;
+    w = long q.w.items (written_path_flow n w) (path_count n) h.along;
   };
   point = point_of_q-equal n (written_proportions n w) (shown_prop q) lim (props-equal n w q h) (written-point_of_q n w lim written o);
 }

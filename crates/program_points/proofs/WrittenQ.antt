@@ -13,7 +13,7 @@ use Rattle.program_model.specs.Programs.{IsPointOfQ, direct_mix, path_inflow}
 use Rattle.program_model.proofs.Means.{HasQualities, mean_inflow, by_means-blends}
 use Rattle.plan_core.specs.Weighed.{weighed}
 use Rattle.plan_core.proofs.Blends.{outflow-plan_of}
-use Rattle.program_points.specs.Written.{path_flow, written_proportions}
+use Rattle.program_points.specs.Written.{written_path_flow, written_proportions}
 
 -- a pool's mean quality is that of its weights
 pub has_qualities-written : (n : Net) (w : Written) → HasQualities n (plan_of n w) w.base (weighed n w)
@@ -36,9 +36,9 @@ has_qualities-written n w = record {
     last b t q = simp sorted refl
 
 -- what a feed brings goes along its paths
-feeds-written : (n : Net) (w : Written) (e : ℕ) → IsLimited n → e < n.feeds → (plan_of n w).feed e ≡ sum_at (path_feed n) e (path_flow n w) (path_count n)
+feeds-written : (n : Net) (w : Written) (e : ℕ) → IsLimited n → e < n.feeds → (plan_of n w).feed e ≡ sum_at (path_feed n) e (written_path_flow n w) (path_count n)
 feeds-written n w e lim lt =
-    sym (sum_at-same_key (path_feed n) e (path_flow n w) (λ a. weight w e * written_out w (path_out n a)) (path_count n) (λ a la is. ap (λ i. weight w i * written_out w (path_out n a)) is)
+    sym (sum_at-same_key (path_feed n) e (written_path_flow n w) (λ a. weight w e * written_out w (path_out n a)) (path_count n) (λ a la is. ap (λ i. weight w i * written_out w (path_out n a)) is)
     ∙ sum_at-mul (path_feed n) e (weight w e) (λ a. written_out w (path_out n a)) (path_count n)
     ∙ ap (λ z. weight w e * z) (natural_paths_at_feed n (written_out w) e record { each = lim.feed_pools } lt))
 
@@ -50,7 +50,7 @@ mean_inflow-written n w j k lim =
     let quality = λ (e : ℕ). n.source_quality (n.feed_source e) k in
     let of_pair = λ (e o : ℕ). quality e *ℤ (pos (weight w e) *ℤ pos (written_out w o)) in
     let key = λ (a : ℕ). n.out_product (path_out n a) in
-    let along = λ (a : ℕ). quality (path_feed n a) *ℤ pos (path_flow n w a) in
+    let along = λ (a : ℕ). quality (path_feed n a) *ℤ pos (written_path_flow n w a) in
     let d = direct_mix n (plan_of n w) j k in
     ap (λ z. z +ℤ r *ℤ d)
     (int_sum_at-same n.out_product j (λ o. weighed n w (n.out_pool o) k *ℤ pos (w.base * written_out w o)) (λ o. r *ℤ int_sum_at n.feed_pool (n.out_pool o) (λ e. of_pair e o) n.feeds) n.outs

@@ -10,8 +10,8 @@ use Rattle.program_points.specs.declared.points.PropPoint.{PropPoint}
 use Rattle.program_points.specs.declared.points.QualPoint.{QualPoint}
 
 -- along a path flows its feed's weight of what its out carries
-abbrev pub path_flow : Net → Written → ℕ → ℕ
-path_flow n w a = weight w (path_feed n a) * written_out w (path_out n a)
+abbrev pub written_path_flow : Net → Written → ℕ → ℕ
+written_path_flow n w a = weight w (path_feed n a) * written_out w (path_out n a)
 
 -- a pool's quality by its number, and a mixed variable by its own: a pool's quality times its out's flow
 abbrev pub quality_of : Net → Written → ℕ → ℤ
@@ -28,7 +28,7 @@ written_proportions n w = record {
   feed = (plan_of n w).feed;
   out = (plan_of n w).out;
   direct = (plan_of n w).direct;
-  path = path_flow n w;
+  path = written_path_flow n w;
 }
 
 abbrev pub written_qualities : Net → Written → QualityPoint
@@ -50,7 +50,7 @@ pub record ArePropsOf (n : Net) (w : Written) (q : PropPoint) : Type 0 where
   pub x : q.x.items ≡ tabulate (plan_of n w).feed n.feeds
   pub y : q.y.items ≡ tabulate (plan_of n w).out n.outs
   pub z : q.z.items ≡ tabulate (plan_of n w).direct n.directs
-  pub along : q.w.items ≡ tabulate (path_flow n w) (path_count n)
+  pub along : q.w.items ≡ tabulate (written_path_flow n w) (path_count n)
 
 pub record AreQualsOf (n : Net) (w : Written) (q : QualPoint) : Type 0 where
   pub base : q.base ≡ w.flow_base * w.base

@@ -8,7 +8,7 @@ ghost use Rattle.pool_model.specs.Plan.{plan_of, written_outflow};
 ghost use Rattle.row_model.specs.Variables.{path_count};
 ghost use Rattle.plan_core.specs.Faults.{IsShaped};
 ghost use Rattle.plan_core.specs.Views.{shown_plan};
-ghost use Rattle.program_points.specs.Written.{path_flow};
+ghost use Rattle.program_points.specs.Written.{written_path_flow};
 
 use blend_network::{Key, Network};
 use edge_io::Memory;
@@ -91,7 +91,7 @@ pub(crate) fn path_flows(
     plan: &WrittenPlan,
 ) -> Result<Vec<u128>, Memory>
     requires { IsShaped (net_of net.now) (shown_plan plan.now) }
-    ensures { IfOk result (λ v. v.items ≡ tabulate (path_flow (net_of net.now) (shown_plan plan.now)) (path_count (net_of net.now))) }
+    ensures { IfOk result (λ v. v.items ≡ tabulate (written_path_flow (net_of net.now) (shown_plan plan.now)) (path_count (net_of net.now))) }
 {
     let mut flows = Vec::new(alloc);
     for path in 0..net.paths() {
@@ -117,7 +117,7 @@ fn feed_flow(net: &Network, plan: &WrittenPlan, totals: &[u128], feed: u32) -> u
 fn flow_along(net: &Network, plan: &WrittenPlan, path: u32) -> u128
     requires shaped { IsShaped (net_of net.now) (shown_plan plan.now) }
     requires path { path < path_count (net_of net.now) }
-    ensures { result ≡ path_flow (net_of net.now) (shown_plan plan.now) path }
+    ensures { result ≡ written_path_flow (net_of net.now) (shown_plan plan.now) path }
 {
     let (feed, out) = net.path(path);
     times(

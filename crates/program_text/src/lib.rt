@@ -5,8 +5,8 @@
 //! in every box, under their numbers there, so a row has one rule for its bounds and for its text. Envelopes are no rows of an
 //! exact program. The text is defined in `specs/Programs.antt`, line by line in `specs/Lines.antt`.
 //!
-//! The layer above may use the clauses of `write_formulation`, and [`FormulationFault`]. It leaves to others which network and
-//! which form is asked for.
+//! The layer above may use the clauses of `write_formulation`, [`FormulationFault`], and what variables are called ([`Name`]). It leaves to
+//! others which network and which form is asked for.
 #![tactic(auto)]
 
 mod fault;
@@ -19,3 +19,4 @@ mod terms;
 
 pub use fault::FormulationFault;
 pub use formulation::write_formulation;
+pub use names::{Name, Symbol};

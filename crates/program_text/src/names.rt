@@ -10,20 +10,29 @@ use box_space::Form;
 
 /// What a variable is.
 #[derive(Clone, Copy, Debug)]
-pub(crate) enum Symbol {
+pub enum Symbol {
+    /// The flow along a feed: x.
     Feed,
+    /// The flow along an out: y.
     Out,
+    /// The flow along a direct: z.
     Direct,
+    /// The flow along a path: w.
     Path,
+    /// A feed's proportion in its pool: Q.
     Proportion,
+    /// A quality of a pool: p.
     Quality,
+    /// A pool's quality times an out's flow: v.
     Mixed,
 }
 
 /// What a variable is, and its number among those of its kind.
 #[derive(Clone, Copy, Debug)]
-pub(crate) struct Name {
+pub struct Name {
+    /// What the variable is.
     pub symbol: Symbol,
+    /// Its number among those of its kind.
     pub number: u32,
 }
 

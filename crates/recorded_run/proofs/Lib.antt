@@ -1,2 +1,4 @@
 pub mod Recording
+pub mod Splitting
+pub mod Acknowledging
 pub mod Causes

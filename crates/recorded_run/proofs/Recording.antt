@@ -1,9 +1,9 @@
 -- Lists that grow entry by entry, and what a crash leaves meanwhile.
-use Rattle.std.proofs.Common.{◌≡◌, ◌≢◌, ◌⊎◌, inl, inr, ℕ, suc, ◌<◌, map, get_or, take, drop, List, [], ◌∷◌, ◌++◌, length, refl, sym, ap, subst, ◌∙◌, append_assoc}
+use Rattle.std.proofs.Common.{◌≡◌, ◌≢◌, ◌⊎◌, inl, inr, ℕ, suc, ◌<◌, ◌≤◌, map, get_or, take, drop, List, [], ◌∷◌, ◌++◌, length, refl, sym, ap, subst, ◌∙◌, arith, append_assoc, length-append}
 use Rattle.std.proofs.lemmas.List.{append-nil, map-id, map-append, take-append-drop}
 use Rattle.std.proofs.Math.Seq.{drop-cons}
 use Rattle.disk_calls.specs.Disks.{DiskTold, LeavesOnly}
-use Rattle.disk_calls.proofs.Moments.{started, goes_further, leaves-weaker}
+use Rattle.disk_calls.proofs.Moments.{goes_further, leaves-weaker}
 use Rattle.pool_model.specs.Network.{Net}
 use Rattle.row_model.specs.Entries.{Entry, Searched, start, after, made_from, made_by, AreInOrder, AreInOrderFrom, IsEntryInOrder}
 use Rattle.box_tree.specs.declared.entry.EntryFault.{EntryFault}
@@ -33,6 +33,12 @@ begins-same list = ([], sym (append-nil list))
 
 pub begins-more : (list front : List Entry) (e : Entry) → BeginsWith list front → BeginsWith (list ++ e ∷ []) front
 begins-more list front e (rest, is) = (rest ++ e ∷ [], ap (λ (l : List Entry). l ++ e ∷ []) is ∙ append_assoc front rest (e ∷ []))
+
+pub begins-then : (list middle front : List Entry) → BeginsWith list middle → BeginsWith middle front → BeginsWith list front
+begins-then list middle front (rest, is) (more, at) = (more ++ rest, is ∙ ap (λ (l : List Entry). l ++ rest) at ∙ append_assoc front more rest)
+
+pub begins-length : (list front : List Entry) → BeginsWith list front → length front ≤ length list
+begins-length list front (rest, is) = omega (arith, ap length is, length-append front rest)
 
 -- ---- files
 
@@ -92,26 +98,6 @@ recorded-stands n text list gate s d is = kept-stands n text list gate is.file d
 -- the fault of a run for want of memory is that of its journal
 pub memory-of : (fault : JournalFault) → faults.Journal fault ≡ faults.Journal journal_faults.Memory → fault ≡ journal_faults.Memory
 memory-of fault is = cc
-
--- so far: a crash left a list between the first and the last, and the disk holds the last
-pub record SoFar (n : Net) (text : List ℕ) (first : List Entry) (old now : DiskTold) (gate : ℕ) (s : Searched) : Type 0 where
-  pub last : List Entry
-  pub begins : BeginsWith last first
-  pub any_moment : LeavesOnly old now (IsBetween n text first last)
-  pub held : IsRecorded n text last gate s now
-
-pub so_far-start : (n : Net) (text : List ℕ) (first : List Entry) (d : DiskTold) (gate : ℕ) (s : Searched) → IsRecorded n text first gate s d → SoFar n text first d d gate s
-so_far-start n text first d gate s is = record {
-  last = first;
-  begins = begins-same first;
-  any_moment = started d (IsBetween n text first first) (λ k now. record {
-    list = first;
-    own = subst (IsNetworksOwn n text first) (sym (is.on_disk.only k now)) (kept-own_file n text first is.file (kept_of gate text is.file first is.kept) is.in_order);
-    begins = begins-same first;
-    goes_on = begins-same first;
-  });
-  held = is;
-}
 
 pub so_far-moments : (n : Net) (text : List ℕ) (first last : List Entry) (e : Entry) (old mid new : DiskTold) → BeginsWith last first → AreInOrder n last → AreInOrder n (last ++ e ∷ [])
     → LeavesOnly old mid (IsBetween n text first last) → LeavesOnly mid new (IsBeforeOrAfter text last e) → LeavesOnly old new (IsBetween n text first (last ++ e ∷ []))

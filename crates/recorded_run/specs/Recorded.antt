@@ -1,5 +1,5 @@
 -- What is recorded: the list that the disk holds, the tree that is made of it, and the files that a crash leaves.
-use Rattle.std.specs.Prelude.{◌≡◌, ◌⊎◌, ℕ, List, ◌∷◌, ◌++◌, length, Some}
+use Rattle.std.specs.Prelude.{◌≡◌, ◌⊎◌, ◌≤◌, ℕ, max, List, ◌∷◌, ◌++◌, length, Some}
 use Rattle.std.specs.List.{AllByRecursion}
 use Rattle.disk_calls.specs.Disks.{DiskTold}
 use Rattle.pool_model.specs.Network.{Net}
@@ -11,6 +11,7 @@ use Rattle.journal_format.specs.Faults.{Has, IsAllowed, IsFree}
 use Rattle.journal_format.specs.Longest.{longest}
 use Rattle.journal_format.specs.Records.{IsKeptAt}
 use Rattle.node_journal.specs.Settled.{IsOnDisk}
+use Rattle.search_run.specs.declared.orders.Orders.{Orders}
 use Rattle.journal_format.specs.declared.fault.JournalFault.TheVariants.{Memory}
 use Rattle.recorded_run.specs.declared.fault.RunFault.{RunFault}
 use Rattle.recorded_run.specs.declared.fault.RunFault.TheVariants.{Journal, OutOfOrder}
@@ -20,6 +21,10 @@ use Rattle.recorded_run.specs.declared.fault.RunFault.TheVariants.{Journal, OutO
 -- one list begins with another
 abbrev pub BeginsWith : List Entry → List Entry → Type 0
 BeginsWith list front = (rest : List Entry) × (list ≡ front ++ rest)
+
+-- a list has no more splits than are asked for, or than the first list has
+abbrev pub HasFewSplits : Orders → (first list : List Entry) → Type 0
+HasFewSplits o first list = length (made_by list).tree.splits ≤ max o.nodes (length (made_by first).tree.splits)
 
 -- ---- files
 

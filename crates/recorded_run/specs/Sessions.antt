@@ -1,5 +1,5 @@
 -- What a session is between two steps, and what a run of it leaves.
-use Rattle.std.specs.Prelude.{◌≡◌, ℕ, List, false, Some, Result, MatchResult}
+use Rattle.std.specs.Prelude.{◌≡◌, ◌⊎◌, ℕ, List, false, Some, Result, MatchResult}
 use Rattle.disk_calls.specs.Disks.{DiskTold, LeavesOnly}
 use Rattle.pool_model.specs.Network.{Net}
 use Rattle.row_model.specs.Entries.{Entry, Searched, made_by, AreInOrder}
@@ -12,7 +12,8 @@ use Rattle.search_run.specs.Runs.{IsRun}
 use Rattle.search_run.specs.declared.ended.Ended.{Ended}
 use Rattle.search_run.specs.declared.orders.Orders.{Orders}
 use Rattle.journal_format.specs.declared.fault.JournalFault.TheVariants.{Memory}
-use Rattle.recorded_run.specs.Recorded.{BeginsWith, IsBetween, IsRecorded, StandsNow}
+use Rattle.recorded_run.specs.Recorded.{BeginsWith, HasFewSplits, IsBetween, IsRecorded, StandsNow}
+use Rattle.recorded_run.specs.Acknowledged.{KeepsAcknowledged}
 use Rattle.recorded_run.specs.declared.fault.RunFault.{RunFault}
 use Rattle.recorded_run.specs.declared.fault.RunFault.TheVariants.{Journal}
 use Rattle.recorded_run.specs.declared.session.Session.{Session}
@@ -25,14 +26,30 @@ pub record IsSession (n : Net) (o : Orders) (s : Session) : Type 0 where
   pub usable : s.journal.failed ≡ false
 
 -- A run from a list that the disk holds: a crash at any moment leaves the network's own file, for a list between that one and the
--- last. Where the run came to its end the disk holds the last, and the tree is made of it; where memory ran out the file stands for it.
-pub record IsRecordedRun (n : Net) (text : List ℕ) (first : List Entry) (old new : DiskTold) (s : Session) (result : Result Ended RunFault) : Type 0 where
+-- last, and no acknowledged entry is lost; the last has few splits, also where the run failed. Where the run came to its end the disk holds
+-- the last, and the tree is made of it; where memory ran out the file stands for it.
+pub record IsRecordedRun (n : Net) (text : List ℕ) (o : Orders) (first : List Entry) (old new : DiskTold) (s : Session) (result : Result Ended RunFault) : Type 0 where
   pub last : List Entry
   pub begins : BeginsWith last first
   pub any_moment : LeavesOnly old new (IsBetween n text first last)
+  pub acknowledged : KeepsAcknowledged n text first last old new
+  pub few : HasFewSplits o first last
   pub held : MatchResult result
       (λ _. IsRecorded n text last s.journal.gate (searched s.search) new)
       (λ fault. fault ≡ Journal Memory → StandsNow n text last new)
+
+-- A run on a file that is the network's own and stands for the first list. A crash at any moment leaves what it might have left before,
+-- or the network's own file for a list between the first and the last, and no acknowledged entry is lost; none of these lists has more
+-- splits than were asked for, or than the first. Of the last list more is known.
+pub record IsRunFrom (n : Net) (text : List ℕ) (o : Orders) (first : List Entry) (old new : DiskTold) (IsKnown : List Entry → Type 0) : Type 0 where
+  pub last : List Entry
+  pub begins : BeginsWith last first
+  pub any_moment : LeavesOnly old new (λ c. old.may_leave c ⊎ IsBetween n text first last c)
+  pub acknowledged : KeepsAcknowledged n text first last old new
+  -- Promise: A run on the network's own file leaves no list with more splits than were asked for, or than it began with, also where it
+  --   fails or is stopped at any moment
+  pub few : (list : List Entry) → BeginsWith last list → HasFewSplits o first list
+  pub known : IsKnown last
 
 -- What was found by going on from entries: they are in order, and the file stands for them, where it is known what a read of it gives;
 -- the run begins with the tree of them, and what follows of its tree holds.

@@ -4,10 +4,12 @@
 //! there to the end of the search. A crash at any moment leaves the file as it was, or the network's own file, which stands for
 //! a list that begins with the entries that were found; and what is answered is the tree of all that the file stands for then.
 //!
-//! `specs/Sessions.antt` says what stands on the disk between two steps, and which files a crash leaves. What the steps are, is said in
-//! `search_run`, and what a journal is, in `node_journal` and `journal_format`. The layer above attaches the file, and prints what was found.
+//! `specs/Sessions.antt` says what stands on the disk between two steps, which files a crash leaves, and how many splits their lists have at
+//! the most; `specs/Acknowledged.antt`, that no acknowledged entry is lost. What the steps are, is said in `search_run`, and what a journal
+//! is, in `node_journal` and `journal_format`. The layer above attaches the file, and prints what was found.
 //!
-//! Proofs above may cite `proofs/Causes.antt`: a file has one cause to be refused at most, and none where its entries are in order.
+//! Proofs above may cite `proofs/Causes.antt` (a file has one cause to be refused at most, and none where its entries are in order) and
+//! `proofs/Acknowledging.antt` (no acknowledged entry is lost over one run after another).
 #![tactic(auto)]
 
 mod fault;

@@ -2,7 +2,7 @@
 
 ghost use Rattle.std.specs.Prelude.{◌≡◌, ◌≤◌, ◌^◌, ◌⊎◌, ℕ, List, Some, length, IfOk, IfErr, IsErrAnd, IsErrOf, MatchResult};
 ghost use Rattle.edge_io.specs.Counts.{Rose};
-ghost use Rattle.disk_calls.specs.Disks.{Reaches, LeavesOnly, IsSameDisk};
+ghost use Rattle.disk_calls.specs.Disks.{Reaches, IsSameDisk};
 ghost use Rattle.pool_model.specs.Network.{net_of};
 ghost use Rattle.row_model.specs.Entries as entries;
 ghost use Rattle.box_tree.specs.Kept.{IsOf, searched_of};
@@ -10,8 +10,8 @@ ghost use Rattle.node_journal.specs.Settled.{IsQuiet};
 ghost use Rattle.journal_format.specs.declared.fault.JournalFault.TheVariants as journal_faults;
 ghost use Rattle.search_core.specs.Searches.{IsAsked};
 ghost use Rattle.search_run.specs.Orders.{options_of};
-ghost use Rattle.recorded_run.specs.Recorded.{BeginsWith, IsNetworksOwn, IsBetween, IsCause, IsFreeFault, IsLeftAlone, StandsNow, Ends};
-ghost use Rattle.recorded_run.specs.Sessions.{IsResumed};
+ghost use Rattle.recorded_run.specs.Recorded.{IsNetworksOwn, IsCause, IsFreeFault, IsLeftAlone, StandsNow, Ends};
+ghost use Rattle.recorded_run.specs.Sessions.{IsResumed, IsRunFrom};
 
 use crate::fault::RunFault;
 use crate::replay::replayed;
@@ -44,16 +44,15 @@ pub fn run_recorded<D: Disk>(
     //   steps is one that was due, its end holds of the tree that is answered, and all that is proved of a search holds of that tree
     ensures run { IfOk result (λ r. IsResumed (net_of net.now) orders text.now (D.told disk.old) (searched_of r.tree.kept) r.ended) }
     // Of two lists, of which the last begins with the first: a crash at any moment leaves what it might have left before, or the
-    // network's own file, for a list between the two. At the end the file stands for the last, also where memory ran out, and what is
-    // answered is the tree of it.
+    // network's own file, for a list between the two, and no acknowledged entry is lost; none of these lists has more splits than were
+    // asked for, or than the first. At the end the file stands for the last, also where memory ran out, and what is answered is the
+    // tree of it.
     // Promise: On the network's own file a crash at any moment leaves a file from before the run, or the network's own for a list between
     //   the first and the last
     ensures any_moment { (file : List ℕ) (first : List entries.Entry) → (D.told disk.old).reads ≡ Some file → IsNetworksOwn (net_of net.now) text.now first file →
-        (last : List entries.Entry) × BeginsWith last first
-        × LeavesOnly (D.told disk.old) (D.told disk.new) (λ c. (D.told disk.old).may_leave c ⊎ IsBetween (net_of net.now) text.now first last c)
-        × MatchResult result
+        IsRunFrom (net_of net.now) text.now orders first (D.told disk.old) (D.told disk.new) (λ last. MatchResult result
         (λ r. Ends (net_of net.now) text.now last (searched_of r.tree.kept) (D.told disk.new))
-        (λ fault. fault ≡ RunFault.Journal journal_faults.Memory → StandsNow (net_of net.now) text.now last (D.told disk.new)) }
+        (λ fault. fault ≡ RunFault.Journal journal_faults.Memory → StandsNow (net_of net.now) text.now last (D.told disk.new))) }
 
     // A refusal has its cause in the file, and a cause that is there is answered, unless disk or memory failed.
     // Promise: A run with a journal is refused only for a cause in the file, and such a cause is always the answer, unless disk or memory

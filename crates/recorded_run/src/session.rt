@@ -21,7 +21,7 @@ use blend_network::Network;
 use box_tree::Entry;
 use disk_calls::Disk;
 use node_journal::{Journal, JournalFault};
-use search_core::{Next, Search};
+use search_core::{Answer, Next, Search};
 use search_run::{Ended, Orders, next_by};
 use std::alloc::Global;
 
@@ -83,13 +83,14 @@ impl Session {
         ensures run { IfOk result (IsRun (net_of net.now) orders (searched self.old.search) (searched self.new.search)) }
         ensures recorded { (text : List ℕ) (first : List entries.Entry) →
             IsRecorded (net_of net.now) text first self.old.journal.gate (searched self.old.search) (D.told disk.old) →
-            IsRecordedRun (net_of net.now) text first (D.told disk.old) (D.told disk.new) self.new result }
+            IsRecordedRun (net_of net.now) text orders first (D.told disk.old) (D.told disk.new) self.new result }
         ensures free { IfErr result IsFreeFault }
         ensures failed { IsErrOf result (RunFault.Journal journal_faults.Disk) → Rose (D.told disk.old).faults (D.told disk.new).faults }
         ensures same_disk { IsSameDisk (D.told disk.old) (D.told disk.new) }
     {
         'steps: loop {
-            match next_by(alloc, net, orders.rule, &self.search)? {
+            let Answer { due, .. } = next_by(alloc, net, orders.rule, &self.search)?;
+            match due {
                 Next::Do(entry) => self.record(net, orders, disk, entry)?,
                 Next::Closed => return Ok(Ended::Closed),
                 Next::Stopped => return Ok(Ended::Stopped),

@@ -1,7 +1,11 @@
 -- What a file says of the network that is read from it, and of why none is.
 use Rattle.std.proofs.Common.{◌≡◌, ◌≢◌, ℕ, ◌<◌, List, length, Bool, true, Option, Some, Result, Ok, Err, cond, nat_lt, refl, sym, ap, subst, ◌∙◌, arith}
 use Rattle.std.proofs.lemmas.Bool.Decides.{nat_tests}
+use Rattle.edge_io.specs.Counts.{Rose}
 use Rattle.shelf_calls.specs.Files.{file_of, IsTooLong}
+use Rattle.shelf_calls.specs.Told.{ShelfTold}
+use Rattle.shelf_calls.specs.declared.fault.ShelfFault.{ShelfFault}
+use Rattle.shelf_calls.specs.declared.fault.ShelfFault.TheVariants as shelf
 use Rattle.pool_model.specs.Rows.{Rows}
 use Rattle.pool_model.specs.Naming.{network_of}
 use Rattle.pool_model.specs.Network.{Network}
@@ -14,6 +18,8 @@ use Rattle.json_walk.specs.declared.fault.ReadNet.TheVariants as causes
 use Rattle.network_json.specs.Reading.{IsRefusal}
 use Rattle.network_json.specs.Format.{rows_in}
 use Rattle.run_status.specs.Reads.{Files, IsOwnCause, IsRefusedAs, most_network, ReadsUnder, RefusesUnder}
+use Rattle.run_status.specs.Unreads.{IsUnread, unread_by}
+use Rattle.run_status.specs.declared.reading.Unread.{Unread}
 
 pub some_same : {X : Type 0} (o : Option X) (a b : X) → o ≡ Some a → o ≡ Some b → a ≡ b
 some_same o a b p q = cc
@@ -86,3 +92,18 @@ long_file files name before after long = record {
       record { bytes = more.bytes; file = more.are; refused = long_text more.bytes more.more };
   long = λ e. long;
 }
+
+-- ---- a shelf that gives no bytes
+
+-- what it says is why no network is read
+pub unread_shelf : (name : List ℕ) (before after : ShelfTold) (fault : ShelfFault) (why : Unread) → why ≡ unread_by fault
+    → (fault ≡ shelf.Failed → Rose before.faults after.faults)
+    → (fault ≡ shelf.TooLong → IsTooLong before.files name most_network before.taken after.taken)
+    → IsUnread name before after why
+unread_shelf name before after fault why is failed long = subst (λ (w : Unread). IsUnread name before after w) (sym is) (by_fault fault failed long)
+  where
+    by_fault : (f : ShelfFault) → (f ≡ shelf.Failed → Rose before.faults after.faults)
+        → (f ≡ shelf.TooLong → IsTooLong before.files name most_network before.taken after.taken) → IsUnread name before after (unread_by f)
+    by_fault shelf.Failed rose more = rose refl
+    by_fault shelf.TooLong rose more = long_file before.files name before.taken after.taken (more refl)
+    by_fault shelf.Memory rose more = tt

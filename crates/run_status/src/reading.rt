@@ -4,7 +4,7 @@ ghost use Rattle.std.specs.Prelude.{◌≡◌, IsTrue, IfOk, IfErr};
 ghost use Rattle.shelf_calls.specs.Told.{Keeps};
 ghost use Rattle.run_status.specs.Reads.{ReadsUnder};
 ghost use Rattle.run_status.specs.Took.{unread_status};
-ghost use Rattle.run_status.specs.Unreads.{IsCauseOf, IsUnread};
+ghost use Rattle.run_status.specs.Unreads.{IsCauseOf, IsUnread, unread_by};
 
 use crate::status::Status;
 use blend_network::{NetFault, Network};
@@ -35,6 +35,19 @@ impl From<Unread> for Status {
     }
 }
 
+impl From<ShelfFault> for Unread {
+    ghost from_gives = { λ fault why. why ≡ unread_by fault };
+
+    // Promise: Of what a shelf may say of the file of NET want of memory alone is made 23: a failure is made 20, and too many bytes 3
+    fn from(fault: ShelfFault) -> Unread {
+        match fault {
+            ShelfFault::Failed => Unread::Failed,
+            ShelfFault::TooLong => Unread::Refused(ReadNet::TooLong),
+            ShelfFault::Memory => Unread::Memory,
+        }
+    }
+}
+
 /// The network in the file of this name.
 pub fn network_under<S: Shelf>(alloc: Global, name: &str, shelf: &mut S) -> Result<Network, Unread>
     requires { IsTrue ((S.told shelf.old).admits name.now) }
@@ -44,14 +57,13 @@ pub fn network_under<S: Shelf>(alloc: Global, name: &str, shelf: &mut S) -> Resu
 {
     match shelf.read_all(alloc, name, MAX_TEXT) {
         Ok(bytes) => read_network(alloc, &bytes).map_err(cause_of),
-        Err(ShelfFault::Failed) => Err(Unread::Failed),
-        Err(ShelfFault::TooLong) => Err(Unread::Refused(ReadNet::TooLong)),
-        Err(ShelfFault::Memory) => Err(Unread::Memory),
+        Err(fault) => Err(Unread::from(fault)),
     }
 }
 
 /// Why bytes that the shelf gave are no network. They are never too long, since it was asked for no more.
 fn cause_of(cause: ReadNet) -> Unread
+    // Promise: Of the causes for which bytes of NET are no network want of memory alone is made 23: every other is told as it is (3)
     ensures { IsCauseOf cause result }
 {
     match cause {

@@ -1,5 +1,5 @@
 -- The split of the least leaf, put together; and how a search ends.
-use Rattle.std.proofs.Common.{◌≡◌, ℕ, ◌<◌, ◌⊎◌, inl, inr, length, get_or, Bool, Some, None, option_map, ℤ, pos, ◌+ℤ◌, ◌-ℤ◌, ◌≤ℤ◌, sym, ap, subst, ◌∙◌}
+use Rattle.std.proofs.Common.{◌≡◌, ℕ, ◌<◌, ◌⊎◌, inl, inr, List, length, get_or, Bool, Option, Some, None, option_map, ℤ, pos, ◌+ℤ◌, ◌-ℤ◌, ◌≤ℤ◌, sym, ap, subst, ◌∙◌}
 use Rattle.std.specs.Int.RustNames.{int_div}
 use Rattle.std.proofs.lemmas.List.Elements.{All-get_or}
 use denote.Ref.{Bor}
@@ -74,17 +74,17 @@ least-split n o s post node view split h least leaf bounded seen picked is same 
 
 -- ---- ends
 
-module _ (n : Net) (o : Options) (s : Searched) (repaired : Bool) (post : Bor View → ℕ → Type 0) (going : GoesOn n o s repaired) where
-  pub stopped-next : (r : Next) → ((r ≡ Stopped) × HasPlan s) ⊎ ((r ≡ Undecided) × (s.best ≡ None)) → IsSpent o s → IsNext n o s repaired post r
+module _ (n : Net) (o : Options) (s : Searched) (repaired : Bool) (tried : Option (List ℤ)) (post : Bor View → ℕ → Type 0) (going : GoesOn n o s repaired tried) where
+  pub stopped-next : (r : Next) → ((r ≡ Stopped) × HasPlan s) ⊎ ((r ≡ Undecided) × (s.best ≡ None)) → IsSpent o s → IsNext n o s repaired tried post r
   stopped-next r h spent = elim h [
-    | inl p ↦ subst (λ (x : Next). IsNext n o s repaired post x) (sym p.0) (going, spent, p.1)
-    | inr p ↦ subst (λ (x : Next). IsNext n o s repaired post x) (sym p.0) (going, inl spent, p.1)
+    | inl p ↦ subst (λ (x : Next). IsNext n o s repaired tried post x) (sym p.0) (going, spent, p.1)
+    | inr p ↦ subst (λ (x : Next). IsNext n o s repaired tried post x) (sym p.0) (going, inl spent, p.1)
   ]
 
-  pub stuck-next : (r : Next) → ((r ≡ Stuck) × HasPlan s) ⊎ ((r ≡ Undecided) × (s.best ≡ None)) → length s.tree.splits < o.nodes → IsStuck n o.form s → IsNext n o s repaired post r
+  pub stuck-next : (r : Next) → ((r ≡ Stuck) × HasPlan s) ⊎ ((r ≡ Undecided) × (s.best ≡ None)) → length s.tree.splits < o.nodes → IsStuck n o.form s → IsNext n o s repaired tried post r
   stuck-next r h few stuck = elim h [
-    | inl p ↦ subst (λ (x : Next). IsNext n o s repaired post x) (sym p.0) (going, few, stuck, p.1)
-    | inr p ↦ subst (λ (x : Next). IsNext n o s repaired post x) (sym p.0) (going, inr stuck, p.1)
+    | inl p ↦ subst (λ (x : Next). IsNext n o s repaired tried post x) (sym p.0) (going, few, stuck, p.1)
+    | inr p ↦ subst (λ (x : Next). IsNext n o s repaired tried post x) (sym p.0) (going, inr stuck, p.1)
   ]
 
 -- where a box can be cut, the ends that are held are apart

@@ -1,5 +1,5 @@
 -- Plans that are repaired: what repair answers, said of the tree, and whether a plan was repaired.
-use Rattle.std.proofs.Common.{◌≡◌, List, length, Bool, true, false, not, ◌||◌, Option, Some, None, Result, Ok, Err, IfOk, ℤ, inr, refl, sym, ap, subst, ◌∙◌}
+use Rattle.std.proofs.Common.{◌≡◌, List, length, Bool, true, false, not, ◌||◌, Option, Some, None, Result, Ok, Err, IfOk, ℤ, refl, sym, ap, subst, ◌∙◌}
 use Rattle.std.specs.Prelude.{IfSome, IfNone, MatchOption}
 use Rattle.std.specs.Option.{ForSome, option_copied, is_some}
 use Rattle.std.proofs.lemmas.Option.{none-some}
@@ -16,6 +16,7 @@ use Rattle.row_model.specs.Entries.{Searched, IsSearched, IsPlanInOrder}
 use Rattle.row_model.specs.Variables.{variables}
 use Rattle.box_tree.proofs.Improving.{some_at}
 use Rattle.search_core.specs.Cases.{IsBetterStart, HasNoBetterStart, IsRepair, HasNoRepair, IsRepairedBy}
+use Rattle.search_core.specs.Next.{tried_at}
 
 -- ---- the best plan, as it is lent
 
@@ -37,19 +38,23 @@ lent-accepted n s (Some p) is e =
 module _ (n : Net) (s : Searched) (best : Option WrittenPlan) (same : shown_best best ≡ s.best) (point : List ℤ) (long : length point ≡ variables n) where
   pub repair-some : (r : Result (Option WrittenPlan) Memory) → IfOk r (λ o. IfSome o (λ w. IsGain n (shown_best best) (shown_plan w)))
       → IfOk r (λ o. IfSome o (λ w. IsAccepted n (plain_plan n point) → IsNoDearer n (shown_plan w) (plain_plan n point)))
-      → IfOk r (λ o. IfSome o (λ w. IsRepair n s (shown_plan w)))
-  repair-some (Ok (Some w)) gain dear = record { point = point; long = long; gain = subst (λ (b : Option Written). IsGain n b (shown_plan w)) same gain; no_dearer = dear }
+      → IfOk r (λ o. IfSome o (λ w. IsRepair n s point (shown_plan w)))
+  repair-some (Ok (Some w)) gain dear = record { long = long; gain = subst (λ (b : Option Written). IsGain n b (shown_plan w)) same gain; no_dearer = dear }
   repair-some (Ok None) gain dear = tt
   repair-some (Err m) gain dear = tt
 
+  vain-at : (repaired : Bool) → ¬ IsGain n (shown_best best) (plain_plan n point) → HasNoRepair n s repaired (tried_at repaired point)
+  vain-at true vain = refl
+  vain-at false vain = record { long = long; vain = λ gain. vain (subst (λ (b : Option Written). IsGain n b (plain_plan n point)) (sym same) gain) }
+
   pub repair-none : (repaired : Bool) (r : Result (Option WrittenPlan) Memory) → IfOk r (λ o. IfNone o (¬ IsGain n (shown_best best) (plain_plan n point)))
-      → IfOk r (λ o. IfNone o (HasNoRepair n s repaired))
+      → IfOk r (λ o. IfNone o (HasNoRepair n s repaired (tried_at repaired point)))
   repair-none repaired (Ok (Some w)) vain = tt
-  repair-none repaired (Ok None) vain = inr record { point = point; long = long; vain = λ gain. vain (subst (λ (b : Option Written). IsGain n b (plain_plan n point)) (sym same) gain) }
+  repair-none repaired (Ok None) vain = vain-at repaired vain
   repair-none repaired (Err m) vain = tt
 
-pub repair-order : (n : Net) (s : Searched) (w : Written) → IsRepair n s w → IsPlanInOrder n s w
-repair-order n s w is = record { written = is.gain.accepted.written; obeys = is.gain.accepted.obeys; cheaper = is.gain.cheaper }
+pub repair-order : (n : Net) (s : Searched) (point : List ℤ) (w : Written) → IsRepair n s point w → IsPlanInOrder n s w
+repair-order n s point w is = record { written = is.gain.accepted.written; obeys = is.gain.accepted.obeys; cheaper = is.gain.cheaper }
 
 -- ---- whether a plan was repaired
 

@@ -1,5 +1,5 @@
 -- What decides what a search does next.
-use Rattle.std.specs.Prelude.{◌≡◌, ◌≢◌, ℕ, ◌*◌, ◌<◌, ◌≤◌, ◌⊎◌, List, length, Bool, IsTrue, true, false, Some, None, ℤ, pos, ◌+ℤ◌, ◌-ℤ◌, ◌*ℤ◌, ◌≤ℤ◌}
+use Rattle.std.specs.Prelude.{◌≡◌, ◌≢◌, ℕ, ◌*◌, ◌<◌, ◌≤◌, ◌⊎◌, List, length, Bool, IsTrue, true, false, Option, Some, None, IsSomeAnd, ℤ, pos, ◌+ℤ◌, ◌-ℤ◌, ◌*ℤ◌, ◌≤ℤ◌}
 use Rattle.std.specs.Option.{ForSome}
 use Rattle.pool_model.specs.Network.{Net}
 use Rattle.pool_model.specs.Plan.{Written, plan_of, cost_of}
@@ -63,23 +63,22 @@ HasNoRootProof n form s = (least : ℤ) → IsRootOpen s → node_bound n s.tree
 
 -- ---- repaired plans
 
--- A plan that repair may give with some advice: it obeys and is cheaper than the best one, and no dearer than the plain plan of
--- the advice's point where that is accepted. A point has a number for each variable.
-pub record IsRepair (n : Net) (s : Searched) (w : Written) : Type 0 where
-  pub point : List ℤ
+-- A plan that was repaired from this point, which has a number for each variable: it obeys and is cheaper than the best one, and no
+-- dearer than the plain plan of this point where that is accepted.
+pub record IsRepair (n : Net) (s : Searched) (point : List ℤ) (w : Written) : Type 0 where
   pub long : length point ≡ variables n
   pub gain : IsGain n s.best w
   pub no_dearer : IsAccepted n (plain_plan n point) → IsNoDearer n w (plain_plan n point)
 
--- repair gave none with some advice: the plain plan of its point is no gain
-pub record IsBeyondRepair (n : Net) (s : Searched) : Type 0 where
-  pub point : List ℤ
+-- none was repaired from this point: its plain plan is no gain
+pub record IsBeyondRepair (n : Net) (s : Searched) (point : List ℤ) : Type 0 where
   pub long : length point ≡ variables n
   pub vain : ¬ IsGain n s.best (plain_plan n point)
 
--- no plan is repaired: one was since the last proof or split, or there is none to be had
-abbrev pub HasNoRepair : Net → Searched → Bool → Type 0
-HasNoRepair n s repaired = (repaired ≡ true) ⊎ IsBeyondRepair n s
+-- No plan is repaired: where one was since the last proof or split no point was tried, and else the point that was tried gave none.
+abbrev pub HasNoRepair : Net → Searched → Bool → Option (List ℤ) → Type 0
+HasNoRepair n s true tried = tried ≡ None
+HasNoRepair n s false tried = IsSomeAnd tried (IsBeyondRepair n s)
 
 -- whether a plan was repaired since the last proof or split, before and after a plan is taken: it is one where no starting plan
 -- was better

@@ -1,5 +1,5 @@
 -- What a search does next: the first case that applies.
-use Rattle.std.specs.Prelude.{◌≡◌, ◌≢◌, ℕ, ◌<◌, ◌⊎◌, length, Bool, false, Option, Some, None, option_map, ℤ}
+use Rattle.std.specs.Prelude.{◌≡◌, ◌≢◌, ℕ, ◌<◌, ◌⊎◌, List, length, Bool, true, false, Option, Some, None, option_map, IsSomeAnd, ℤ}
 use denote.Ref.{Bor}
 use Rattle.pool_model.specs.Network.{Net}
 use Rattle.row_model.specs.Boxes.{Box, left_of, right_of}
@@ -15,6 +15,7 @@ use Rattle.box_tree.specs.declared.entry.Entry.TheVariants.{Root, SplitOf, Impro
 use Rattle.branching.specs.Rows.{View}
 use Rattle.branching.specs.Rules.{IsPick}
 use Rattle.search_core.specs.declared.options.Options.{Options}
+use Rattle.search_core.specs.declared.next.Answer.{Answer}
 use Rattle.search_core.specs.declared.next.Next.{Next}
 use Rattle.search_core.specs.declared.next.Next.TheVariants.{Do, Closed, Stopped, Stuck, Infeasible, Undecided}
 use Rattle.leaf_cuts.specs.Views.{IsViewOf}
@@ -33,16 +34,16 @@ pub record IsRooted (n : Net) (o : Options) (s : Searched) : Type 0 where
   pub apart : IsApart n o s
   pub proved : HasNoRootProof n o.form s
 
--- and no plan is repaired: the flag says whether one was since the last proof or split
-pub record GoesOn (n : Net) (o : Options) (s : Searched) (repaired : Bool) : Type 0 where
+-- and no plan is repaired: the flag says whether one was since the last proof or split, and beside it stands the point that was tried
+pub record GoesOn (n : Net) (o : Options) (s : Searched) (repaired : Bool) (tried : Option (List ℤ)) : Type 0 where
   pub rooted : IsRooted n o s
-  pub unrepaired : HasNoRepair n s repaired
+  pub unrepaired : HasNoRepair n s repaired tried
 
--- A plan that is repaired, where none was since the last proof or split.
-pub record IsRepairStep (n : Net) (o : Options) (s : Searched) (repaired : Bool) (w : Written) : Type 0 where
+-- A plan that is repaired from the point that was tried, where none was since the last proof or split.
+pub record IsRepairStep (n : Net) (o : Options) (s : Searched) (repaired : Bool) (tried : Option (List ℤ)) (w : Written) : Type 0 where
   pub rooted : IsRooted n o s
   pub clear : repaired ≡ false
-  pub repair : IsRepair n s w
+  pub repair : IsSomeAnd tried (λ point. IsRepair n s point w)
 
 -- A split of a box at a coordinate of the form, in the middle of its ends, with what rounding gives for both halves above a bound.
 pub record IsHalving (n : Net) (o : Options) (b : Box) (least : ℤ) (split : Split) (left right : Option Proof) : Type 0 where
@@ -65,23 +66,38 @@ pub record IsLeastSplit (n : Net) (o : Options) (s : Searched) (post : Bor View 
 -- ---- the cases
 
 -- an entry: a better starting plan goes first, then a proof of the root, then a repaired plan, then a split
-abbrev pub IsEntry : Net → Options → Searched → Bool → (Bor View → ℕ → Type 0) → Entry → Type 0
-IsEntry n o s repaired post (Improve plan) = IsBetterStart n s (shown_plan plan) ⊎ IsRepairStep n o s repaired (shown_plan plan)
-IsEntry n o s repaired post (Root proof) = IsApart n o s × IsRootProof n o.form s (shown_proof proof)
-IsEntry n o s repaired post (SplitOf split left right) =
-    GoesOn n o s repaired × (length s.tree.splits < o.nodes)
+abbrev pub IsEntry : Net → Options → Searched → Bool → Option (List ℤ) → (Bor View → ℕ → Type 0) → Entry → Type 0
+IsEntry n o s repaired tried post (Improve plan) = IsBetterStart n s (shown_plan plan) ⊎ IsRepairStep n o s repaired tried (shown_plan plan)
+IsEntry n o s repaired tried post (Root proof) = IsApart n o s × IsRootProof n o.form s (shown_proof proof)
+IsEntry n o s repaired tried post (SplitOf split left right) =
+    GoesOn n o s repaired tried × (length s.tree.splits < o.nodes)
     × IsLeastSplit n o s post split (option_map shown_proof left) (option_map shown_proof right)
 
--- the answer is that of the first case that applies
-abbrev pub IsNext : Net → Options → Searched → Bool → (Bor View → ℕ → Type 0) → Next → Type 0
-IsNext n o s repaired post (Do entry) = IsEntry n o s repaired post entry
-IsNext n o s repaired post Infeasible = HasNoBetterStart n s × (tree_bound n s.tree ≡ None)
-IsNext n o s repaired post Closed = HasNoBetterStart n s × IsClosed n o.gap s
-IsNext n o s repaired post Stopped = GoesOn n o s repaired × IsSpent o s × HasPlan s
-IsNext n o s repaired post Stuck = GoesOn n o s repaired × (length s.tree.splits < o.nodes) × IsStuck n o.form s × HasPlan s
-IsNext n o s repaired post Undecided = GoesOn n o s repaired × (IsSpent o s ⊎ IsStuck n o.form s) × (s.best ≡ None)
+-- what is due is that of the first case that applies, where this point was tried
+abbrev pub IsNext : Net → Options → Searched → Bool → Option (List ℤ) → (Bor View → ℕ → Type 0) → Next → Type 0
+IsNext n o s repaired tried post (Do entry) = IsEntry n o s repaired tried post entry
+IsNext n o s repaired tried post Infeasible = HasNoBetterStart n s × (tree_bound n s.tree ≡ None)
+IsNext n o s repaired tried post Closed = HasNoBetterStart n s × IsClosed n o.gap s
+IsNext n o s repaired tried post Stopped = GoesOn n o s repaired tried × IsSpent o s × HasPlan s
+IsNext n o s repaired tried post Stuck = GoesOn n o s repaired tried × (length s.tree.splits < o.nodes) × IsStuck n o.form s × HasPlan s
+IsNext n o s repaired tried post Undecided = GoesOn n o s repaired tried × (IsSpent o s ⊎ IsStuck n o.form s) × (s.best ≡ None)
 
--- where the answer is an entry, this holds of it
+-- where what is due is an entry, this holds of it
 abbrev pub IsDo : (Entry → Type 0) → Next → Type 0
 IsDo P (Do entry) = P entry
 IsDo P _ = Unit {0}
+
+-- ---- the answer
+
+-- the point that was tried, without where it lies in memory
+abbrev pub tried_of : Answer → Option (List ℤ)
+tried_of a = option_map (λ v. v.items) a.tried
+
+-- the point that is tried at a leaf: that of its advice, unless a plan was repaired since the last proof or split
+abbrev pub tried_at : Bool → List ℤ → Option (List ℤ)
+tried_at true point = None
+tried_at false point = Some point
+
+-- what is due is that of the first case that applies, and the point beside it is the one that was tried
+abbrev pub IsAnswer : Net → Options → Searched → Bool → (Bor View → ℕ → Type 0) → Answer → Type 0
+IsAnswer n o s repaired post a = IsNext n o s repaired (tried_of a) post a.due

@@ -1,6 +1,6 @@
 //! What a search does next.
 
-ghost use Rattle.std.specs.Prelude.{◌≡◌, ◌⊎◌, IfOk, None, Some};
+ghost use Rattle.std.specs.Prelude.{◌≡◌, ◌⊎◌, IfOk, None, Some, option_map};
 ghost use Rattle.pool_model.specs.Network.{net_of};
 ghost use Rattle.row_model.specs.Trees.{tree_bound};
 ghost use Rattle.row_model.specs.Entries.{IsEntryInOrder};
@@ -9,7 +9,7 @@ ghost use Rattle.leaf_cuts.specs.Benches.{IsBench};
 ghost use Rattle.leaf_cuts.specs.Leaves.{IsSolvedLeaf};
 ghost use Rattle.search_core.specs.Searches.{searched, IsSearchOf};
 ghost use Rattle.search_core.specs.Cases.{HasPlan};
-ghost use Rattle.search_core.specs.Next.{IsRooted, IsNext, IsDo};
+ghost use Rattle.search_core.specs.Next.{IsRooted, IsNext, IsDo, IsAnswer, tried_at};
 
 use crate::cases::copy;
 use crate::search::Search;
@@ -37,29 +37,50 @@ pub enum Next {
     Undecided,
 }
 
+/// What is due, and the point beside it from which a repaired plan was looked for, where one was.
+#[derive(Debug, Drop)]
+pub struct Answer {
+    pub due: Next,
+    /// A number for each variable of the programs.
+    pub tried: Option<Vec<i128>>,
+}
+
+impl Answer {
+    /// What is due where no point was tried.
+    fn untried(due: Next) -> Answer
+        ensures due { result.due ≡ due }
+        ensures tried { result.tried ≡ None }
+    {
+        Answer { due, tried: None }
+    }
+}
+
 impl Search {
     /// What comes next: the first case that applies. An entry is in order on the tree, so that [`Search::take`] takes it or meets
     /// want of memory.
-    pub fn next(&self, alloc: Global, net: &Network, rule: &CutRule) -> Result<Next, Memory>
+    pub fn next(&self, alloc: Global, net: &Network, rule: &CutRule) -> Result<Answer, Memory>
         requires { IsSearchOf (net_of net.now) self.now }
         // Promise: What comes next is the first case that applies, by the tree, the cheapest start and what is asked
-        ensures next { IfOk result (IsNext (net_of net.now) self.now.options (searched self.now) self.now.repaired
+        // Promise: Where no plan was repaired since the last proof or split, and no earlier case applies, a point is tried and answered: a
+        //   repaired plan is no dearer than the plain plan of that very point, where that obeys, and none comes only where the plain plan of
+        //   that very point does not obey or is not cheaper than the best plan
+        ensures next { IfOk result (IsAnswer (net_of net.now) self.now.options (searched self.now) self.now.repaired
             (⟦<branching::RuleClosure as Fn(&branching::LeafView) -> usize>⟧.post rule.now.closure)) }
         // Promise: An entry that is answered is in order on the tree, so it is taken, or memory ran out
-        ensures in_order { IfOk result (IsDo (λ entry. IsEntryInOrder (net_of net.now) (searched self.now) (shown_entry entry))) }
+        ensures in_order { IfOk result (λ a. IsDo (λ entry. IsEntryInOrder (net_of net.now) (searched self.now) (shown_entry entry)) a.due) }
     {
         if let Some(plan) = self.better_start(net) {
             let plan = copy(alloc, plan)?;
-            return Ok(Next::Do(Entry::Improve(plan)));
+            return Ok(Answer::untried(Next::Do(Entry::Improve(plan))));
         }
         let Some(bound) = self.tree.bound() else {
-            return Ok(Next::Infeasible);
+            return Ok(Answer::untried(Next::Infeasible));
         };
         if self.is_closed(net, bound) {
-            return Ok(Next::Closed);
+            return Ok(Answer::untried(Next::Closed));
         }
         if let Some(proof) = self.root_proof(alloc, net)? {
-            return Ok(Next::Do(Entry::Root(proof)));
+            return Ok(Answer::untried(Next::Do(Entry::Root(proof))));
         }
         self.next_below(alloc, net, rule, bound)
     }
@@ -71,19 +92,33 @@ impl Search {
         net: &Network,
         rule: &CutRule,
         bound: i128,
-    ) -> Result<Next, Memory>
+    ) -> Result<Answer, Memory>
         requires search { IsSearchOf (net_of net.now) self.now }
         requires rooted { IsRooted (net_of net.now) self.now.options (searched self.now) }
         requires bound { tree_bound (net_of net.now) (searched self.now).tree ≡ Some bound }
-        ensures next { IfOk result (IsNext (net_of net.now) self.now.options (searched self.now) self.now.repaired
+        ensures next { IfOk result (IsAnswer (net_of net.now) self.now.options (searched self.now) self.now.repaired
             (⟦<branching::RuleClosure as Fn(&branching::LeafView) -> usize>⟧.post rule.now.closure)) }
-        ensures in_order { IfOk result (IsDo (λ entry. IsEntryInOrder (net_of net.now) (searched self.now) (shown_entry entry))) }
+        ensures in_order { IfOk result (λ a. IsDo (λ entry. IsEntryInOrder (net_of net.now) (searched self.now) (shown_entry entry)) a.due) }
     {
         if self.repaired && self.is_spent() {
-            return Ok(self.stopped());
+            return Ok(Answer::untried(self.stopped()));
         }
         let (leaf, mut bench) = self.solved_leaf(alloc, net, bound)?;
-        self.next_at(alloc, net, rule, &leaf, &mut bench)
+        let due = self.next_at(alloc, net, rule, &leaf, &mut bench)?;
+        let tried = self.tried_of(leaf);
+        Ok(Answer { due, tried })
+    }
+
+    /// The point of a leaf's advice, where a repaired plan was looked for there.
+    fn tried_of(&self, leaf: Leaf) -> Option<Vec<i128>>
+        ensures { option_map (λ v. v.items) result ≡ tried_at self.now.repaired leaf.advice.point.items }
+    {
+        if self.repaired {
+            None
+        } else {
+            let advice = leaf.advice;
+            Some(advice.point)
+        }
     }
 
     /// The least leaf, solved, with the bench on which its program stands.
@@ -118,6 +153,7 @@ impl Search {
         requires bench { IsBench (net_of net.now) bench.old }
         requires form { bench.old.form ≡ self.now.options.form }
         ensures next { IfOk result (IsNext (net_of net.now) self.now.options (searched self.now) self.now.repaired
+            (tried_at self.now.repaired leaf.now.advice.point.items)
             (⟦<branching::RuleClosure as Fn(&branching::LeafView) -> usize>⟧.post rule.now.closure)) }
         ensures in_order { IfOk result (IsDo (λ entry. IsEntryInOrder (net_of net.now) (searched self.now) (shown_entry entry))) }
     {

@@ -6,6 +6,7 @@ ghost use Rattle.plan_core.specs.Views.{shown_plan};
 ghost use Rattle.leaf_cuts.specs.Leaves.{IsSolvedLeaf};
 ghost use Rattle.search_core.specs.Searches.{searched, IsSearchOf};
 ghost use Rattle.search_core.specs.Cases.{IsRepair, HasNoRepair};
+ghost use Rattle.search_core.specs.Next.{tried_at};
 
 use crate::search::Search;
 use blend_network::Network;
@@ -26,8 +27,9 @@ impl Search {
         requires search { IsSearchOf (net_of net.now) self.now }
         requires leaf { IsSolvedLeaf (net_of net.now) (searched self.now) leaf.now }
         ensures clear { IfOk result (λ o. IfSome o (λ _. self.now.repaired ≡ false)) }
-        ensures some { IfOk result (λ o. IfSome o (λ w. IsRepair (net_of net.now) (searched self.now) (shown_plan w))) }
-        ensures none { IfOk result (λ o. IfNone o (HasNoRepair (net_of net.now) (searched self.now) self.now.repaired)) }
+        ensures some { IfOk result (λ o. IfSome o (λ w. IsRepair (net_of net.now) (searched self.now) leaf.now.advice.point.items (shown_plan w))) }
+        ensures none { IfOk result (λ o. IfNone o (HasNoRepair (net_of net.now) (searched self.now) self.now.repaired
+            (tried_at self.now.repaired leaf.now.advice.point.items))) }
     {
         if self.repaired {
             return Ok(None);

@@ -8,7 +8,7 @@ ghost use Rattle.leaf_cuts.specs.Benches.{IsBench};
 ghost use Rattle.leaf_cuts.specs.Leaves.{IsSolvedLeaf};
 ghost use Rattle.search_core.specs.Searches.{searched, IsSearchOf};
 ghost use Rattle.search_core.specs.Cases.{HasPlan};
-ghost use Rattle.search_core.specs.Next.{GoesOn, IsNext, IsDo};
+ghost use Rattle.search_core.specs.Next.{GoesOn, IsNext, IsDo, tried_at};
 
 use crate::next::Next;
 use crate::options::Options;
@@ -31,12 +31,14 @@ impl Search {
         bench: &mut Bench,
     ) -> Result<Next, Memory>
         requires search { IsSearchOf (net_of net.now) self.now }
-        requires going { GoesOn (net_of net.now) self.now.options (searched self.now) self.now.repaired }
+        requires going { GoesOn (net_of net.now) self.now.options (searched self.now) self.now.repaired
+            (tried_at self.now.repaired leaf.now.advice.point.items) }
         requires few { length (searched self.now).tree.splits < self.now.options.nodes }
         requires leaf { IsSolvedLeaf (net_of net.now) (searched self.now) leaf.now }
         requires bench { IsBench (net_of net.now) bench.old }
         requires form { bench.old.form ≡ self.now.options.form }
         ensures next { IfOk result (IsNext (net_of net.now) self.now.options (searched self.now) self.now.repaired
+            (tried_at self.now.repaired leaf.now.advice.point.items)
             (⟦<branching::RuleClosure as Fn(&branching::LeafView) -> usize>⟧.post rule.now.closure)) }
         ensures in_order { IfOk result (IsDo (λ entry. IsEntryInOrder (net_of net.now) (searched self.now) (shown_entry entry))) }
     {

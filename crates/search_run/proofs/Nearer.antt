@@ -1,5 +1,5 @@
 -- Each step leaves fewer steps.
-use Rattle.std.proofs.Common.{◌≡◌, ℕ, ◌<◌, ◌≤◌, ◌==◌, ◌||◌, inl, inr, length, Bool, true, false, Option, Some, None, arith, rules, refl, sym, ap, subst, ◌∙◌}
+use Rattle.std.proofs.Common.{◌≡◌, ℕ, ◌<◌, ◌≤◌, ◌==◌, ◌||◌, inl, inr, List, length, Bool, true, false, Option, Some, None, ℤ, arith, rules, refl, sym, ap, subst, ◌∙◌}
 use Rattle.std.specs.Option.{ForSome}
 use Rattle.std.proofs.lemmas.Option.{none-some}
 use denote.Ref.{Bor}
@@ -170,11 +170,11 @@ module _ (n : Net) (s t : Searching) (is : IsSearchOf n s) (now : IsSearchOf n t
         none-now x made (none-kept (entries.split_of split l r) (λ w b. record { cheapest = b.cheapest; cheaper = b.cheaper }) none),
       )
 
-  pub nearer : (post : Bor View → ℕ → Type 0) (e : Entry) →
+  pub nearer : (post : Bor View → ℕ → Type 0) (tried : Option (List ℤ)) (e : Entry) →
       searched t ≡ after (searched s) (shown_entry e) → IsRepairedAfter n (searched s) (shown_entry e) s.repaired t.repaired
-      → IsEntryInOrder n (searched s) (shown_entry e) → IsEntry n s.options (searched s) s.repaired post e → left t < left s
-  nearer post (Improve plan) made flag order (inl start) = start-nearer (shown_plan plan) made (flag.started (shown_plan plan) start) start
-  nearer post (Improve plan) made flag order (inr repair) =
+      → IsEntryInOrder n (searched s) (shown_entry e) → IsEntry n s.options (searched s) s.repaired tried post e → left t < left s
+  nearer post tried (Improve plan) made flag order (inl start) = start-nearer (shown_plan plan) made (flag.started (shown_plan plan) start) start
+  nearer post tried (Improve plan) made flag order (inr repair) =
       repair-nearer (shown_plan plan) made repair.clear (flag.repaired repair.rooted.apart.start) order repair.rooted.apart.start
-  nearer post (Root proof) made flag order due = root-nearer (shown_proof proof) made flag due.1.is_open due.0.start
-  nearer post (SplitOf split l r) made flag order due = split-nearer (shown_split split) _ _ made flag due.1 due.0.rooted.apart.start
+  nearer post tried (Root proof) made flag order due = root-nearer (shown_proof proof) made flag due.1.is_open due.0.start
+  nearer post tried (SplitOf split l r) made flag order due = split-nearer (shown_split split) _ _ made flag due.1 due.0.rooted.apart.start

@@ -1,5 +1,5 @@
 -- What comes next is a step of the run, or its end; and steps one after another.
-use Rattle.std.proofs.Common.{◌≡◌, inl, inr, ◌<◌, ℕ, Bool, List, [], ◌∷◌, ◌++◌, length, Option, Some, option_map, ℤ, refl, sym, ap, subst, ◌∙◌}
+use Rattle.std.proofs.Common.{◌≡◌, inl, inr, ◌<◌, ℕ, Bool, List, [], ◌∷◌, ◌++◌, length, Option, Some, None, option_map, ℤ, refl, sym, ap, subst, ◌∙◌}
 use denote.Ref.{Bor}
 use Rattle.pool_model.specs.Network.{Net}
 use Rattle.row_model.specs.Boxes.{Box, left_of, right_of}
@@ -14,14 +14,19 @@ use Rattle.box_tree.specs.Counts.{AreCounts}
 use Rattle.box_tree.specs.Views.{shown_entry}
 use Rattle.box_tree.specs.declared.entry.Entry.{Entry}
 use Rattle.box_tree.specs.declared.entry.Entry.TheVariants.{Root, SplitOf, Improve}
-use Rattle.std.specs.Prelude.{Result, Ok, Err, IfOk}
+use Rattle.std.specs.Prelude.{Result, Ok, Err, IfOk, IsSomeAnd}
 use Rattle.branching.specs.Rows.{View, HasOpen}
 use Rattle.branching.specs.Rules.{IsPick}
 use Rattle.branching.specs.declared.name.RuleName.{RuleName}
 use Rattle.dual_rounding.specs.Price.{IsPriced}
 use Rattle.dual_rounding.proofs.Priced.{priced-raised}
 use Rattle.leaf_cuts.specs.Given.{IsGiven}
-use Rattle.search_core.specs.Next.{IsEntry, IsLeastSplit, IsNext}
+use Rattle.plan_core.specs.Views.{shown_plan}
+use Rattle.plan_repair.specs.Repairs.{IsGain}
+use Rattle.pool_model.specs.Plan.{Written}
+use Rattle.search_core.specs.Cases.{IsRepair}
+use Rattle.search_core.specs.Next.{IsAnswer, IsEntry, IsLeastSplit, IsNext, tried_of}
+use Rattle.search_core.specs.declared.next.Answer.{Answer}
 use Rattle.search_core.specs.declared.next.Next.{Next}
 use Rattle.search_core.specs.declared.next.Next.TheVariants as next
 use Rattle.search_core.specs.declared.options.Options.{Options}
@@ -56,12 +61,17 @@ cut-of n o s cuts split left right counted few is =
 
 -- ---- an entry that comes next is due
 
-pub due-of : (n : Net) (o : Orders) (s : Searched) (repaired : Bool) (cuts : List ℕ) (e : Entry) → AreCounts n s.tree.splits cuts
-    → IsEntry n (options_of o) s repaired (picked o.rule cuts) e → IsDue n o s (shown_entry e)
-due-of n o s repaired cuts (Improve plan) counted (inl start) = inl start
-due-of n o s repaired cuts (Improve plan) counted (inr repair) = inr (repair.rooted, repair.repair)
-due-of n o s repaired cuts (Root proof) counted is = is
-due-of n o s repaired cuts (SplitOf split left right) counted is =
+-- a repaired plan is a gain, from whatever point it was
+repair-gain : (n : Net) (s : Searched) (tried : Option (List ℤ)) (w : Written) → IsSomeAnd tried (λ point. IsRepair n s point w) → IsGain n s.best w
+repair-gain n s None w is = absurd is
+repair-gain n s (Some point) w is = is.gain
+
+pub due-of : (n : Net) (o : Orders) (s : Searched) (repaired : Bool) (tried : Option (List ℤ)) (cuts : List ℕ) (e : Entry) → AreCounts n s.tree.splits cuts
+    → IsEntry n (options_of o) s repaired tried (picked o.rule cuts) e → IsDue n o s (shown_entry e)
+due-of n o s repaired tried cuts (Improve plan) counted (inl start) = inl start
+due-of n o s repaired tried cuts (Improve plan) counted (inr repair) = inr (repair.rooted, repair-gain n s tried (shown_plan plan) repair.repair)
+due-of n o s repaired tried cuts (Root proof) counted is = is
+due-of n o s repaired tried cuts (SplitOf split left right) counted is =
     (is.0.rooted, cut-of n o s cuts split (option_map shown_proof left) (option_map shown_proof right) counted is.1 is.2)
 
 -- ---- one step more
@@ -90,39 +100,42 @@ way-more n o begun s t way next = record {
   made = next.made ∙ ap (λ (x : Searched). after x next.entry) way.made ∙ sym (made-more begun way.entries next.entry);
 }
 
--- ---- what comes next, under the options of the orders
+-- ---- what comes next, under the options of the orders, whatever point was tried
 
 module _ (n : Net) (o : Orders) (s : Searched) (options : Options) (asked : options ≡ options_of o) (repaired : Bool) (cuts : List ℕ) (counted : AreCounts n s.tree.splits cuts) where
-  pub next-step : (t : Searched) (e : Entry) → IsNext n options s repaired (picked o.rule cuts) (next.Do e) → IsEntryInOrder n s (shown_entry e) → t ≡ after s (shown_entry e)
-      → IsNextStep n o s t
-  next-step t e is order made = record {
+  pub next-step : (tried : Option (List ℤ)) (t : Searched) (e : Entry) → IsNext n options s repaired tried (picked o.rule cuts) (next.Do e) → IsEntryInOrder n s (shown_entry e)
+      → t ≡ after s (shown_entry e) → IsNextStep n o s t
+  next-step tried t e is order made = record {
     entry = shown_entry e;
-    step = record { in_order = order; due = due-of n o s repaired cuts e counted (subst (λ (x : Options). IsEntry n x s repaired (picked o.rule cuts) e) asked is) };
+    step = record {
+      in_order = order;
+      due = due-of n o s repaired tried cuts e counted (subst (λ (x : Options). IsEntry n x s repaired tried (picked o.rule cuts) e) asked is);
+    };
     made = made;
   }
 
-  pub next-closed : IsNext n options s repaired (picked o.rule cuts) next.Closed → IsEnd n o s ended.Closed
-  next-closed is = subst (λ (x : Options). IsNext n x s repaired (picked o.rule cuts) next.Closed) asked is
+  pub next-closed : IsNext n options s repaired None (picked o.rule cuts) next.Closed → IsEnd n o s ended.Closed
+  next-closed is = subst (λ (x : Options). IsNext n x s repaired None (picked o.rule cuts) next.Closed) asked is
 
-  pub next-infeasible : IsNext n options s repaired (picked o.rule cuts) next.Infeasible → IsEnd n o s ended.Infeasible
+  pub next-infeasible : IsNext n options s repaired None (picked o.rule cuts) next.Infeasible → IsEnd n o s ended.Infeasible
   next-infeasible is = is
 
-  pub next-stopped : IsNext n options s repaired (picked o.rule cuts) next.Stopped → IsEnd n o s ended.Stopped
-  next-stopped is =
-      let h : IsNext n (options_of o) s repaired (picked o.rule cuts) next.Stopped
-      = subst (λ (x : Options). IsNext n x s repaired (picked o.rule cuts) next.Stopped) asked is in
+  pub next-stopped : (tried : Option (List ℤ)) → IsNext n options s repaired tried (picked o.rule cuts) next.Stopped → IsEnd n o s ended.Stopped
+  next-stopped tried is =
+      let h : IsNext n (options_of o) s repaired tried (picked o.rule cuts) next.Stopped
+      = subst (λ (x : Options). IsNext n x s repaired tried (picked o.rule cuts) next.Stopped) asked is in
       (h.0.rooted, h.1, h.2)
 
-  pub next-stuck : IsNext n options s repaired (picked o.rule cuts) next.Stuck → IsEnd n o s ended.Stuck
-  next-stuck is =
-      let h : IsNext n (options_of o) s repaired (picked o.rule cuts) next.Stuck
-      = subst (λ (x : Options). IsNext n x s repaired (picked o.rule cuts) next.Stuck) asked is in
+  pub next-stuck : (tried : Option (List ℤ)) → IsNext n options s repaired tried (picked o.rule cuts) next.Stuck → IsEnd n o s ended.Stuck
+  next-stuck tried is =
+      let h : IsNext n (options_of o) s repaired tried (picked o.rule cuts) next.Stuck
+      = subst (λ (x : Options). IsNext n x s repaired tried (picked o.rule cuts) next.Stuck) asked is in
       (h.0.rooted, h.1, h.2, h.3)
 
-  pub next-undecided : IsNext n options s repaired (picked o.rule cuts) next.Undecided → IsEnd n o s ended.Undecided
-  next-undecided is =
-      let h : IsNext n (options_of o) s repaired (picked o.rule cuts) next.Undecided
-      = subst (λ (x : Options). IsNext n x s repaired (picked o.rule cuts) next.Undecided) asked is in
+  pub next-undecided : (tried : Option (List ℤ)) → IsNext n options s repaired tried (picked o.rule cuts) next.Undecided → IsEnd n o s ended.Undecided
+  next-undecided tried is =
+      let h : IsNext n (options_of o) s repaired tried (picked o.rule cuts) next.Undecided
+      = subst (λ (x : Options). IsNext n x s repaired tried (picked o.rule cuts) next.Undecided) asked is in
       (h.0.rooted, h.1, h.2)
 
 -- ---- a closure that keeps to the rule
@@ -137,11 +150,11 @@ pick-weaker rule cuts post v split is pick =
       split_at = pick.split_at;
     }
 
-entry-weaker : (n : Net) (o : Options) (s : Searched) (repaired : Bool) (rule : RuleName) (cuts : List ℕ) (post : Bor View → ℕ → Type 0) (e : Entry) → Keeps rule cuts post
-    → IsEntry n o s repaired post e → IsEntry n o s repaired (picked rule cuts) e
-entry-weaker n o s repaired rule cuts post (Improve plan) keeps is = is
-entry-weaker n o s repaired rule cuts post (Root proof) keeps is = is
-entry-weaker n o s repaired rule cuts post (SplitOf split left right) keeps is =
+entry-weaker : (n : Net) (o : Options) (s : Searched) (repaired : Bool) (tried : Option (List ℤ)) (rule : RuleName) (cuts : List ℕ) (post : Bor View → ℕ → Type 0) (e : Entry) → Keeps rule cuts post
+    → IsEntry n o s repaired tried post e → IsEntry n o s repaired tried (picked rule cuts) e
+entry-weaker n o s repaired tried rule cuts post (Improve plan) keeps is = is
+entry-weaker n o s repaired tried rule cuts post (Root proof) keeps is = is
+entry-weaker n o s repaired tried rule cuts post (SplitOf split left right) keeps is =
     let l = is.2 in (
       is.0,
       is.1,
@@ -156,16 +169,16 @@ entry-weaker n o s repaired rule cuts post (SplitOf split left right) keeps is =
       },
     )
 
-pub next-weaker : (n : Net) (o : Options) (s : Searched) (repaired : Bool) (rule : RuleName) (cuts : List ℕ) (post : Bor View → ℕ → Type 0) (answer : Next) → Keeps rule cuts post
-    → IsNext n o s repaired post answer → IsNext n o s repaired (picked rule cuts) answer
-next-weaker n o s repaired rule cuts post (next.Do e) keeps is = entry-weaker n o s repaired rule cuts post e keeps is
-next-weaker n o s repaired rule cuts post next.Infeasible keeps is = is
-next-weaker n o s repaired rule cuts post next.Closed keeps is = is
-next-weaker n o s repaired rule cuts post next.Stopped keeps is = is
-next-weaker n o s repaired rule cuts post next.Stuck keeps is = is
-next-weaker n o s repaired rule cuts post next.Undecided keeps is = is
+pub next-weaker : (n : Net) (o : Options) (s : Searched) (repaired : Bool) (tried : Option (List ℤ)) (rule : RuleName) (cuts : List ℕ) (post : Bor View → ℕ → Type 0) (answer : Next) → Keeps rule cuts post
+    → IsNext n o s repaired tried post answer → IsNext n o s repaired tried (picked rule cuts) answer
+next-weaker n o s repaired tried rule cuts post (next.Do e) keeps is = entry-weaker n o s repaired tried rule cuts post e keeps is
+next-weaker n o s repaired tried rule cuts post next.Infeasible keeps is = is
+next-weaker n o s repaired tried rule cuts post next.Closed keeps is = is
+next-weaker n o s repaired tried rule cuts post next.Stopped keeps is = is
+next-weaker n o s repaired tried rule cuts post next.Stuck keeps is = is
+next-weaker n o s repaired tried rule cuts post next.Undecided keeps is = is
 
-pub each-weaker : {E : Type 0} (n : Net) (o : Options) (s : Searched) (repaired : Bool) (rule : RuleName) (cuts : List ℕ) (post : Bor View → ℕ → Type 0) (r : Result Next E) → Keeps rule cuts post
-    → IfOk r (IsNext n o s repaired post) → IfOk r (IsNext n o s repaired (picked rule cuts))
-each-weaker n o s repaired rule cuts post (Ok answer) keeps h = next-weaker n o s repaired rule cuts post answer keeps h
+pub each-weaker : {E : Type 0} (n : Net) (o : Options) (s : Searched) (repaired : Bool) (rule : RuleName) (cuts : List ℕ) (post : Bor View → ℕ → Type 0) (r : Result Answer E) → Keeps rule cuts post
+    → IfOk r (IsAnswer n o s repaired post) → IfOk r (IsAnswer n o s repaired (picked rule cuts))
+each-weaker n o s repaired rule cuts post (Ok answer) keeps h = next-weaker n o s repaired (tried_of answer) rule cuts post answer.due keeps h
 each-weaker n o s repaired rule cuts post (Err e) keeps h = tt

@@ -12,7 +12,8 @@ use Rattle.branching.specs.declared.name.RuleName.{RuleName}
 use Rattle.branching.specs.declared.name.RuleName.TheVariants.{First, Widest, Violated, Fewest}
 use Rattle.dual_rounding.specs.Price.{IsPriced}
 use Rattle.dual_rounding.specs.Programs.{has_row}
-use Rattle.search_core.specs.Cases.{IsBetterStart, IsCuttable, IsRepair, IsRootProof}
+use Rattle.plan_repair.specs.Repairs.{IsGain}
+use Rattle.search_core.specs.Cases.{IsBetterStart, IsCuttable, IsRootProof}
 use Rattle.leaf_cuts.specs.Halvings.{middle_at}
 use Rattle.search_core.specs.Next.{IsApart, IsRooted}
 use Rattle.search_run.specs.Orders.{options_of}
@@ -81,9 +82,10 @@ pub record IsCut (n : Net) (o : Orders) (s : Searched) (split : Split) (left rig
 
 -- ---- steps
 
--- The entry is due: the cheapest starting plan, while it is better; then a proof of the root; then a repaired plan; then a cut.
+-- The entry is due: the cheapest starting plan, while it is better; then a proof of the root; then a plan that obeys and is cheaper than
+-- the best one, of whose making nothing is said; then a cut.
 abbrev pub IsDue : Net → Orders → Searched → Entry → Type 0
-IsDue n o s (improve plan) = IsBetterStart n s plan ⊎ (IsRooted n (options_of o) s × IsRepair n s plan)
+IsDue n o s (improve plan) = IsBetterStart n s plan ⊎ (IsRooted n (options_of o) s × IsGain n s.best plan)
 IsDue n o s (root_proof proof) = IsApart n (options_of o) s × IsRootProof n o.form s proof
 IsDue n o s (split_of split left right) = IsRooted n (options_of o) s × IsCut n o s split left right
 

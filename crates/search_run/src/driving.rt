@@ -18,7 +18,7 @@ use crate::rules::next_by;
 use blend_network::Network;
 use box_tree::{Entry, Tree};
 use edge_io::Memory;
-use search_core::{Next, Search};
+use search_core::{Answer, Next, Search};
 use std::alloc::Global;
 
 /// Goes on from a tree of the network until nothing more is to be done for the orders, and says how that ended. The only error is
@@ -76,7 +76,8 @@ fn step(
     ensures ended { IfOk result (λ o. IfSome o (IsEnd (net_of net.now) orders (searched search.new))) }
     ensures unchanged { IfOk result (λ o. IfSome o (λ _. searched search.new ≡ searched search.old)) }
 {
-    match next_by(alloc, net, orders.rule, search)? {
+    let Answer { due, .. } = next_by(alloc, net, orders.rule, search)?;
+    match due {
         Next::Do(entry) => {
             take(net, search, entry)?;
             Ok(None)

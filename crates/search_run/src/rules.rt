@@ -5,14 +5,14 @@ ghost use Rattle.pool_model.specs.Network.{net_of};
 ghost use Rattle.row_model.specs.Entries.{IsEntryInOrder};
 ghost use Rattle.box_tree.specs.Views.{shown_entry};
 ghost use Rattle.branching.specs.Rows.{HasOpen};
-ghost use Rattle.search_core.specs.Next.{IsDo, IsNext};
+ghost use Rattle.search_core.specs.Next.{IsAnswer, IsDo};
 ghost use Rattle.search_core.specs.Searches.{searched, IsSearchOf};
 ghost use Rattle.search_run.specs.Orders.{picked, IsPickedBy, Keeps};
 
 use blend_network::Network;
 use branching::{CutRule, LeafView, RuleName, fewest, first_open, most_violated, widest};
 use edge_io::Memory;
-use search_core::{Next, Search};
+use search_core::{Answer, Search};
 use std::alloc::Global;
 
 /// What comes next for a search, by the rule of a name. The rule carries how many splits are on each coordinate now, so it is made
@@ -22,10 +22,10 @@ pub fn next_by(
     net: &Network,
     name: RuleName,
     search: &Search,
-) -> Result<Next, Memory>
+) -> Result<Answer, Memory>
     requires { IsSearchOf (net_of net.now) search.now }
-    ensures next { IfOk result (IsNext (net_of net.now) search.now.options (searched search.now) search.now.repaired (picked name search.now.tree.kept.cuts)) }
-    ensures in_order { IfOk result (IsDo (λ entry. IsEntryInOrder (net_of net.now) (searched search.now) (shown_entry entry))) }
+    ensures next { IfOk result (IsAnswer (net_of net.now) search.now.options (searched search.now) search.now.repaired (picked name search.now.tree.kept.cuts)) }
+    ensures in_order { IfOk result (λ a. IsDo (λ entry. IsEntryInOrder (net_of net.now) (searched search.now) (shown_entry entry)) a.due) }
 {
     let cuts = Vec::from_slice(alloc, search.tree().cuts())?;
     let closure = Box::new(
@@ -46,11 +46,11 @@ fn next_under(
     name: RuleName,
     search: &Search,
     rule: &CutRule,
-) -> Result<Next, Memory>
+) -> Result<Answer, Memory>
     requires search { IsSearchOf (net_of net.now) search.now }
     requires rule { Keeps name search.now.tree.kept.cuts (⟦<branching::RuleClosure as Fn(&branching::LeafView) -> usize>⟧.post rule.now.closure) }
-    ensures next { IfOk result (IsNext (net_of net.now) search.now.options (searched search.now) search.now.repaired (picked name search.now.tree.kept.cuts)) }
-    ensures in_order { IfOk result (IsDo (λ entry. IsEntryInOrder (net_of net.now) (searched search.now) (shown_entry entry))) }
+    ensures next { IfOk result (IsAnswer (net_of net.now) search.now.options (searched search.now) search.now.repaired (picked name search.now.tree.kept.cuts)) }
+    ensures in_order { IfOk result (λ a. IsDo (λ entry. IsEntryInOrder (net_of net.now) (searched search.now) (shown_entry entry)) a.due) }
 {
     search.next(alloc, net, rule)
 }

@@ -1,6 +1,6 @@
 -- A run with a journal: from what the search with it leaves to what the program leaves.
-use Rattle.std.proofs.Common.{◌≡◌, ◌⊎◌, inl, inr, ℕ, List, Option, Some, None, Ok, Err, refl, sym, ap, subst, ◌∙◌, arith}
-use Rattle.disk_calls.specs.Disks.{DiskTold, LeavesOnly, IsWithin, IsOneOf}
+use Rattle.std.proofs.Common.{◌≡◌, ◌⊎◌, inl, inr, ℕ, List, [], ◌∷◌, ◌++◌, length, Option, Some, Ok, Err, refl, sym, ap, subst, ◌∙◌, arith}
+use Rattle.disk_calls.specs.Disks.{DiskTold, Finds, LeavesOnly, IsWithin}
 use Rattle.disk_calls.proofs.Moments.{goes_further, leaves-weaker, now-has}
 use Rattle.edge_io.specs.Writing.{behind}
 use Rattle.pool_model.specs.Network.{Net, Network, IsLimited, net_of}
@@ -11,6 +11,8 @@ use Rattle.cert_format.specs.Views.{shown_cert}
 use Rattle.cert_format.specs.Text.{text_of}
 use Rattle.cli_words.specs.Requests.{Solving}
 use Rattle.network_text.specs.Canonical.{canonical_text}
+use Rattle.cert_lengths.specs.Lengths.{HasFewRows}
+use Rattle.cert_lengths.proofs.ValidTexts.{few_rows-grown}
 use Rattle.tree_certificate.specs.Certificates.{cert_of}
 use Rattle.journal_format.specs.Files.{Stands}
 use Rattle.journal_format.specs.declared.fault.JournalFault.{JournalFault}
@@ -24,11 +26,13 @@ use Rattle.search_run.specs.declared.orders.Orders.{Orders}
 use Rattle.search_run.specs.declared.ended.Ended.{Ended}
 use Rattle.search_run.specs.declared.ended.Ended.TheVariants as ends
 use Rattle.recorded_run.specs.Recorded.{BeginsWith, IsBetween, IsCause, IsFreeFault, IsLeftAlone, IsNetworksOwn, StandsNow, Ends}
-use Rattle.recorded_run.specs.Sessions.{IsResumed}
+use Rattle.recorded_run.specs.Acknowledged.{KeepsAcknowledged}
+use Rattle.recorded_run.specs.Sessions.{IsResumed, IsRunFrom}
 use Rattle.recorded_run.specs.declared.fault.RunFault.{RunFault}
 use Rattle.recorded_run.specs.declared.fault.RunFault.TheVariants as faults
+use Rattle.recorded_run.proofs.Acknowledging.{behind-keeps}
 use Rattle.recorded_run.proofs.Causes.{no_cause}
-use Rattle.solve_command.specs.Journaled.{IsRefused, IsForeign, IsFailed, IsUnopened, IsCauseOf, Holds, IsPrintOf, IsAttached, Journaled}
+use Rattle.solve_command.specs.Journaled.{IsJournalRefused, IsForeign, IsFailed, IsUnopened, IsJournalCause, HoldsOnDisk, IsPrintOf, IsAttached, Journaled}
 use Rattle.run_status.specs.Reads.{Files, ReadsUnder}
 use Rattle.solve_command.specs.Recorded.{IsOpened}
 use Rattle.solve_command.specs.Solution.{status_of}
@@ -41,9 +45,8 @@ use Rattle.solve_command.proofs.Solutions.{solved-from}
 
 -- ---- the file that an attach reads
 
-pub one_of-reaches : (reads : Option (List ℕ)) (images : List ℕ → Type 0) → IsOneOf reads images → IsWithin reads 0
-one_of-reaches None images h = absurd h
-one_of-reaches (Some file) images h = omega arith
+pub finds-reaches : (old new : DiskTold) → Finds old new → IsWithin new.reads 0
+finds-reaches old new at = subst (λ (r : Option (List ℕ)). IsWithin r 0) (sym at.read) (omega arith)
 
 -- what follows an attach leaves no more than was there before, beside its own
 pub behind-attach : (old mid new : DiskTold) (Q : List ℕ → Type 0) → IsQuiet old mid → LeavesOnly mid new (λ c. mid.may_leave c ⊎ Q c) → LeavesOnly old new (λ c. old.may_leave c ⊎ Q c)
@@ -56,7 +59,7 @@ behind-attach old mid new Q attach run =
 -- ---- causes
 
 -- the cause of a fault is that of its status
-status-cause : (n : Net) (text file : List ℕ) (fault : RunFault) → IsCause n text file fault → IsCauseOf n text file (fault_status fault)
+status-cause : (n : Net) (text file : List ℕ) (fault : RunFault) → IsCause n text file fault → IsJournalCause n text file (fault_status fault)
 status-cause n text file (faults.Journal journal_faults.Disk) h = absurd h
 status-cause n text file (faults.Journal journal_faults.NotAJournal) h = h
 status-cause n text file (faults.Journal (journal_faults.UnknownVersion version)) h = h
@@ -66,7 +69,7 @@ status-cause n text file (faults.Journal journal_faults.Memory) h = absurd h
 status-cause n text file (faults.OutOfOrder number) h = inr h
 
 -- a cause of a status is that of a fault
-cause-fault : (n : Net) (text file : List ℕ) (status : Status) → IsCauseOf n text file status → (fault : RunFault) × (fault_status fault ≡ status) × IsCause n text file fault
+cause-fault : (n : Net) (text file : List ℕ) (status : Status) → IsJournalCause n text file status → (fault : RunFault) × (fault_status fault ≡ status) × IsCause n text file fault
 cause-fault n text file statuses.OtherNetwork h = (faults.Journal journal_faults.OtherNetwork, refl, h)
 cause-fault n text file (statuses.BadJournal number) (inl h) = (faults.Journal (journal_faults.BadRecord number), refl, h)
 cause-fault n text file (statuses.BadJournal number) (inr h) = (faults.OutOfOrder number, refl, h)
@@ -80,25 +83,25 @@ failed-status (faults.Journal fault) (inl e) = subst (λ (f : JournalFault). IsF
 failed-status (faults.Journal fault) (inr e) = subst (λ (f : JournalFault). IsFailed (fault_status (faults.Journal f))) (sym e) tt
 failed-status (faults.OutOfOrder number) h = absurd h
 
-failed-not-refused : (status : Status) → IsFailed status → ¬ IsRefused status
+failed-not-refused : (status : Status) → IsFailed status → ¬ IsJournalRefused status
 failed-not-refused statuses.DiskFault h r = r
 failed-not-refused statuses.OutOfMemory h r = r
 failed-not-refused status h r = h
 
-foreign-refused : (status : Status) → IsForeign status → IsRefused status
+foreign-refused : (status : Status) → IsForeign status → IsJournalRefused status
 foreign-refused statuses.OtherNetwork h = tt
 foreign-refused (statuses.UnknownVersion version) h = tt
 foreign-refused statuses.NotAJournal h = tt
 foreign-refused status h = absurd h
 
 -- a file that stands for entries in order is not refused
-no-refusal : (n : Net) (text file : List ℕ) (status : Status) → (IsRefused status → IsCauseOf n text file status) → (list : List Entry) → Stands file text list → AreInOrder n list → ¬ IsRefused status
+no-refusal : (n : Net) (text file : List ℕ) (status : Status) → (IsJournalRefused status → IsJournalCause n text file status) → (list : List Entry) → Stands file text list → AreInOrder n list → ¬ IsJournalRefused status
 no-refusal n text file status caused list stands are refused =
     let cause = cause-fault n text file status (caused refused) in
     no_cause n text file list cause.0 stands are cause.2
 
 -- a search that ended is neither refused nor failed
-ended-not-refused : (ended : Ended) → ¬ IsRefused (status_of ended)
+ended-not-refused : (ended : Ended) → ¬ IsJournalRefused (status_of ended)
 ended-not-refused ends.Closed h = h
 ended-not-refused ends.Stopped h = h
 ended-not-refused ends.Stuck h = h
@@ -128,6 +131,17 @@ ended-whole ends.Undecided = tt
 
 -- ---- a file that was read
 
+-- what is printed of a search that went on from these entries
+print-from : (n : Net) (o : Orders) (first : List Entry) → IsLimited n → AreInOrder n first → (found : Searched) (ended : Ended) (Prints : Cert → Type 0)
+    → IsRun n o (made_by first) found ended → IsFound n o (made_by first) found ended → IsValid n (cert_of n found) → Prints (cert_of n found)
+    → IsPrintOf n o (made_by first) found (status_of ended) Prints
+print-from n o first limited are found ended Prints run search valid prints = record {
+  prints = prints;
+  solution = solved-from n o (made_by first) found ended (cert_of n found) limited run search refl valid;
+  grown = search.grown;
+  no_worse = no_worse n limited o first found ended are run;
+}
+
 -- what is printed of the last list
 module _ (n : Net) (text : List ℕ) (o : Orders) (first : List Entry) (file : List ℕ) (limited : IsLimited n) (own : IsNetworksOwn n text first file) where
   print-of : (mid : DiskTold) (found : Searched) (ended : Ended) (last : List Entry) (Prints : Cert → Type 0) → mid.reads ≡ Some file → IsResumed n o text mid found ended → found ≡ made_by last
@@ -136,14 +150,9 @@ module _ (n : Net) (text : List ℕ) (o : Orders) (first : List Entry) (file : L
       let same = one_standing file text resumed.first first (resumed.stands file is) own.stands in
       let run : IsRun n o (made_by first) found ended = subst (λ (l : List Entry). IsRun n o (made_by l) found ended) same resumed.run in
       let search : IsFound n o (made_by first) found ended = subst (λ (l : List Entry). IsFound n o (made_by l) found ended) same resumed.search in
-      subst (λ (s : Searched). IsPrintOf n o (made_by first) s (status_of ended) Prints) made record {
-        prints = prints;
-        solution = solved-from n o (made_by first) found ended (cert_of n found) limited run search refl valid;
-        grown = search.grown;
-        no_worse = no_worse n limited o first found ended own.in_order run;
-      }
+      subst (λ (s : Searched). IsPrintOf n o (made_by first) s (status_of ended) Prints) made (print-from n o first limited own.in_order found ended Prints run search valid prints)
 
-  ends-holds : (last : List Entry) (s : Searched) (d : DiskTold) → Ends n text last s d → Holds n text last d
+  ends-holds : (last : List Entry) (s : Searched) (d : DiskTold) → Ends n text last s d → HoldsOnDisk n text last d
   ends-holds last s d at = record { file = at.file; on_disk = at.on_disk; own = at.own }
 
 fault-not-ended : (fault : RunFault) → ¬ IsPrinted (fault_status fault)
@@ -173,10 +182,19 @@ ended-printed statuses.Infeasible h = tt
 ended-printed statuses.Undecided h = tt
 ended-printed status h = absurd h
 
-module _ (n : Net) (text : List ℕ) (o : Orders) (file : List ℕ) (old mid new : DiskTold) (image : old.may_leave file) (attach : IsQuiet old mid) where
+module _ (n : Net) (text : List ℕ) (o : Orders) (file : List ℕ) (old mid new : DiskTold) (image : old.may_leave file) (found_is : new.attached ≡ old.attached ++ file ∷ [])
+    (attach : IsQuiet old mid) where
   -- what the run behind the attach leaves of an own file
   abbrev Goes : List Entry → (List Entry → Type 0) → Type 0
-  Goes first More = (last : List Entry) × BeginsWith last first × LeavesOnly mid new (λ c. mid.may_leave c ⊎ IsBetween n text first last c) × More last
+  Goes first IsKnown = IsRunFrom n text o first mid new IsKnown
+
+  goes-keeps : (first : List Entry) (IsKnown : List Entry → Type 0) (goes : Goes first IsKnown) → KeepsAcknowledged n text first goes.last old new
+  goes-keeps first IsKnown goes = behind-keeps n text first goes.last old mid new attach goes.begins goes.any_moment goes.acknowledged
+
+  goes-few : (first : List Entry) (IsKnown : List Entry → Type 0) (goes : Goes first IsKnown) → HasFewRows n o.nodes → HasFewRows n (length (made_by first).tree.splits)
+      → (list : List Entry) → BeginsWith goes.last list → HasFewRows n (length (made_by list).tree.splits)
+  goes-few first IsKnown goes asked there list begins =
+      few_rows-grown n (length (made_by list).tree.splits) o.nodes (length (made_by first).tree.splits) (goes.few list begins) asked there
 
   abbrev Attached : Status → (Cert → Type 0) → Type 0
   Attached status Prints = IsAttached n text o old new status Prints
@@ -196,25 +214,29 @@ module _ (n : Net) (text : List ℕ) (o : Orders) (file : List ℕ) (old mid new
       Attached (fault_status fault) Prints
   attached-unsolved fault Prints refused decided alone own =
       let status = fault_status fault in
-      let caused : IsRefused status → IsCauseOf n text file status =
+      let caused : IsJournalRefused status → IsJournalCause n text file status =
       λ r. elim refused [ inl free ↦ absurd (failed-not-refused status (failed-status fault free) r) | inr cause ↦ status-cause n text file fault cause ] in
       record {
         file = file;
         image = image;
+        found = found_is;
         caused = caused;
         decided = λ other has.
             let cause = cause-fault n text file other has in
             elim (decided cause.0 cause.2) [ inl free ↦ inr (failed-status fault free) | inr e ↦ inl (ap fault_status e ∙ cause.1) ];
         taken = no-refusal n text file status caused;
         untouched = λ foreign. left-alone fault foreign alone;
+        resumed = λ ended. absurd (fault-not-ended fault (ended-printed status ended));
         own = λ first is.
             let goes = own first is in
             record {
-              last = goes.0;
-              begins = goes.1;
-              any_moment = behind-attach old mid new (IsBetween n text first goes.0) attach goes.2;
+              last = goes.last;
+              begins = goes.begins;
+              any_moment = behind-attach old mid new (IsBetween n text first goes.last) attach goes.any_moment;
+              acknowledged = goes-keeps first _ goes;
+              few = goes-few first _ goes;
               held = λ printed. absurd (fault-not-ended fault printed);
-              stands = λ memory. goes.3 (memory-fault fault memory);
+              stands = λ memory. goes.known (memory-fault fault memory);
               printed = λ ended. absurd (fault-not-ended fault (ended-printed status ended));
             };
       }
@@ -226,46 +248,75 @@ module _ (n : Net) (text : List ℕ) (o : Orders) (file : List ℕ) (old mid new
   attached-solved limited found ended Prints is sound resumed valid prints own = record {
     file = file;
     image = image;
+    found = found_is;
     caused = λ r. absurd (ended-not-refused ended r);
     decided = λ other has. let cause = cause-fault n text file other has in absurd (sound cause.0 cause.2);
     taken = λ list stands are r. ended-not-refused ended r;
     untouched = λ foreign. absurd (ended-not-refused ended (foreign-refused (status_of ended) foreign));
+    resumed = λ whole. record {
+      first = resumed.first;
+      stands = resumed.stands file is;
+      in_order = resumed.in_order;
+      found = found;
+      print = print-from n o resumed.first limited resumed.in_order found ended Prints resumed.run resumed.search valid prints;
+    };
     own = λ first at.
         let goes = own first at in
         record {
-          last = goes.0;
-          begins = goes.1;
-          any_moment = behind-attach old mid new (IsBetween n text first goes.0) attach goes.2;
-          held = λ printed. ends-holds n text o first file limited at goes.0 found new goes.3;
+          last = goes.last;
+          begins = goes.begins;
+          any_moment = behind-attach old mid new (IsBetween n text first goes.last) attach goes.any_moment;
+          acknowledged = goes-keeps first _ goes;
+          few = goes-few first _ goes;
+          held = λ printed. ends-holds n text o first file limited at goes.last found new goes.known;
           stands = λ memory. absurd (ended-not-failed ended (subst IsFailed (sym memory) tt));
-          printed = λ whole. print-of n text o first file limited at mid found ended goes.0 Prints is resumed goes.3.made valid prints;
+          printed = λ whole. print-of n text o first file limited at mid found ended goes.last Prints is resumed goes.known.made valid prints;
         };
   }
 
 -- ---- from what was found to what was printed
 
 module _ (n : Net) (text : List ℕ) (o : Orders) (old new : DiskTold) (Found Prints : Cert → Type 0) where
+  print-as : (begun found : Searched) (status : Status) → (IsEnded status → (c : Cert) → Found c → Prints c) → IsEnded status → IsPrintOf n o begun found status Found
+      → IsPrintOf n o begun found status Prints
+  print-as begun found status prints whole print = record {
+    prints = prints whole (cert_of n found) print.prints;
+    solution = print.solution;
+    grown = print.grown;
+    no_worse = print.no_worse;
+  }
+
   -- the same of what is printed in place of what was found
   attached-as : (status : Status) → IsAttached n text o old new status Found → (IsEnded status → (c : Cert) → Found c → Prints c) →
       IsAttached n text o old new status Prints
   attached-as status at prints = record {
     file = at.file;
     image = at.image;
+    found = at.found;
     caused = at.caused;
     decided = at.decided;
     taken = at.taken;
     untouched = at.untouched;
+    resumed = λ whole.
+        let from = at.resumed whole in
+        record {
+          first = from.first;
+          stands = from.stands;
+          in_order = from.in_order;
+          found = from.found;
+          print = print-as (made_by from.first) from.found status prints whole from.print;
+        };
     own = λ first is.
         let run = at.own first is in
         record {
           last = run.last;
           begins = run.begins;
           any_moment = run.any_moment;
+          acknowledged = run.acknowledged;
+          few = run.few;
           held = run.held;
           stands = run.stands;
-          printed = λ whole.
-              let print = run.printed whole in
-              record { prints = prints whole (cert_of n (made_by run.last)) print.prints; solution = print.solution; grown = print.grown; no_worse = print.no_worse };
+          printed = λ whole. print-as (made_by first) (made_by run.last) status prints whole (run.printed whole);
         };
   }
 
@@ -274,6 +325,7 @@ module _ (n : Net) (text : List ℕ) (o : Orders) (old new : DiskTold) (Found Pr
   attached-cut ended at = record {
     file = at.file;
     image = at.image;
+    found = at.found;
     caused = λ r. absurd r;
     decided = λ cause has. elim (at.decided cause has) [
       | inl is ↦ let fault = cause-fault n text at.file cause has in absurd (fault-not-ended fault.0 (subst IsPrinted (is ∙ sym fault.1) (ended-printed (status_of ended) (ended-whole ended))))
@@ -281,12 +333,15 @@ module _ (n : Net) (text : List ℕ) (o : Orders) (old new : DiskTold) (Found Pr
     ];
     taken = λ list stands are r. r;
     untouched = λ foreign. absurd foreign;
+    resumed = λ whole. absurd whole;
     own = λ first is.
         let run = at.own first is in
         record {
           last = run.last;
           begins = run.begins;
           any_moment = run.any_moment;
+          acknowledged = run.acknowledged;
+          few = run.few;
           held = λ printed. run.held (ended-printed (status_of ended) (ended-whole ended));
           stands = λ memory. absurd (cc);
           printed = λ whole. absurd whole;
@@ -301,7 +356,7 @@ module _ (files : Option Files) (s : Solving) (network : Network) (read : ReadsU
 
   pub journaled-printed : (solution : Solution) (status : Status) → EndsWith (status_of solution.ended) status → (IsEnded status → Prints (shown_cert solution.certificate))
       → IsOpened (net_of network) (canonical_text network) (orders_of s) old new (Ok solution) → Journaled files s old new status Prints
-  journaled-printed solution status ends whole (inl none) = absurd (ended-not-unopened solution.ended none.0)
+  journaled-printed solution status ends whole (inl none) = absurd (ended-not-unopened solution.ended none.unopened)
   journaled-printed solution status (inl e) whole (inr at) = inr record {
     network = network;
     read = read;

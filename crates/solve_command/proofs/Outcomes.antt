@@ -123,7 +123,7 @@ no_write_fault (faults.Journal (journal_faults.BadRecord number)) e = cc
 no_write_fault (faults.Journal journal_faults.Memory) e = cc
 no_write_fault (faults.OutOfOrder number) e = cc
 
--- a search that ended is told as a failure of nothing
+-- a search that ended is told as a failure of nothing, and as no want of memory
 pub no_end_fault : (ended : Ended) (status : Status) → EndsWith (status_of ended) status → status ≢ statuses.DiskFault
 no_end_fault ended status (inr e) f = cc (e, f)
 no_end_fault ends.Closed status (inl e) f = cc (e, f)
@@ -131,6 +131,29 @@ no_end_fault ends.Stopped status (inl e) f = cc (e, f)
 no_end_fault ends.Stuck status (inl e) f = cc (e, f)
 no_end_fault ends.Infeasible status (inl e) f = cc (e, f)
 no_end_fault ends.Undecided status (inl e) f = cc (e, f)
+
+pub no_end_want : (ended : Ended) (status : Status) → EndsWith (status_of ended) status → status ≢ statuses.OutOfMemory
+no_end_want ended status (inr e) f = cc (e, f)
+no_end_want ends.Closed status (inl e) f = cc (e, f)
+no_end_want ends.Stopped status (inl e) f = cc (e, f)
+no_end_want ends.Stuck status (inl e) f = cc (e, f)
+no_end_want ends.Infeasible status (inl e) f = cc (e, f)
+no_end_want ends.Undecided status (inl e) f = cc (e, f)
+
+-- only want of memory is told as such
+pub memory_fault_is : (fault : RunFault) → fault_status fault ≡ statuses.OutOfMemory → fault ≡ faults.Journal journal_faults.Memory
+memory_fault_is (faults.Journal journal_faults.Disk) e = cc
+memory_fault_is (faults.Journal journal_faults.NotAJournal) e = cc
+memory_fault_is (faults.Journal (journal_faults.UnknownVersion version)) e = cc
+memory_fault_is (faults.Journal journal_faults.OtherNetwork) e = cc
+memory_fault_is (faults.Journal (journal_faults.BadRecord number)) e = cc
+memory_fault_is (faults.Journal journal_faults.Memory) e = refl
+memory_fault_is (faults.OutOfOrder number) e = cc
+
+pub unread_memory_is : (why : Unread) → unread_status why ≡ statuses.OutOfMemory → why ≡ unread.Memory
+unread_memory_is (unread.Refused cause) e = cc
+unread_memory_is unread.Failed e = cc
+unread_memory_is unread.Memory e = refl
 
 pub no_unread_disk : (why : Unread) → unread_status why ≢ statuses.DiskFault
 no_unread_disk (unread.Refused cause) e = cc

@@ -25,7 +25,7 @@ use Rattle.search_run.specs.declared.ended.Ended.{Ended}
 use Rattle.search_run.proofs.Covering.{lt-then-lt, written-base}
 use Rattle.box_tree.proofs.Growing.{bound-old, bound-left, bound-right}
 use Rattle.box_tree.proofs.Rooting.{no_splits}
-use Rattle.solve_command.specs.Resumed.{IsAtLeast, IsNoDearer, GivesPlan, IsNoWorse}
+use Rattle.solve_command.specs.Resumed.{IsAtLeast, IsBestNoDearer, GivesPlan, IsNoWorse}
 
 -- ---- bounds
 
@@ -169,11 +169,11 @@ cheaper-then n u v w a b c h k =
     lt-then-lt (cost_of n (plan_of n u)) (pos (u.flow_base * u.base)) (cost_of n (plan_of n v)) (pos (v.flow_base * v.base)) (cost_of n (plan_of n w)) (pos (w.flow_base * w.base))
     (written-base n u a) (written-base n v b) (written-base n w c) h k
 
-no_dearer-same : (n : Net) (o : Option Written) → IsNoDearer n o o
+no_dearer-same : (n : Net) (o : Option Written) → IsBestNoDearer n o o
 no_dearer-same n None = tt
 no_dearer-same n (Some w) = inl refl
 
-no_dearer-then : (n : Net) (a b c : Option Written) → ForSome a (IsWritten n) → ForSome b (IsWritten n) → ForSome c (IsWritten n) → IsNoDearer n a b → IsNoDearer n b c → IsNoDearer n a c
+no_dearer-then : (n : Net) (a b c : Option Written) → ForSome a (IsWritten n) → ForSome b (IsWritten n) → ForSome c (IsWritten n) → IsBestNoDearer n a b → IsBestNoDearer n b c → IsBestNoDearer n a c
 no_dearer-then n None b c p q r h k = tt
 no_dearer-then n (Some u) None c p q r h k = absurd h
 no_dearer-then n (Some u) (Some v) None p q r h k = absurd k
@@ -181,12 +181,12 @@ no_dearer-then n (Some u) (Some v) (Some w) p q r (inl e) k = subst (λ (x : Wri
 no_dearer-then n (Some u) (Some v) (Some w) p q r (inr h) (inl e) = inr (subst (λ (x : Written). IsCheaper n x u) (sym e) h)
 no_dearer-then n (Some u) (Some v) (Some w) p q r (inr h) (inr k) = inr (cheaper-then n w v u (r w refl) (q v refl) (p u refl) k h)
 
-entry-plan : (n : Net) (s : Searched) (e : Entry) → IsEntryInOrder n s e → IsNoDearer n s.best (after s e).best
+entry-plan : (n : Net) (s : Searched) (e : Entry) → IsEntryInOrder n s e → IsBestNoDearer n s.best (after s e).best
 entry-plan n s (root_proof proof) in_order = no_dearer-same n s.best
 entry-plan n s (split_of split left right) in_order = no_dearer-same n s.best
 entry-plan n s (improve plan) in_order = by s.best in_order.cheaper
   where
-    by : (o : Option Written) → ForSome o (IsCheaper n plan) → IsNoDearer n o (Some plan)
+    by : (o : Option Written) → ForSome o (IsCheaper n plan) → IsBestNoDearer n o (Some plan)
     by None h = tt
     by (Some w) h = inr (h w refl)
 
@@ -202,7 +202,7 @@ pub made-searched : (n : Net) (s : Searched) (es : List Entry) → IsSearched n 
 made-searched n s [] is are = is
 made-searched n s (e ∷ es) is are = made-searched n (after s e) es (searched-kept n s e is are.0) are.1
 
-pub made-plan : (n : Net) (s : Searched) (es : List Entry) → IsSearched n s → AreInOrderFrom n s es → IsNoDearer n s.best (made_from s es).best
+pub made-plan : (n : Net) (s : Searched) (es : List Entry) → IsSearched n s → AreInOrderFrom n s es → IsBestNoDearer n s.best (made_from s es).best
 made-plan n s [] is are = no_dearer-same n s.best
 made-plan n s (e ∷ es) is are =
     let next = searched-kept n s e is are.0 in
@@ -244,7 +244,7 @@ module _ (n : Net) (limited : IsLimited n) where
   no_bound (Some z) None h e = absurd h
   no_bound (Some z) (Some low) h e = absurd (none-some low (sym e))
 
-  some-plan : (old best : Option Written) (w : Written) → old ≡ Some w → IsNoDearer n old best → (v : Written) × (best ≡ Some v)
+  some-plan : (old best : Option Written) (w : Written) → old ≡ Some w → IsBestNoDearer n old best → (v : Written) × (best ≡ Some v)
   some-plan None best w e h = absurd (none-some w e)
   some-plan (Some u) None w e h = absurd h
   some-plan (Some u) (Some v) w e h = (v, refl)
@@ -256,8 +256,8 @@ module _ (n : Net) (limited : IsLimited n) where
       let searched : IsSearched n found = subst (IsSearched n) (sym run.made) (made-searched n (made_by first) run.entries begun steps) in
       let more : IsAtLeast (tree_bound n found.tree) (tree_bound n (made_by first).tree) =
       subst (λ (s : Searched). IsAtLeast (tree_bound n s.tree) (tree_bound n (made_by first).tree)) (sym run.made) (made-bound n (made_by first) run.entries begun steps) in
-      let less : IsNoDearer n (made_by first).best found.best =
-      subst (λ (s : Searched). IsNoDearer n (made_by first).best s.best) (sym run.made) (made-plan n (made_by first) run.entries begun steps) in
+      let less : IsBestNoDearer n (made_by first).best found.best =
+      subst (λ (s : Searched). IsBestNoDearer n (made_by first).best s.best) (sym run.made) (made-plan n (made_by first) run.entries begun steps) in
       record {
         bound = more;
         plan = less;

@@ -5,7 +5,7 @@ use Rattle.std.proofs.lemmas.Bool.Decides.{nat_tests}
 use Rattle.integers.proofs.Order.{le-mul}
 use Rattle.integers.proofs.Ring.{linear, sorted, additive}
 use Rattle.pool_model.specs.Network.{Net, IsLimited}
-use Rattle.pool_model.specs.Plan.{Plan, Obeys, Written, plan_of, cost_of}
+use Rattle.pool_model.specs.Plan.{Written, plan_of, cost_of}
 use Rattle.pool_model.specs.Claim.{Claimed, with_gap, with_bound, no_plan, Follows}
 use Rattle.row_model.specs.Trees.{tree_bound}
 use Rattle.row_model.specs.Entries.{Searched, start}

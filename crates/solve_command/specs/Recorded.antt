@@ -5,10 +5,9 @@ use Rattle.pool_model.specs.Network.{Net}
 use Rattle.row_model.specs.Entries.{Entry, made_by, AreInOrder}
 use Rattle.cert_format.specs.Cert.{Cert}
 use Rattle.cert_format.specs.Views.{shown_cert}
-use Rattle.node_journal.specs.Settled.{IsQuiet}
 use Rattle.search_run.specs.declared.orders.Orders.{Orders}
 use Rattle.recorded_run.specs.declared.fault.RunFault.{RunFault}
-use Rattle.solve_command.specs.Journaled.{IsAttached, IsUnopened}
+use Rattle.solve_command.specs.Journaled.{CameToNoFile, IsAttached}
 use Rattle.solve_command.specs.Solution.{IsSolutionFrom, status_of}
 use Rattle.solve_command.specs.SolveEnds.{fault_status}
 use Rattle.solve_command.specs.declared.solution.Solution.{Solution}
@@ -31,7 +30,7 @@ abbrev pub shows : Result Solution RunFault → Cert → Type 0
 shows (Ok s) c = shown_cert s.certificate ≡ c
 shows (Err fault) c = ⊥
 
--- no file was read, and no image is new; or one was read
+-- no file was attached, and no image is new; or one was read
 abbrev pub IsOpened : Net → List ℕ → Orders → (old new : DiskTold) → Result Solution RunFault → Type 0
 IsOpened n text o old new result =
-    (IsUnopened (solved_status result) × IsQuiet old new) ⊎ IsAttached n text o old new (solved_status result) (shows result)
+    CameToNoFile old new (solved_status result) ⊎ IsAttached n text o old new (solved_status result) (shows result)

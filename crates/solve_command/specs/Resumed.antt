@@ -15,10 +15,10 @@ IsAtLeast (Some z) None = ⊥
 IsAtLeast (Some z) (Some low) = low ≤ℤ z
 
 -- a plan is no dearer than another one: it is that plan, or costs less
-abbrev pub IsNoDearer : Net → Option Written → Option Written → Type 0
-IsNoDearer n None best = Unit {0}
-IsNoDearer n (Some plan) None = ⊥
-IsNoDearer n (Some plan) (Some best) = (best ≡ plan) ⊎ IsCheaper n best plan
+abbrev pub IsBestNoDearer : Net → Option Written → Option Written → Type 0
+IsBestNoDearer n None best = Unit {0}
+IsBestNoDearer n (Some plan) None = ⊥
+IsBestNoDearer n (Some plan) (Some best) = (best ≡ plan) ⊎ IsCheaper n best plan
 
 -- the claim gives a plan
 abbrev pub GivesPlan : Claimed → Type 0
@@ -29,6 +29,6 @@ GivesPlan claim = ⊥
 -- there was one, and says that no plan obeys where that tree had no bound.
 pub record IsNoWorse (n : Net) (begun found : Searched) (c : Cert) : Type 0 where
   pub bound : IsAtLeast (tree_bound n found.tree) (tree_bound n begun.tree)
-  pub plan : IsNoDearer n begun.best found.best
+  pub plan : IsBestNoDearer n begun.best found.best
   pub gap : ForSome begun.best (λ plan. GivesPlan c.claim)
   pub none : tree_bound n begun.tree ≡ None → c.claim ≡ no_plan

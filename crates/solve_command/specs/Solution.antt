@@ -85,8 +85,8 @@ pub record IsSolutionFrom (n : Net) (o : Orders) (begun : Searched) (status : St
   -- Promise: Under 11 the leaf of the least bound can't be cut at any coordinate of the form; under 13 it can't, or there are at least
   --   `--nodes` cuts
   pub held : IsHeld n o found status
-  -- Promise: Where twice the cuts that a run of `solve` within the budget began with and one, times the rows of the network, is at most
-  --   32,000,000, so it is with the cuts of the tree that it prints
+  -- Promise: Without a journal, or where the disk tells: where twice the cuts that a run of `solve` within the budget began with and one,
+  --   times the rows of the network, is at most 32,000,000, so it is with the cuts of the tree that it prints
   pub short : HasFewRows n o.nodes → HasFewRows n (length begun.tree.splits) → IsShort n c
 
 -- the same of a search that began with the root alone

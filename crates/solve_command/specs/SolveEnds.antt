@@ -67,7 +67,8 @@ pub record SolvesAs (files : Option Files) (s : Solving) (status : Status) (text
   pub solution : IsSolutionFrom (net_of network) (orders_of s) (made_by first) status certificate
   pub spelled : Spells text certificate
   -- Promise: The text that `solve` prints has at most 1,073,741,824 bytes, no more than a file may have that `check` reads: where no journal
-  --   is named, or twice the cuts of the tree that the run began with and one, times the rows of the network, is at most 32,000,000
+  --   is named, or where the disk tells and twice the cuts of the tree that the run began with and one, times the rows of the network, is
+  --   at most 32,000,000
   pub short : ((s.journal ≡ None) ⊎ HasFewRows (net_of network) (length (made_by first).tree.splits)) → length text ≤ most_bytes
 
 -- a network is read from the file that is named, and what is asked is within the budget
@@ -104,6 +105,11 @@ pub record JournalUnder (files : Option Files) (s : Solving) : Type 0 where
   pub solvable : WithinUnder files s
   pub journal : List ℕ
   pub named : s.journal ≡ Some journal
+
+-- the search wanted memory: a network is read, and what is asked is within the budget
+pub record WantUnder (files : Option Files) (s : Solving) (outcome : SolveOutcome) : Type 0 where
+  pub solvable : WithinUnder files s
+  pub search : outcome ≡ outcomes.Unsolved (faults.Journal journal_faults.Memory)
 
 -- Each status comes only where its line holds of what is asked; no other comes. The counts are of the bytes taken. Of the file of
 -- the journal more is said in `specs/Journaled.antt`.

@@ -1,6 +1,6 @@
 //! The command `solve`.
 
-ghost use Rattle.std.specs.Prelude.{◌≡◌, ◌≢◌, ℕ, List, Option, None, Some, IsTrue, IfOk, IfErr, IsErrOf, option_map, string_bytes};
+ghost use Rattle.std.specs.Prelude.{◌≡◌, ◌≢◌, ◌⊎◌, ℕ, List, Option, None, Some, IsTrue, IfOk, IfErr, IsErrOf, option_map, string_bytes};
 ghost use Rattle.edge_io.specs.Counts.{Rose};
 ghost use Rattle.edge_io.specs.Writing.{behind};
 ghost use Rattle.pool_model.specs.Network.{net_of};
@@ -18,7 +18,7 @@ ghost use Rattle.solve_command.specs.Journaled.{Journaled};
 ghost use Rattle.run_status.specs.Reads.{Files, ReadsUnder};
 ghost use Rattle.solve_command.specs.Recorded.{IsBegun, IsOpened};
 ghost use Rattle.solve_command.specs.Solution.{status_of};
-ghost use Rattle.solve_command.specs.SolveEnds.{EndsWith, IsEnded, IsHeldUp, SolveEnds, SolvesAs, fault_status, solve_status};
+ghost use Rattle.solve_command.specs.SolveEnds.{EndsWith, IsEnded, IsHeldUp, SolveEnds, SolvesAs, WantUnder, fault_status, solve_status};
 ghost use Rattle.run_status.specs.Took.{Took};
 
 use crate::budget::orders_within;
@@ -85,6 +85,9 @@ pub fn solve<S: Shelf, K: Sink, D: Disk>(
     ensures read_fault { solve_status result ≡ Status.ReadFault → Rose (S.told shelf.old).faults (S.told shelf.new).faults }
     ensures write_fault { solve_status result ≡ Status.WriteFault → Rose (K.faults out.old) (K.faults out.new) }
     ensures disk_fault { solve_status result ≡ Status.DiskFault → Rose (D.told disk.old).faults (D.told disk.new).faults }
+    // Promise: 23 of `solve` comes where the network is to be read, or of the search of one that was read, with its journal, within the
+    //   budget: a budget that is too large (4) is never told as want of memory
+    ensures memory { solve_status result ≡ Status.OutOfMemory → (result ≡ SolveOutcome.Unread Unread.Memory) ⊎ WantUnder (S.told shelf.old).files (shown_solving words.now) result }
 {
     match network_under(alloc, words.net.as_str(), shelf) {
         Ok(net) => solve_network(alloc, &net, words, out, disk),
@@ -112,6 +115,8 @@ fn solve_network<K: Sink, D: Disk>(
     ensures read { solve_status result ≢ Status.ReadFault }
     ensures write_fault { solve_status result ≡ Status.WriteFault → Rose (K.faults out.old) (K.faults out.new) }
     ensures disk_fault { solve_status result ≡ Status.DiskFault → Rose (D.told disk.old).faults (D.told disk.new).faults }
+    ensures memory { (files : Option Files) → ReadsUnder files (string_bytes words.now.net) net.now → solve_status result ≡ Status.OutOfMemory
+        → WantUnder files (shown_solving words.now) result }
 {
     let Some(orders) = orders_within(net, words) else {
         return SolveOutcome::OverBudget;

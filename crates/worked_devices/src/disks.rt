@@ -116,37 +116,28 @@ fn read_at(disk: &mut WildDisk, at: u64) -> Result<[u8; 3], DiskFailed> {
     Ok(bytes)
 }
 
-/// The bytes are those that a script draws from 7.
+/// The bytes are those that a script draws from 7. A file that reaches 2^62 is the longest.
 #[test]
 fn a_wild_disk_reads_as_anything(rt: HostRuntime) {
     let mut disk = WildDisk::new(7);
     let done = script(&mut disk);
-    let length = disk.len();
     let read = [
         read_at(&mut disk, 297),
         read_at(&mut disk, 298),
         read_at(&mut disk, 0),
     ];
-    assert_eq!(rt; (done, length), (Ok(()), Ok(300)));
-    assert_eq!(rt;
-        read,
-        [Ok([94, 63, 49]), Err(DiskFailed), Ok([145, 233, 3])]
-    );
-}
-
-/// A file that reaches 2^62 is the longest.
-#[test]
-fn a_wild_disk_has_a_longest_file(rt: HostRuntime) {
-    let mut disk = WildDisk::new(7);
     let attached = disk.attach("file");
-    let done = [
+    let ends = [
         disk.write_at(MAX_LENGTH - 1, b"x"),
         disk.write_at(MAX_LENGTH, b"x"),
         disk.cut(MAX_LENGTH),
         disk.cut(MAX_LENGTH + 1),
     ];
     let fault = Err(DiskFailed);
-    assert_eq!(rt; attached, Ok(()));
-    assert_eq!(rt; done, [Ok(()), fault, Ok(()), fault]);
-    assert_eq!(rt; disk.len(), Ok(300));
+    assert_eq!(rt; (done, attached, disk.len()), (Ok(()), Ok(()), Ok(300)));
+    assert_eq!(rt;
+        read,
+        [Ok([94, 63, 49]), Err(DiskFailed), Ok([145, 233, 3])]
+    );
+    assert_eq!(rt; ends, [Ok(()), fault, Ok(()), fault]);
 }

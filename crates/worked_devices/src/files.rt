@@ -12,8 +12,9 @@ fn path_of(rt: &HostRuntime, name: &str) -> Result<String, Fail> {
     Ok(format!(in rt.alloc(); "/tmp/worked_devices-{name}-{number}")?)
 }
 
+/// An opened file can be read when its name is gone.
 #[test]
-fn a_file_is_read_whole(rt: HostRuntime) -> Result<(), Fail> {
+fn a_file_is_read_whole_and_by_pieces(rt: HostRuntime) -> Result<(), Fail> {
     let alloc = rt.alloc();
     let path = path_of(&rt, "whole")?;
     fs::write(&rt, path.as_str(), "four")?;
@@ -21,24 +22,14 @@ fn a_file_is_read_whole(rt: HostRuntime) -> Result<(), Fail> {
     let whole = shelf.read_all(alloc, path.as_str(), 4);
     let short = shelf.read_all(alloc, path.as_str(), 3);
     let endless = shelf.read_all(alloc, "/dev/zero", 9);
-    fs::remove_file(&rt, path.as_str())?;
-    let gone = shelf.read_all(alloc, path.as_str(), 4);
-    let told = format!(in alloc; "{whole:?} {short:?} {endless:?} {gone:?}")?;
-    let expected = "Ok([102, 111, 117, 114]) Err(TooLong) Err(TooLong) Err(Failed)";
-    assert_eq!(rt; told.as_str(), expected);
-    Ok(())
-}
-
-#[test]
-fn a_file_is_read_by_pieces(rt: HostRuntime) -> Result<(), Fail> {
-    let alloc = rt.alloc();
-    let path = path_of(&rt, "pieces")?;
-    fs::write(&rt, path.as_str(), "one two")?;
-    let mut shelf = FileShelf::new(&rt);
     let opened = shelf.open_read(alloc, path.as_str()).is_ok();
     fs::remove_file(&rt, path.as_str())?;
-    let rest = rest_of(alloc, &mut shelf, 2)?;
-    assert_eq!(rt; (opened, rest.as_slice()), (true, b"one two".as_slice()));
+    let rest = rest_of(alloc, &mut shelf, 3)?;
+    let gone = shelf.read_all(alloc, path.as_str(), 4);
+    let told = format!(in alloc; "{whole:?} {short:?} {endless:?} {opened:?} {rest:?} {gone:?}")?;
+    let expected =
+        "Ok([102, 111, 117, 114]) Err(TooLong) Err(TooLong) true [102, 111, 117, 114] Err(Failed)";
+    assert_eq!(rt; told.as_str(), expected);
     Ok(())
 }
 

@@ -64,35 +64,42 @@ fn pieces(alloc: Global, shelf: &mut MemShelf, calls: &str) -> Result<String, Al
     Ok(told)
 }
 
-#[test]
-fn a_piece_has_as_many_bytes_as_told(rt: HostRuntime) -> Result<(), Fail> {
-    let alloc = rt.alloc();
-    let mut shelf = shelf_of(alloc, 9)?;
-    shelf.pieces(3);
-    let told = pieces(alloc, &mut shelf, "- a - - - -")?;
-    let expected = "Ok(0) ....\nOk(())\nOk(3) one.\nOk(3)  tw.\nOk(1) o...\nOk(0) ....\n";
-    assert_eq!(rt; told.as_str(), expected);
-    Ok(())
+/// The number of the call that fails, how many bytes a piece has at the most, and the calls with what they answer. The calls of all kinds
+/// are numbered together, a failure leaves the rest as it was, and a file is opened from its start.
+const PIECES: [(u64, usize, &str, &str); 3] = [
+    (
+        9,
+        3,
+        "- a - - - -",
+        "Ok(0) ....\nOk(())\nOk(3) one.\nOk(3)  tw.\nOk(1) o...\nOk(0) ....\n",
+    ),
+    (
+        2,
+        9,
+        "a - - - -",
+        "Ok(())\nOk(4) one \nErr(ReadFailed) ....\nOk(3) two.\nOk(0) ....\n",
+    ),
+    (
+        9,
+        9,
+        "a - c b - -",
+        "Ok(())\nOk(4) one \nErr(Failed)\nOk(())\nOk(4) thre\nOk(1) e...\n",
+    ),
+];
+
+/// What a shelf whose pieces have so many bytes answers on calls.
+fn told(alloc: Global, failing: u64, piece: usize, calls: &str) -> Result<String, AllocError> {
+    let mut shelf = shelf_of(alloc, failing)?;
+    shelf.pieces(piece.max(1));
+    pieces(alloc, &mut shelf, calls)
 }
 
-/// The calls of all kinds are numbered together, and a failure leaves the rest as it was.
 #[test]
-fn a_failure_between_pieces_loses_nothing(rt: HostRuntime) -> Result<(), Fail> {
-    let alloc = rt.alloc();
-    let mut shelf = shelf_of(alloc, 2)?;
-    let told = pieces(alloc, &mut shelf, "a - - - -")?;
-    let expected = "Ok(())\nOk(4) one \nErr(ReadFailed) ....\nOk(3) two.\nOk(0) ....\n";
-    assert_eq!(rt; told.as_str(), expected);
-    Ok(())
-}
-
-#[test]
-fn a_file_is_opened_from_its_start(rt: HostRuntime) -> Result<(), Fail> {
-    let alloc = rt.alloc();
-    let mut shelf = shelf_of(alloc, 9)?;
-    let told = pieces(alloc, &mut shelf, "a - c b - -")?;
-    let expected = "Ok(())\nOk(4) one \nErr(Failed)\nOk(())\nOk(4) thre\nOk(1) e...\n";
-    assert_eq!(rt; told.as_str(), expected);
+fn a_file_is_handed_out_in_pieces(rt: HostRuntime) -> Result<(), Fail> {
+    for (failing, piece, calls, expected) in PIECES {
+        let told = told(rt.alloc(), failing, piece, calls)?;
+        assert_eq!(rt; told.as_str(), expected, "of {calls}");
+    }
     Ok(())
 }
 
@@ -115,15 +122,6 @@ pub(crate) fn rest_of<S: Shelf>(
 }
 
 #[test]
-fn a_slice_is_read_from_its_start(rt: HostRuntime) -> Result<(), Fail> {
-    let alloc = rt.alloc();
-    let mut shelf = SliceShelf::new(b"one two");
-    let rest = rest_of(alloc, &mut shelf, 2)?;
-    assert_eq!(rt; rest.as_slice(), b"one two".as_slice());
-    Ok(())
-}
-
-#[test]
 fn a_slice_is_opened_again(rt: HostRuntime) -> Result<(), Fail> {
     let alloc = rt.alloc();
     let mut shelf = SliceShelf::new(b"one two");
@@ -132,9 +130,9 @@ fn a_slice_is_opened_again(rt: HostRuntime) -> Result<(), Fail> {
     let opened = shelf.open_read(alloc, "");
     let whole = shelf.read_all(alloc, "", 7);
     let rest = rest_of(alloc, &mut shelf, 9)?;
-    let told = format!(in alloc; "{first:?} {opened:?} {whole:?} {rest:?}")?;
+    let told = format!(in alloc; "{first:?} {room:?} {opened:?} {whole:?} {rest:?}")?;
     let expected =
-        "Ok(4) Ok(()) Ok([111, 110, 101, 32, 116, 119, 111]) [111, 110, 101, 32, 116, 119, 111]";
+        "Ok(4) [111, 110, 101, 32] Ok(()) Ok([111, 110, 101, 32, 116, 119, 111]) [111, 110, 101, 32, 116, 119, 111]";
     assert_eq!(rt; told.as_str(), expected);
     Ok(())
 }

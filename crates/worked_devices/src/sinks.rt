@@ -19,23 +19,21 @@ fn texts_and_numbers_are_written(rt: HostRuntime) {
     assert_eq!(rt; sink.taken(), text.as_slice());
 }
 
+/// One that fails its second call, and one that is full after three bytes.
 #[test]
 fn a_sink_fails_where_it_is_told(rt: HostRuntime) -> Result<(), Fail> {
     let alloc = rt.alloc();
     let mut sink = MemSink::new(alloc, [1].to_vec(alloc)?);
+    let mut small = MemSink::limit(alloc, 3)?;
     let wrote = [sink.write(b"a"), sink.write(b"b"), sink.write(b"c")];
-    assert_eq!(rt; wrote, [Ok(1), Err(SinkFailed), Ok(1)]);
-    assert_eq!(rt; sink.taken(), b"ac".as_slice());
-    Ok(())
-}
-
-#[test]
-fn a_full_sink_has_a_front(rt: HostRuntime) -> Result<(), Fail> {
-    let mut small = MemSink::limit(rt.alloc(), 3)?;
-    let wrote = write_whole(&mut small, b"abcde");
+    let whole = write_whole(&mut small, b"abcde");
     let more = small.write(b"");
-    assert_eq!(rt; (wrote, more), (Err(WriteFault), Err(SinkFailed)));
-    assert_eq!(rt; small.taken(), b"abc".as_slice());
+    assert_eq!(rt; wrote, [Ok(1), Err(SinkFailed), Ok(1)]);
+    assert_eq!(rt; (whole, more), (Err(WriteFault), Err(SinkFailed)));
+    assert_eq!(rt;
+        [sink.taken(), small.taken()],
+        [b"ac".as_slice(), b"abc".as_slice()]
+    );
     Ok(())
 }
 

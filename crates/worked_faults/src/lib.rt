@@ -9,4 +9,6 @@ mod disks;
 #[cfg(test)]
 mod memory;
 #[cfg(test)]
+mod searches;
+#[cfg(test)]
 mod sinks;

@@ -1,8 +1,10 @@
 //! Worked journals: the bytes of one, the files that are refused, and stops in each call of the disk, of a journal alone and of a run
-//! of splits that goes on from it.
+//! of splits that goes on from it; and the first steps of a search, a call at a time.
 #![tactic(auto)]
 
 #[cfg(test)]
 mod files;
 #[cfg(test)]
 mod sessions;
+#[cfg(test)]
+mod steps;

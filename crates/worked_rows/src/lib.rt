@@ -1,10 +1,13 @@
-//! Every row of worked networks, and what multipliers on rows show, against figures and rows that were written by hand.
+//! Every row of worked networks, the halves of a box, and what multipliers on rows show, against figures and rows that were written by
+//! hand.
 //!
 //! The texts of exact programs are tried in `tests/worked_cases.py`.
 #![tactic(auto)]
 
 #[cfg(test)]
 mod expected_rows;
+#[cfg(test)]
+mod halves;
 #[cfg(test)]
 mod rows;
 #[cfg(test)]

@@ -17,6 +17,7 @@ const OF_HAVERLY: &str = "\
 1, 5 0, 6 -1; 1, 6 15000000 = Err(Sign) Ok(Bound(-3900000000000000))
 0, 6 1; 1, 6 15000000 = Err(ShowsNothing) Ok(Bound(-3900000000000000))
 0; 1, 6 15000000 = Err(ShowsNothing) Ok(Bound(-3900000000000000))
+1, 20 1; 1, 20 -1 = Ok(Bound(-4900000001048576)) Ok(Bound(-4900000001048576))
 ";
 
 /// The same of a network whose qualities are far apart. The product's limit, by qualities and by proportions, are the rows 3 and 4,

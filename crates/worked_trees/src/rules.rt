@@ -1,9 +1,11 @@
-//! What the known rules pick.
+//! What the known rules pick, and where they cut once they are stored.
 
 ghost use Rattle.std.specs.Prelude.{◌≡◌};
-ghost use Rattle.branching.specs.Rows.{IsRow};
+ghost use Rattle.branching.specs.Rows.{HasOpen, IsRow};
+ghost use Rattle.branching.specs.Known.{IsFirstGreatest, IsFirstOpen, IsLessMissed, IsNarrower};
 
-use branching::{CoordRow, LeafView, fewest, first_open, most_violated, widest};
+use box_space::Split;
+use branching::{CoordRow, CutRule, LeafView, fewest, first_open, most_violated, widest};
 use std::alloc::{AllocError, Global};
 use std::test::Fail;
 
@@ -14,8 +16,8 @@ fn row(coord: u32, width: u32, root: u32, miss: u64) -> CoordRow
 {
     CoordRow {
         coord,
-        low: -1,
-        high: i64::from(width) - 1,
+        low: 0,
+        high: width.into(),
         root_width: i64::from(root.max(width)),
         miss,
     }
@@ -35,23 +37,49 @@ fn view(alloc: Global, table: &Table) -> Result<LeafView, AllocError> {
     Ok(LeafView::new(0, rows))
 }
 
-/// The rows that the rules pick: the first open one, the widest, the most violated, and that of the fewest of these splits. Nothing
-/// where none is open.
-fn picks(alloc: Global, table: &Table, cuts: &[u32]) -> Result<Option<[usize; 4]>, AllocError> {
+/// Where three rules cut once they are stored, each in a closure: at the first open row, the widest, and the most violated.
+fn stored(alloc: Global, view: &LeafView) -> Result<[Split; 3], AllocError>
+    requires { HasOpen view.now.rows }
+{
+    let first = CutRule::new(Box::new(
+        alloc,
+        |view: &LeafView| -> usize
+            requires { HasOpen view.now.rows }
+            ensures { IsFirstOpen view.now.rows result }
+        { first_open(view) },
+    )?);
+    let broadest = CutRule::new(Box::new(
+        alloc,
+        |view: &LeafView| -> usize
+            requires { HasOpen view.now.rows }
+            ensures { IsFirstGreatest IsNarrower view.now.rows result }
+        { widest(view) },
+    )?);
+    let missed = CutRule::new(Box::new(
+        alloc,
+        |view: &LeafView| -> usize
+            requires { HasOpen view.now.rows }
+            ensures { IsFirstGreatest IsLessMissed view.now.rows result }
+        { most_violated(view) },
+    )?);
+    Ok([first.pick(view), broadest.pick(view), missed.pick(view)])
+}
+
+/// The coordinates at which they cut, with the cuts, and the row of the fewest of these splits. Nothing where no row is open.
+fn picks(alloc: Global, table: &Table, cuts: &[u32]) -> Result<String, AllocError> {
     let view = view(alloc, table)?;
     if !view.has_open() {
-        return Ok(None);
+        return Ok(String::new(alloc));
     }
-    let (first, broadest) = (first_open(&view), widest(&view));
-    let (missed, rarest) = (most_violated(&view), fewest(&view, cuts));
-    Ok(Some([first, broadest, missed, rarest]))
+    let [first, broadest, missed] = stored(alloc, &view)?.map(|split| (split.coord, split.cut));
+    format!(in alloc; "{first:?} {broadest:?} {missed:?} {}", fewest(&view, cuts))
 }
 
 /// The coordinates of some nodes.
 fn table(name: &str) -> Table {
     let whole = 1_048_576;
     match name {
-        // two proportions and a flow over their root box, and a closed row
+        // two proportions and a flow over their root box, of which the second and the third are missed most, and a closed row
         "root" => [
             [whole, whole, 0],
             [whole, whole, 7],
@@ -74,17 +102,30 @@ fn table(name: &str) -> Table {
 /// A coordinate past the end of the splits has none.
 #[test]
 fn the_rules_pick_their_rows(rt: HostRuntime) -> Result<(), Fail> {
-    let cases: [(&str, &[u32], Option<[usize; 4]>); 7] = [
-        ("root", &[], Some([0, 0, 1, 0])),
-        ("leaf", &[], Some([1, 3, 2, 1])),
-        ("closed", &[], None),
-        ("uncut", &[1, 0, 0, 0], Some([0, 0, 0, 1])),
-        ("uncut", &[1, 1, 0, 0], Some([0, 0, 0, 3])),
-        ("uncut", &[2, 1, 0, 1], Some([0, 0, 0, 1])),
-        ("uncut", &[1, 1], Some([0, 0, 0, 3])),
+    let cases: [(&str, &[u32], &str); 7] = [
+        ("root", &[], "(0, 524288) (0, 524288) (1, 524288) 0"),
+        ("leaf", &[], "(1, 1) (3, 1) (2, 2) 1"),
+        ("closed", &[], ""),
+        (
+            "uncut",
+            &[1, 0, 0, 0],
+            "(0, 524288) (0, 524288) (0, 524288) 1",
+        ),
+        (
+            "uncut",
+            &[1, 1, 0, 0],
+            "(0, 524288) (0, 524288) (0, 524288) 3",
+        ),
+        (
+            "uncut",
+            &[2, 1, 0, 1],
+            "(0, 524288) (0, 524288) (0, 524288) 1",
+        ),
+        ("uncut", &[1, 1], "(0, 524288) (0, 524288) (0, 524288) 3"),
     ];
     for (name, cuts, expected) in cases {
-        assert_eq!(rt; picks(rt.alloc(), &table(name), cuts)?, expected, "{name}");
+        let picked = picks(rt.alloc(), &table(name), cuts)?;
+        assert_eq!(rt; picked.as_str(), expected, "{name}");
     }
     Ok(())
 }

@@ -1,4 +1,4 @@
-//! A tree over two feeds to one pool that is cut twice, and what it answers.
+//! A tree over two feeds to one pool that is cut twice, the entries that it refuses, and what it answers.
 
 ghost use Rattle.std.specs.Prelude.{IfOk};
 ghost use Rattle.pool_model.specs.Network.{net_of};
@@ -13,8 +13,9 @@ use std::alloc::{AllocError, Global};
 use std::test::Fail;
 use worked_networks::{TWO_FEEDS, network};
 
-fn split(leaf: u32, coord: u32, cut: i64) -> Split {
-    Split { leaf, coord, cut }
+/// A split without proofs.
+fn split(leaf: u32, coord: u32, cut: i64) -> Entry {
+    Entry::SplitOf(Split { leaf, coord, cut }, None, None)
 }
 
 /// The proportions of the pool's feeds can't sum to 1: multiplier 1 on their row, without the cost.
@@ -25,16 +26,47 @@ fn too_few(alloc: Global) -> Result<Proof, AllocError> {
     })
 }
 
-/// A tree with the zero plan, a split of the root, and a split of its left half whose left half has a proof.
-fn twice_cut(alloc: Global, net: &Network) -> Result<Tree, EntryFault>
+/// A tree with the zero plan and a split of the root.
+fn once_cut(alloc: Global, net: &Network) -> Result<Tree, EntryFault>
     ensures { IfOk result (IsOf (net_of net.now)) }
 {
     let mut tree = Tree::start(alloc, net)?;
     tree.apply(net, Entry::Improve(zero_plan(alloc, net)?))?;
-    tree.apply(net, Entry::SplitOf(split(0, 0, 524_288), None, None))?;
-    let proof = Some(too_few(alloc)?);
-    tree.apply(net, Entry::SplitOf(split(1, 1, 262_144), proof, None))?;
+    tree.apply(net, split(0, 0, 524_288))?;
     Ok(tree)
+}
+
+/// What comes of a split of a node that is cut, of one on the end of its box, of a late proof of the root, and of the same plan again.
+fn refused(alloc: Global, net: &Network, tree: &mut Tree) -> Result<String, EntryFault>
+    requires { IsOf (net_of net.now) tree.old }
+    ensures { IsOf (net_of net.now) tree.new }
+{
+    let again = zero_plan(alloc, net)?;
+    let late = Proof {
+        scale: 1,
+        parts: Vec::new(alloc),
+    };
+    let told = [
+        tree.apply(net, split(0, 1, 262_144)),
+        tree.apply(net, split(1, 0, 524_288)),
+        tree.apply(net, Entry::Root(late)),
+        tree.apply(net, Entry::Improve(again)),
+    ];
+    Ok(format!(in alloc; "{told:?}\n")?)
+}
+
+/// A split of the tree's node 1 whose left half has a proof.
+fn cut_again(alloc: Global, net: &Network, tree: &mut Tree) -> Result<(), EntryFault>
+    requires { IsOf (net_of net.now) tree.old }
+    ensures { IsOf (net_of net.now) tree.new }
+{
+    let lower = Split {
+        leaf: 1,
+        coord: 1,
+        cut: 262_144,
+    };
+    let proof = too_few(alloc)?;
+    tree.apply(net, Entry::SplitOf(lower, Some(proof), None))
 }
 
 /// The bound of the tree and those of its nodes 3 and 4, which of the two has a proof, the least leaf, and the best cost.
@@ -63,8 +95,10 @@ fn ends(alloc: Global, net: &Network, tree: &Tree) -> Result<String, Memory>
 }
 
 fn answers(alloc: Global, net: &Network) -> Result<String, EntryFault> {
-    let tree = twice_cut(alloc, net)?;
-    let mut told = bounds(alloc, &tree)?;
+    let mut tree = once_cut(alloc, net)?;
+    let mut told = refused(alloc, net, &mut tree)?;
+    cut_again(alloc, net, &mut tree)?;
+    told.push_str(&bounds(alloc, &tree)?)?;
     told.push_str(&lists(alloc, &tree)?)?;
     told.push_str(&ends(alloc, net, &tree)?)?;
     Ok(told)
@@ -76,6 +110,7 @@ fn a_tree_that_is_cut_twice(rt: HostRuntime) -> Result<(), Fail> {
     let net = network(rt.alloc(), TWO_FEEDS)?;
     let told = answers(rt.alloc(), &net)?;
     let expected = "\
+[Err(NotALeaf), Err(CutOutside), Err(RootLate), Err(PlanNotBetter)]
 Some(-300000000000000) [None, Some(-300000000000000)] [true, false] Some(2) Some(Cost { num: 0, base: 1 })
 [2, 4] [2] [1, 1, 0, 0]
 [0, 262144, 1000000, 0] [524288, 1048576, 3000000, 100000000]

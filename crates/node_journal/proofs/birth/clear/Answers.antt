@@ -10,7 +10,7 @@ use Rattle.node_journal.proofs.birth.clear.Goals as goal
 
 pub cut_synced-requires : goal.cut_synced-requires
 cut_synced-requires g c = λ tells.
-    let was = c.requires.settled (subst IsTrue c.unmark.ensures.same_disk.same_telling tells) in
+    let was = c.requires.settled (subst IsTrue c.unmark.ensures.same_disk.device.same_telling tells) in
     let d = c.in_ok-unmark.ensures.on_disk was.0 was.1 in
     reaches-known (g.D.Disk.told c.unmark.new.disk).reads (0 ∷ drop 1 was.0) 1 d.read (omega arith)
 

@@ -11,7 +11,7 @@ use Rattle.node_journal.proofs.birth.fill.Goals as goal
 
 pub write_synced-requires-2 : goal.write_synced-requires-2
 write_synced-requires-2 g c = λ tells.
-    let was = c.requires (subst IsTrue c.write_synced.ensures.same_disk.same_telling tells) in
+    let was = c.requires (subst IsTrue c.write_synced.ensures.same_disk.device.same_telling tells) in
     let d = c.in_ok-write_synced.ensures.on_disk (0 ∷ []) was.read in
     reaches-known (g.D.Disk.told c.write_synced.new.disk).reads (written (0 ∷ []) 1 c.args.behind.now) 0 d.read (omega arith)
 

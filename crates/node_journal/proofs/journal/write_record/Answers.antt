@@ -15,7 +15,7 @@ write_synced-requires g c = λ tells.
 
 pub write_synced-requires-2 : goal.write_synced-requires-2
 write_synced-requires-2 g c = λ tells.
-    let was = c.requires.left (subst IsTrue c.write_synced.ensures.same_disk.same_telling tells) in
+    let was = c.requires.left (subst IsTrue c.write_synced.ensures.same_disk.device.same_telling tells) in
     let file = written was.2 (c.args.gate + 1) c.args.behind.now in
     let mid = c.in_ok-write_synced.ensures.on_disk was.2 was.3.read in
     let far = staged_long c.args.gate was.0 was.1 was.2 (parted c.args.gate was.0 was.1 was.2 was.4) c.args.behind.now in

@@ -105,7 +105,8 @@ returns-in-Err-clause-disk_fault g c = λ is. absurd ((no_words_fault c.in-Err.f
 
 pub returns-in-Err-clause-journal : goal.returns-in-Err-clause-journal
 returns-in-Err-clause-journal g c = λ s file asks named tells.
-    inl (
-      subst IsUnopened (sym c.status_of_words.ensures) (words_unopened c.in-Err.fault (λ e. c.in-Err.ensures.usage (ap (λ f. Err f) e) (solve s) asks)),
-      quiet-start (g.D.Disk.told c.args.disk.now),
-    )
+    inl (record {
+      unopened = subst IsUnopened (sym c.status_of_words.ensures) (words_unopened c.in-Err.fault (λ e. c.in-Err.ensures.usage (ap (λ f. Err f) e) (solve s) asks));
+      quiet = quiet-start (g.D.Disk.told c.args.disk.now);
+      none_attached = refl;
+    })

@@ -1,6 +1,6 @@
 use Rattle.std.proofs.Common.{refl}
 use Rattle.pool_model.specs.Network.{net_of}
-use Rattle.trial_text.specs.Trial.{trial_text}
+use Rattle.printed_lines.specs.Trial.{trial_text}
 use Rattle.run_status.specs.declared.status.Status.TheVariants.{Done}
 use Rattle.pool_cli.proofs.trial.try_network.Goals as goal
 

@@ -19,6 +19,8 @@ use Rattle.search_run.proofs.Ending.{found-by}
 use Rattle.recorded_run.specs.Recorded.{Ends}
 use Rattle.recorded_run.specs.declared.fault.RunFault.TheVariants.{Journal}
 use Rattle.recorded_run.proofs.Recording.{begins-same, opened-recorded, opening-moments, run-moments, recorded-ends, kept-stands, memory-of}
+use Rattle.recorded_run.proofs.Splitting.{few-front, few-same}
+use Rattle.recorded_run.proofs.Acknowledging.{opening-keeps, run-keeps}
 use Rattle.recorded_run.proofs.Causes.{no_cause, decided-by, replay-cause, replay-free, replay-alone, free-alone}
 use Rattle.recorded_run.proofs.rules.run_recorded.Goals as goal
 
@@ -33,7 +35,7 @@ drive-requires-clause-session g c = record {
 
 pub drive-requires-clause-left : goal.drive-requires-clause-left
 drive-requires-clause-left g c = λ tells.
-    let was = reaches-file (g.D.Disk.told c.args.disk.now).reads 0 (c.requires.attached (subst IsTrue c.open.ensures.same_disk.same_telling tells)) in
+    let was = reaches-file (g.D.Disk.told c.args.disk.now).reads 0 (c.requires.attached (subst IsTrue c.open.ensures.same_disk.device.same_telling tells)) in
     let left = c.in_ok-opened.ensures.left was.0 was.1 in
     (c.args.text.now, map shown_entry c.in_ok-opened.opened.entries.items, left.0, left.1, left.2)
 
@@ -68,13 +70,19 @@ returns-clause-any_moment g c = λ file first is own.
     same own.in_order made left.1 left.2 in
     let run = c.in_ok-ended.ensures.recorded text first held in
     let ends = recorded-ends n text run.last c.drive.new.self.journal.gate (searched c.drive.new.self.search)
-    (g.D.Disk.told c.drive.new.disk) run.held in (
-      run.last,
-      run.begins,
-      run-moments n text first run.last (g.D.Disk.told c.args.disk.now) (g.D.Disk.told c.open.new.disk) (g.D.Disk.told c.drive.new.disk)
-          own.in_order run.begins (c.open.ensures.any_moment file first is own.own own.stands) run.any_moment,
-      subst (λ (h : Held). Ends n text run.last (searched_of h.kept) (g.D.Disk.told c.drive.new.disk)) (sym c.into_tree-tree.ensures) ends,
-    )
+    (g.D.Disk.told c.drive.new.disk) run.held in
+    let opening = c.open.ensures.any_moment file first is own.own own.stands in
+    record {
+      last = run.last;
+      begins = run.begins;
+      any_moment = run-moments n text first run.last (g.D.Disk.told c.args.disk.now) (g.D.Disk.told c.open.new.disk) (g.D.Disk.told c.drive.new.disk)
+          own.in_order run.begins opening run.any_moment;
+      acknowledged = run-keeps n text first run.last c.in_ok-opened.opened.journal.gate (searched c.in_ok-search.search) (g.D.Disk.told c.args.disk.now) (g.D.Disk.told c.open.new.disk)
+          (g.D.Disk.told c.drive.new.disk) run.begins held
+          (opening-moments n text first (g.D.Disk.told c.args.disk.now) (g.D.Disk.told c.open.new.disk) own.in_order opening) run.any_moment run.acknowledged;
+      few = λ l begins. few-front c.args.orders first run.last l run.few begins;
+      known = subst (λ (h : Held). Ends n text run.last (searched_of h.kept) (g.D.Disk.told c.drive.new.disk)) (sym c.into_tree-tree.ensures) ends;
+    }
 
 pub returns-in_err-ended-clause-any_moment : goal.returns-in_err-ended-clause-any_moment
 returns-in_err-ended-clause-any_moment g c =
@@ -89,29 +97,39 @@ returns-in_err-ended-clause-any_moment g c =
     let made = ap (λ (h : Held). searched_of h.kept) c.in_ok-search.ensures.tree ∙ c.in_ok-tree.ensures.made in
     let held = opened-recorded n text first list c.in_ok-opened.opened.journal.gate (searched c.in_ok-search.search) left.0 (g.D.Disk.told c.open.new.disk)
     same own.in_order made left.1 left.2 in
-    let run = c.in_err-ended.ensures.recorded text first held in (
-      run.last,
-      run.begins,
-      run-moments n text first run.last (g.D.Disk.told c.args.disk.now) (g.D.Disk.told c.open.new.disk) (g.D.Disk.told c.drive.new.disk)
-          own.in_order run.begins (c.open.ensures.any_moment file first is own.own own.stands) run.any_moment,
-      run.held,
-    ))
+    let run = c.in_err-ended.ensures.recorded text first held in
+    let opening = c.open.ensures.any_moment file first is own.own own.stands in
+    record {
+      last = run.last;
+      begins = run.begins;
+      any_moment = run-moments n text first run.last (g.D.Disk.told c.args.disk.now) (g.D.Disk.told c.open.new.disk) (g.D.Disk.told c.drive.new.disk)
+          own.in_order run.begins opening run.any_moment;
+      acknowledged = run-keeps n text first run.last c.in_ok-opened.opened.journal.gate (searched c.in_ok-search.search) (g.D.Disk.told c.args.disk.now) (g.D.Disk.told c.open.new.disk)
+          (g.D.Disk.told c.drive.new.disk) run.begins held
+          (opening-moments n text first (g.D.Disk.told c.args.disk.now) (g.D.Disk.told c.open.new.disk) own.in_order opening) run.any_moment run.acknowledged;
+      few = λ l begins. few-front c.args.orders first run.last l run.few begins;
+      known = run.held;
+    })
 
 pub returns-in_err-opened-clause-any_moment : goal.returns-in_err-opened-clause-any_moment
 returns-in_err-opened-clause-any_moment g c =
     let p = err_from_is_err_and c.from_residual.result c.from_residual.ensures.1 in
     rw (p.1, p.2)
-    (λ file first is own. (
-      first,
-      begins-same first,
-      opening-moments (net_of c.args.net.now) c.args.text.now first (g.D.Disk.told c.args.disk.now)
-          (g.D.Disk.told c.open.new.disk) own.in_order (c.open.ensures.any_moment file first is own.own own.stands),
-      λ memory. record {
+    (λ file first is own.
+    let opening = opening-moments (net_of c.args.net.now) c.args.text.now first (g.D.Disk.told c.args.disk.now)
+    (g.D.Disk.told c.open.new.disk) own.in_order (c.open.ensures.any_moment file first is own.own own.stands) in
+    record {
+      last = first;
+      begins = begins-same first;
+      any_moment = opening;
+      acknowledged = opening-keeps (net_of c.args.net.now) c.args.text.now first (g.D.Disk.told c.args.disk.now) (g.D.Disk.told c.open.new.disk) opening;
+      few = λ l begins. few-front c.args.orders first first l (few-same c.args.orders first) begins;
+      known = λ memory. record {
         file = file;
         read = c.in_err-opened.ensures.kept (ap Err (memory-of c.in_err-opened.field-0.0 memory)) ∙ is;
         own = own;
-      },
-    ))
+      };
+    })
 
 pub returns-in_err-tree-clause-any_moment : goal.returns-in_err-tree-clause-any_moment
 returns-in_err-tree-clause-any_moment g c =
@@ -120,14 +138,18 @@ returns-in_err-tree-clause-any_moment g c =
     (λ file first is own.
     let list = map shown_entry c.in_ok-opened.opened.entries.items in
     let same = one_standing file c.args.text.now list first (c.in_ok-opened.ensures.entries file is) own.stands in
-    let left = c.in_ok-opened.ensures.left file is in (
-      first,
-      begins-same first,
-      opening-moments (net_of c.args.net.now) c.args.text.now first (g.D.Disk.told c.args.disk.now)
-          (g.D.Disk.told c.open.new.disk) own.in_order (c.open.ensures.any_moment file first is own.own own.stands),
-      λ memory. kept-stands (net_of c.args.net.now) c.args.text.now first c.in_ok-opened.opened.journal.gate left.0 (g.D.Disk.told c.open.new.disk)
-          own.in_order left.1 (subst (λ (l : List Entry). IsKeptAt c.in_ok-opened.opened.journal.gate c.args.text.now l left.0) same left.2),
-    ))
+    let left = c.in_ok-opened.ensures.left file is in
+    let opening = opening-moments (net_of c.args.net.now) c.args.text.now first (g.D.Disk.told c.args.disk.now)
+    (g.D.Disk.told c.open.new.disk) own.in_order (c.open.ensures.any_moment file first is own.own own.stands) in
+    record {
+      last = first;
+      begins = begins-same first;
+      any_moment = opening;
+      acknowledged = opening-keeps (net_of c.args.net.now) c.args.text.now first (g.D.Disk.told c.args.disk.now) (g.D.Disk.told c.open.new.disk) opening;
+      few = λ l begins. few-front c.args.orders first first l (few-same c.args.orders first) begins;
+      known = λ memory. kept-stands (net_of c.args.net.now) c.args.text.now first c.in_ok-opened.opened.journal.gate left.0 (g.D.Disk.told c.open.new.disk)
+          own.in_order left.1 (subst (λ (l : List Entry). IsKeptAt c.in_ok-opened.opened.journal.gate c.args.text.now l left.0) same left.2);
+    })
 
 pub returns-in_err-search-clause-any_moment : goal.returns-in_err-search-clause-any_moment
 returns-in_err-search-clause-any_moment g c =
@@ -136,14 +158,18 @@ returns-in_err-search-clause-any_moment g c =
     (λ file first is own.
     let list = map shown_entry c.in_ok-opened.opened.entries.items in
     let same = one_standing file c.args.text.now list first (c.in_ok-opened.ensures.entries file is) own.stands in
-    let left = c.in_ok-opened.ensures.left file is in (
-      first,
-      begins-same first,
-      opening-moments (net_of c.args.net.now) c.args.text.now first (g.D.Disk.told c.args.disk.now)
-          (g.D.Disk.told c.open.new.disk) own.in_order (c.open.ensures.any_moment file first is own.own own.stands),
-      λ memory. kept-stands (net_of c.args.net.now) c.args.text.now first c.in_ok-opened.opened.journal.gate left.0 (g.D.Disk.told c.open.new.disk)
-          own.in_order left.1 (subst (λ (l : List Entry). IsKeptAt c.in_ok-opened.opened.journal.gate c.args.text.now l left.0) same left.2),
-    ))
+    let left = c.in_ok-opened.ensures.left file is in
+    let opening = opening-moments (net_of c.args.net.now) c.args.text.now first (g.D.Disk.told c.args.disk.now)
+    (g.D.Disk.told c.open.new.disk) own.in_order (c.open.ensures.any_moment file first is own.own own.stands) in
+    record {
+      last = first;
+      begins = begins-same first;
+      any_moment = opening;
+      acknowledged = opening-keeps (net_of c.args.net.now) c.args.text.now first (g.D.Disk.told c.args.disk.now) (g.D.Disk.told c.open.new.disk) opening;
+      few = λ l begins. few-front c.args.orders first first l (few-same c.args.orders first) begins;
+      known = λ memory. kept-stands (net_of c.args.net.now) c.args.text.now first c.in_ok-opened.opened.journal.gate left.0 (g.D.Disk.told c.open.new.disk)
+          own.in_order left.1 (subst (λ (l : List Entry). IsKeptAt c.in_ok-opened.opened.journal.gate c.args.text.now l left.0) same left.2);
+    })
 
 -- ---- causes
 

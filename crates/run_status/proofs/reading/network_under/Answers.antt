@@ -1,6 +1,8 @@
-use Rattle.run_status.proofs.Networks.{long_file}
+use Rattle.std.proofs.Common.{Err, ap}
+use Rattle.run_status.proofs.Networks.{unread_shelf}
 use Rattle.run_status.proofs.reading.network_under.Goals as goal
 
-pub returns-in-Err-TooLong-clause-unread : goal.returns-in-Err-TooLong-clause-unread
-returns-in-Err-TooLong-clause-unread g c =
-    long_file (g.S.Shelf.told c.args.shelf.now).files c.args.name.now (g.S.Shelf.told c.args.shelf.now).taken (g.S.Shelf.told c.read_all.new.self).taken (c.read_all.ensures.too_long (cc))
+pub returns-in-Err-clause-unread : goal.returns-in-Err-clause-unread
+returns-in-Err-clause-unread g c =
+    unread_shelf c.args.name.now (g.S.Shelf.told c.args.shelf.now) (g.S.Shelf.told c.read_all.new.self) c.in-Err.fault c.from.result c.from.ensures
+    (λ e. c.in-Err.ensures.failed (ap (λ f. Err f) e)) (λ e. c.in-Err.ensures.too_long (ap (λ f. Err f) e))

@@ -3,7 +3,6 @@ use Rattle.std.proofs.Common.{◌≡◌, inl, inr, ℕ, List, Ok, Err, refl, sym
 use Rattle.std.specs.Prelude.{IsTrue}
 use Rattle.std.proofs.lemmas.Option.{none-some}
 use Rattle.std.proofs.lemmas.Result.{err_from_is_err_and}
-use Rattle.disk_calls.proofs.Calling.{one_of-file}
 use Rattle.pool_model.specs.Network.{net_of}
 use Rattle.row_model.specs.Entries.{made_by}
 use Rattle.box_tree.specs.Kept.{searched_of}
@@ -13,13 +12,13 @@ use Rattle.node_journal.proofs.Runs.{quiet-start, quiet-call}
 use Rattle.journal_format.specs.declared.fault.JournalFault.TheVariants as journal_faults
 use Rattle.recorded_run.specs.declared.fault.RunFault.TheVariants as faults
 use Rattle.solve_command.specs.Recorded.{IsOpened, shows}
-use Rattle.solve_command.proofs.Journaling.{one_of-reaches, attached-unsolved, attached-solved}
+use Rattle.solve_command.proofs.Journaling.{finds-reaches, attached-unsolved, attached-solved}
 use Rattle.solve_command.proofs.Solutions.{solved-from}
 use Rattle.solve_command.proofs.recorded.recorded_solution.Goals as goal
 
 pub run_recorded-requires-clause-attached : goal.run_recorded-requires-clause-attached
 run_recorded-requires-clause-attached g c = λ tells.
-    one_of-reaches (g.D.Disk.told c.attach.new.self).reads (g.D.Disk.told c.args.disk.now).may_leave (c.in_ok-attach.ensures.open (subst IsTrue c.attach.ensures.goes_on.same_disk.same_telling tells))
+    finds-reaches (g.D.Disk.told c.args.disk.now) (g.D.Disk.told c.attach.new.self) (c.in_ok-attach.ensures.open (subst IsTrue c.attach.ensures.same_device.same_telling tells))
 
 pub returns-clause-solved : goal.returns-clause-solved
 returns-clause-solved g c =
@@ -38,32 +37,32 @@ returns-clause-journal g c = λ tells.
     let old = g.D.Disk.told c.args.disk.now in
     let mid = g.D.Disk.told c.attach.new.self in
     let new = g.D.Disk.told c.run_recorded.new.disk in
-    let at = one_of-file mid.reads old.may_leave (c.in_ok-attach.ensures.open tells) in
-    let attach = quiet-call old mid c.attach.ensures.goes_on c.attach.ensures.crash in
+    let at = c.in_ok-attach.ensures.open tells in
+    let attach = quiet-call old mid c.attach.ensures.time c.attach.ensures.crash in
     let found = searched_of c.in_ok-outcome.outcome.tree.kept in
     subst (λ (text : List ℕ). IsOpened n text c.args.orders old new
     (Ok (record { certificate = c.in_ok-certificate.certificate; ended = c.in_ok-outcome.outcome.ended }))) (c.deref.ensures.value ∙ c.in_ok-text.ensures.text)
-    (inr (attached-solved n c.deref.result.now c.args.orders at.0 old mid new at.2 attach
-    c.certificate_of.ensures.limited found c.in_ok-outcome.outcome.ended (λ k. shown_cert c.in_ok-certificate.certificate ≡ k) at.1
-    (λ cause has. c.in_ok-outcome.ensures.decided at.0 cause at.1 has) c.in_ok-outcome.ensures.run
-    (subst (IsValid n) c.in_ok-certificate.ensures.found c.in_ok-certificate.ensures.valid) c.in_ok-certificate.ensures.found (λ first own. c.in_ok-outcome.ensures.any_moment at.0 first at.1 own)))
+    (inr (attached-solved n c.deref.result.now c.args.orders at.file old mid new at.image (c.run_recorded.ensures.same_disk.same_attached ∙ at.noted) attach
+    c.certificate_of.ensures.limited found c.in_ok-outcome.outcome.ended (λ k. shown_cert c.in_ok-certificate.certificate ≡ k) at.read
+    (λ cause has. c.in_ok-outcome.ensures.decided at.file cause at.read has) c.in_ok-outcome.ensures.run
+    (subst (IsValid n) c.in_ok-certificate.ensures.found c.in_ok-certificate.ensures.valid) c.in_ok-certificate.ensures.found (λ first own. c.in_ok-outcome.ensures.any_moment at.file first at.read own)))
 
 -- ---- where no answer is given
 
 pub returns-in_err-text-clause-journal : goal.returns-in_err-text-clause-journal
 returns-in_err-text-clause-journal g c =
     let p = err_from_is_err_and c.from_residual.result c.from_residual.ensures.1 in
-    rw (p.1, p.2) (λ tells. inl (tt, quiet-start (g.D.Disk.told c.args.disk.now)))
+    rw (p.1, p.2) (λ tells. inl (record { unopened = tt; quiet = quiet-start (g.D.Disk.told c.args.disk.now); none_attached = refl }))
 
 pub returns-in_err-attach-clause-journal : goal.returns-in_err-attach-clause-journal
 returns-in_err-attach-clause-journal g c =
     let p = err_from_is_err_and c.from_residual-in_err-attach.result c.from_residual-in_err-attach.ensures.1 in
     rw (p.1, p.2)
-    (λ tells. inl (
-      tt,
-      quiet-call (g.D.Disk.told c.args.disk.now)
-          (g.D.Disk.told c.attach.new.self) c.attach.ensures.goes_on c.attach.ensures.crash,
-    ))
+    (λ tells. inl (record {
+      unopened = tt;
+      quiet = quiet-call (g.D.Disk.told c.args.disk.now) (g.D.Disk.told c.attach.new.self) c.attach.ensures.time c.attach.ensures.crash;
+      none_attached = c.in_err-attach.ensures.not_attached;
+    }))
 
 pub returns-in_err-outcome-clause-journal : goal.returns-in_err-outcome-clause-journal
 returns-in_err-outcome-clause-journal g c =
@@ -75,12 +74,12 @@ returns-in_err-outcome-clause-journal g c =
     let mid = g.D.Disk.told c.attach.new.self in
     let new = g.D.Disk.told c.run_recorded.new.disk in
     let fault = c.in_err-outcome.field-0.0 in
-    let at = one_of-file mid.reads old.may_leave (c.in_ok-attach.ensures.open tells) in
-    let attach = quiet-call old mid c.attach.ensures.goes_on c.attach.ensures.crash in
+    let at = c.in_ok-attach.ensures.open tells in
+    let attach = quiet-call old mid c.attach.ensures.time c.attach.ensures.crash in
     subst (λ (text : List ℕ). IsOpened n text c.args.orders old new (Err fault)) (c.deref.ensures.value ∙ c.in_ok-text.ensures.text)
-    (inr (attached-unsolved n c.deref.result.now c.args.orders at.0 old mid new at.2 attach
-    fault (shows (Err fault)) (c.in_err-outcome.ensures.refused at.0 at.1) (λ cause has. c.in_err-outcome.ensures.decided at.0 cause at.1 has) c.in_err-outcome.ensures.untouched
-    (λ first own. c.in_err-outcome.ensures.any_moment at.0 first at.1 own))))
+    (inr (attached-unsolved n c.deref.result.now c.args.orders at.file old mid new at.image (c.run_recorded.ensures.same_disk.same_attached ∙ at.noted) attach
+    fault (shows (Err fault)) (c.in_err-outcome.ensures.refused at.file at.read) (λ cause has. c.in_err-outcome.ensures.decided at.file cause at.read has) c.in_err-outcome.ensures.untouched
+    (λ first own. c.in_err-outcome.ensures.any_moment at.file first at.read own))))
 
 pub returns-in_err-certificate-clause-journal : goal.returns-in_err-certificate-clause-journal
 returns-in_err-certificate-clause-journal g c =
@@ -92,11 +91,18 @@ returns-in_err-certificate-clause-journal g c =
     let mid = g.D.Disk.told c.attach.new.self in
     let new = g.D.Disk.told c.run_recorded.new.disk in
     let fault = faults.Journal journal_faults.Memory in
-    let at = one_of-file mid.reads old.may_leave (c.in_ok-attach.ensures.open tells) in
-    let attach = quiet-call old mid c.attach.ensures.goes_on c.attach.ensures.crash in
+    let at = c.in_ok-attach.ensures.open tells in
+    let attach = quiet-call old mid c.attach.ensures.time c.attach.ensures.crash in
     subst (λ (text : List ℕ). IsOpened n text c.args.orders old new (Err fault)) (c.deref.ensures.value ∙ c.in_ok-text.ensures.text)
-    (inr (attached-unsolved n c.deref.result.now c.args.orders at.0 old mid new at.2 attach
+    (inr (attached-unsolved n c.deref.result.now c.args.orders at.file old mid new at.image (c.run_recorded.ensures.same_disk.same_attached ∙ at.noted) attach
     fault (shows (Err fault)) (inl (inr refl)) (λ cause has. inl (inr refl)) (inl (inr refl))
     (λ first own.
-    let goes = c.in_ok-outcome.ensures.any_moment at.0 first at.1 own in
-    (goes.0, goes.1, goes.2, λ memory. record { file = goes.3.file; read = goes.3.on_disk.read; own = goes.3.own })))))
+    let goes = c.in_ok-outcome.ensures.any_moment at.file first at.read own in
+    record {
+      last = goes.last;
+      begins = goes.begins;
+      any_moment = goes.any_moment;
+      acknowledged = goes.acknowledged;
+      few = goes.few;
+      known = λ memory. record { file = goes.known.file; read = goes.known.on_disk.read; own = goes.known.own };
+    }))))

@@ -1,7 +1,8 @@
-use Rattle.std.proofs.Common.{inl, ℕ, List, subst}
+use Rattle.std.proofs.Common.{inl, inr, ℕ, List, ap, refl, subst}
 use Rattle.node_journal.proofs.Runs.{quiet-start}
 use Rattle.run_status.specs.Reads.{ReadsUnder}
-use Rattle.solve_command.proofs.Outcomes.{no_unread_disk, unread_unopened}
+use Rattle.solve_command.specs.declared.solving.SolveOutcome.TheVariants.{Unread}
+use Rattle.solve_command.proofs.Outcomes.{no_unread_disk, unread_memory_is, unread_unopened}
 use Rattle.solve_command.proofs.solving.solve.Goals as goal
 
 pub returns-in-Ok-clause-took : goal.returns-in-Ok-clause-took
@@ -21,7 +22,15 @@ returns-in-Ok-clause-journal g c = λ file named tells.
 
 pub returns-in-Err-clause-journal : goal.returns-in-Err-clause-journal
 returns-in-Err-clause-journal g c = λ file named tells.
-    inl (unread_unopened c.in-Err.why, quiet-start (g.D.Disk.told c.args.disk.now))
+    inl (record { unopened = unread_unopened c.in-Err.why; quiet = quiet-start (g.D.Disk.told c.args.disk.now); none_attached = refl })
 
 pub returns-in-Err-clause-disk_fault : goal.returns-in-Err-clause-disk_fault
 returns-in-Err-clause-disk_fault g c = λ e. absurd (no_unread_disk c.in-Err.why e)
+
+pub returns-in-Ok-clause-memory : goal.returns-in-Ok-clause-memory
+returns-in-Ok-clause-memory g c = λ e.
+    inr (c.solve_network.ensures.memory (g.S.Shelf.told c.args.shelf.now).files
+    (subst (λ (name : List ℕ). ReadsUnder (g.S.Shelf.told c.args.shelf.now).files name c.in-Ok.net) c.as_str.ensures.value c.in-Ok.ensures.reads) e)
+
+pub returns-in-Err-clause-memory : goal.returns-in-Err-clause-memory
+returns-in-Err-clause-memory g c = λ e. inl (ap (λ why. Unread why) (unread_memory_is c.in-Err.why e))

@@ -9,8 +9,9 @@ use Rattle.search_run.specs.declared.orders.Orders.{Orders}
 use Rattle.solve_command.specs.Recorded.{IsOpened}
 use Rattle.solve_command.specs.Solution.{IsSolutionFrom, status_of}
 use Rattle.solve_command.specs.SolveEnds.{SolvesAs, fault_status, solve_status}
+use Rattle.solve_command.specs.declared.solving.SolveOutcome.TheVariants.{Unsolved}
 use Rattle.solve_command.proofs.Journaling.{journaled-printed, journaled-unsolved}
-use Rattle.solve_command.proofs.Outcomes.{disk_fault_is, no_end_fault, no_read_fault, no_write_fault, printed_short, solution_ends, took_nothing, unsolved_ends}
+use Rattle.solve_command.proofs.Outcomes.{disk_fault_is, memory_fault_is, no_end_fault, no_end_want, no_read_fault, no_write_fault, printed_short, solution_ends, took_nothing, unsolved_ends}
 use Rattle.solve_command.proofs.solving.solve_network.Goals as goal
 
 pub returns-in-Ok-clause-took : goal.returns-in-Ok-clause-took
@@ -66,7 +67,7 @@ returns-in-Err-clause-journal g c = λ files file reads named tells.
 
 pub returns-in_default-clause-journal : goal.returns-in_default-clause-journal
 returns-in_default-clause-journal g c = λ files file reads named tells.
-    inl (tt, quiet-start (g.D.Disk.told c.args.disk.now))
+    inl (record { unopened = tt; quiet = quiet-start (g.D.Disk.told c.args.disk.now); none_attached = refl })
 
 pub returns-in-Ok-clause-disk_fault : goal.returns-in-Ok-clause-disk_fault
 returns-in-Ok-clause-disk_fault g c = λ e. absurd (no_end_fault c.in-Ok.solution.ended (solve_status c.print.result) c.print.ensures.ended e)
@@ -86,3 +87,12 @@ returns-in-Err-clause-write_fault g c = λ e. absurd (no_write_fault c.in-Err.fa
 
 pub returns-in-Err-clause-disk_fault : goal.returns-in-Err-clause-disk_fault
 returns-in-Err-clause-disk_fault g c = λ e. c.in-Err.ensures.failed (ap (λ f. Err f) (disk_fault_is c.in-Err.fault e))
+
+pub returns-in-Ok-clause-memory : goal.returns-in-Ok-clause-memory
+returns-in-Ok-clause-memory g c = λ files reads e. absurd (no_end_want c.in-Ok.solution.ended (solve_status c.print.result) c.print.ensures.ended e)
+
+pub returns-in-Err-clause-memory : goal.returns-in-Err-clause-memory
+returns-in-Err-clause-memory g c = λ files reads e. record {
+  solvable = record { network = c.args.net.now; reads = reads; within = c.in-Some.ensures.within };
+  search = ap (λ fault. Unsolved fault) (memory_fault_is c.in-Err.fault e);
+}

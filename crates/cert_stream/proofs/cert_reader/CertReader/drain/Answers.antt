@@ -1,5 +1,5 @@
 use Rattle.std.proofs.Common.{◌≡◌, ap, subst, arith}
-use Rattle.cert_stream.specs.Streams.{Reader, Took}
+use Rattle.cert_stream.specs.Streams.{Reader, ReaderTook}
 use Rattle.shelf_calls.proofs.Keeping.{keeps-then}
 use Rattle.cert_stream.proofs.Calls.{took-then, rose-then}
 use Rattle.cert_stream.proofs.NextItem.{let-go}
@@ -11,8 +11,8 @@ loop-self-preserved g c =
     let i = c.self.inside in
     let e = c.in_ok-take_some.ensures in
     let r : Reader = record { state = i.state; line = i.line; held = i.held; left = i.left; ended = i.ended } in
-    let took : Took c.loop-self.self (g.S.Shelf.told c.loop-self.shelf).rest c.take_some.new.self (g.S.Shelf.told c.take_some.new.shelf).rest =
-    subst (λ (q : Reader). Took q (g.S.Shelf.told c.loop-self.shelf).rest c.take_some.new.self (g.S.Shelf.told c.take_some.new.shelf).rest) c.self.view_is (let-go r c.clear.new.self e.filled.took) in
+    let took : ReaderTook c.loop-self.self (g.S.Shelf.told c.loop-self.shelf).rest c.take_some.new.self (g.S.Shelf.told c.take_some.new.shelf).rest =
+    subst (λ (q : Reader). ReaderTook q (g.S.Shelf.told c.loop-self.shelf).rest c.take_some.new.self (g.S.Shelf.told c.take_some.new.shelf).rest) c.self.view_is (let-go r c.clear.new.self e.filled.took) in
     let left : i.left ≡ c.loop-self.self.left = ap (λ (q : Reader). q.left) c.self.view_is in (
       took-then inv.0 took,
       rose-then c.args.self.now.left c.loop-self.self.left c.take_some.new.self.left (g.S.Shelf.told c.args.shelf.now).taken (g.S.Shelf.told c.loop-self.shelf).taken (g.S.Shelf.told c.take_some.new.shelf).taken

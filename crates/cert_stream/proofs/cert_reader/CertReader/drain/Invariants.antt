@@ -1,12 +1,12 @@
 use Rattle.std.proofs.Common.{◌+◌, ◌-◌, cond}
 use Rattle.edge_io.specs.Counts.{RoseBy}
 use Rattle.shelf_calls.specs.Told.{Keeps}
-use Rattle.cert_stream.specs.Streams.{Took}
+use Rattle.cert_stream.specs.Streams.{ReaderTook}
 use Rattle.cert_stream.proofs.cert_reader.CertReader.drain.Given as goal
 
 abbrev pub invariant-loop-self : goal.invariant-loop-self
 invariant-loop-self g l =
-    Took l.fn.self (g.S.Shelf.told l.fn.shelf).rest l.self (g.S.Shelf.told l.shelf).rest
+    ReaderTook l.fn.self (g.S.Shelf.told l.fn.shelf).rest l.self (g.S.Shelf.told l.shelf).rest
     × RoseBy (l.fn.self.left - l.self.left) (g.S.Shelf.told l.fn.shelf).taken (g.S.Shelf.told l.shelf).taken
     × Keeps (g.S.Shelf.told l.fn.shelf) (g.S.Shelf.told l.shelf)
 

@@ -3,7 +3,7 @@ use Rattle.cert_text.specs.declared.fault.TextFault.{TextFault}
 use Rattle.cert_stream.specs.declared.fault.ItemFault.TheVariants as faults
 use Rattle.cert_items.specs.declared.items.Item.{Item}
 use Rattle.cert_items.specs.Items.{shown_item}
-use Rattle.cert_stream.specs.Streams.{Reader, Took}
+use Rattle.cert_stream.specs.Streams.{Reader, ReaderTook}
 use Rattle.cert_stream.proofs.NextItem.{Stepped, gives-item, gives-last, gives-fault, gives-behind, same-text}
 use Rattle.cert_stream.proofs.cert_reader.CertReader.next_item.Goals as goal
 
@@ -29,6 +29,6 @@ returns-in-Ok-2-clause-item g c =
 pub returns-in_ok-drain-in-Err-clause-text : goal.returns-in_ok-drain-in-Err-clause-text
 returns-in_ok-drain-in-Err-clause-text g c = λ f e.
     let same : c.in-Err.fault ≡ f = same-text Item c.in-Err.fault f e in
-    let took : Took c.fill.new.self (g.S.Shelf.told c.fill.new.shelf).rest c.drain.new.self (g.S.Shelf.told c.drain.new.shelf).rest =
-    subst (λ (r : Reader). Took r (g.S.Shelf.told c.fill.new.shelf).rest c.drain.new.self (g.S.Shelf.told c.drain.new.shelf).rest) c.in-Err.ensures.unchanged c.in_ok-drain-in-Err.ensures.took in
+    let took : ReaderTook c.fill.new.self (g.S.Shelf.told c.fill.new.shelf).rest c.drain.new.self (g.S.Shelf.told c.drain.new.shelf).rest =
+    subst (λ (r : Reader). ReaderTook r (g.S.Shelf.told c.fill.new.shelf).rest c.drain.new.self (g.S.Shelf.told c.drain.new.shelf).rest) c.in-Err.ensures.unchanged c.in_ok-drain-in-Err.ensures.took in
     gives-fault f c.requires.going c.in_ok-fill.ensures.filled (λ more m. c.in-Err.ensures.fault more m ∙ ap (λ (x : TextFault). Err x.line) same) took c.in_ok-drain-in-Err.ensures.ended

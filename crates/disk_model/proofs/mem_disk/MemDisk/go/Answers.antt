@@ -20,10 +20,21 @@ pub returns-clause-crash : goal.returns-clause-crash
 returns-clause-crash c = crash-to c.args.self.now.start.items c.args.self.now.steps.items c.push.new.self.items c.args.step c.in_ok-push.ensures.items
 
 pub returns-clause-goes_on : goal.returns-clause-goes_on
-returns-clause-goes_on c = record {
-  time = time-to c.args.self.now.start.items c.args.self.now.steps.items c.push.new.self.items c.args.step c.in_ok-push.ensures.items;
-  same_disk = record { faults_grow = grows-same c.args.self.now.faults; same_telling = refl; same_names = refl };
-}
+returns-clause-goes_on c =
+    let lasts = time-to c.args.self.now.start.items c.args.self.now.steps.items c.push.new.self.items c.args.step c.in_ok-push.ensures.items in
+    record {
+      time = record {
+        later = lasts.later;
+        nothing_else = lasts.nothing_else;
+        keeps = lasts.keeps;
+        nothing_earlier = lasts.nothing_earlier;
+        keeps_past = lasts.keeps_past;
+      };
+      same_disk = record {
+        device = record { faults_grow = grows-same c.args.self.now.faults; same_telling = refl; same_names = refl };
+        same_attached = refl;
+      };
+    }
 
 pub returns-clause-durable : goal.returns-clause-durable
 returns-clause-durable c = λ is.

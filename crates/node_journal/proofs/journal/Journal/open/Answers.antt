@@ -15,7 +15,7 @@ use Rattle.node_journal.proofs.journal.Journal.«open».Goals as goal
 
 pub open_measured-requires-clause-settled : goal.open_measured-requires-clause-settled
 open_measured-requires-clause-settled g c = λ tells.
-    let was = reaches-file (g.D.Disk.told c.args.disk.now).reads 0 (c.requires.attached (subst IsTrue c.measure.ensures.same_disk.same_telling tells)) in
+    let was = reaches-file (g.D.Disk.told c.args.disk.now).reads 0 (c.requires.attached (subst IsTrue c.measure.ensures.same_disk.device.same_telling tells)) in
     (was.0, c.in_ok-end.ensures.on_disk was.0 was.1)
 
 pub open_measured-requires-clause-size : goal.open_measured-requires-clause-size

@@ -9,7 +9,9 @@ use Rattle.box_tree.specs.Views.{shown_entry}
 use Rattle.search_core.specs.Searches.{searched}
 use Rattle.search_run.proofs.Stepping.{way-start, way-more, next-step, next-closed, next-stopped, next-stuck, next-infeasible, next-undecided}
 use Rattle.search_run.proofs.Nearer.{nearer}
-use Rattle.recorded_run.proofs.Recording.{so_far-start, so_far-moments, in_order-more, begins-more, recorded-more, kept-stands, recorded-stands}
+use Rattle.recorded_run.proofs.Acknowledging.{so_far-start, keeps-more}
+use Rattle.recorded_run.proofs.Splitting.{few-more}
+use Rattle.recorded_run.proofs.Recording.{so_far-moments, in_order-more, begins-more, recorded-more, kept-stands, recorded-stands}
 use Rattle.recorded_run.proofs.session.Session.drive.Goals as goal
 
 pub steps-init : goal.steps-init
@@ -18,7 +20,7 @@ steps-init g c = record {
   way = way-start (net_of c.args.net.now) c.args.orders (searched c.args.self.now.search);
   left = c.requires.left;
   so_far = λ text first is.
-      so_far-start (net_of c.args.net.now) text first (g.D.Disk.told c.args.disk.now) c.args.self.now.journal.gate (searched c.args.self.now.search) is;
+      so_far-start (net_of c.args.net.now) text c.args.orders first (g.D.Disk.told c.args.disk.now) c.args.self.now.journal.gate (searched c.args.self.now.search) is;
   same_disk = same_disk-same (g.D.Disk.told c.args.disk.now);
 }
 
@@ -27,17 +29,17 @@ steps-preserved g c =
     let n = net_of c.args.net.now in
     let s = c.steps.self.search in
     let e = shown_entry c.in-Do.entry in
-    let in_order = rw c.in-Do.is at c.in_ok-entry.ensures.in_order in
-    let due = rw c.in-Do.is at c.in_ok-entry.ensures.next in
+    let in_order = rw c.in-Do.is at c.in_ok-due.ensures.in_order in
+    let due = rw c.in-Do.is at c.in_ok-due.ensures.next in
     let done = c.in_ok-record-in-Do.ensures in
     let then = c.record.new.self in
     record {
       session = done.session;
       way = way-more n c.args.orders (searched c.args.self.now.search) (searched s) (searched then.search) c.steps.invariant.way
-          (next-step n c.args.orders (searched s) s.options c.steps.invariant.session.options s.repaired s.tree.kept.cuts c.steps.invariant.session.search.tree.kept.counted
+          (next-step n c.args.orders (searched s) s.options c.steps.invariant.session.options s.repaired s.tree.kept.cuts c.steps.invariant.session.search.tree.kept.counted _
           (searched then.search) c.in-Do.entry due in_order done.taken);
       left = λ tells.
-          let was = c.steps.invariant.left (subst IsTrue c.record.ensures.same_disk.same_telling tells) in
+          let was = c.steps.invariant.left (subst IsTrue c.record.ensures.same_disk.device.same_telling tells) in
           let put = done.recorded was.0 was.2 was.1 was.3 was.4 in
           (was.0, was.1 ++ e ∷ [], put.0, put.1, put.2);
       so_far = λ text first is.
@@ -49,6 +51,10 @@ steps-preserved g c =
             begins = begins-more so.last first e so.begins;
             any_moment = so_far-moments n text first so.last e (g.D.Disk.told c.args.disk.now) (g.D.Disk.told c.steps.disk) (g.D.Disk.told c.record.new.disk) so.begins so.held.in_order (in_order-more n start so.last e so.held.in_order order) so.any_moment
                 (c.record.ensures.any_moment text so.held.file so.last so.held.on_disk so.held.kept);
+            acknowledged = keeps-more n text first so.last e c.steps.self.journal.gate (searched c.steps.self.search) (g.D.Disk.told c.args.disk.now) (g.D.Disk.told c.steps.disk) (g.D.Disk.told c.record.new.disk) so.held
+                (in_order-more n start so.last e so.held.in_order order) so.acknowledged (c.record.ensures.any_moment text so.held.file so.last so.held.on_disk so.held.kept);
+            few = few-more n c.args.orders first so.last (searched s) s.options s.repaired _ s.tree.kept.cuts c.in-Do.entry c.steps.invariant.session.options
+                c.steps.invariant.session.search.tree.kept.counted due so.held.made so.few;
             held = recorded-more n text so.last e then.journal.gate (searched s) (searched then.search) put.0 (g.D.Disk.told c.record.new.disk)
                 so.held.in_order so.held.made in_order done.taken put.1 put.2;
           };
@@ -60,17 +66,17 @@ steps-smaller g c =
     let n = net_of c.args.net.now in
     let s = c.steps.self.search in
     let e = shown_entry c.in-Do.entry in
-    let in_order = rw c.in-Do.is at c.in_ok-entry.ensures.in_order in
-    let due = rw c.in-Do.is at c.in_ok-entry.ensures.next in
+    let in_order = rw c.in-Do.is at c.in_ok-due.ensures.in_order in
+    let due = rw c.in-Do.is at c.in_ok-due.ensures.next in
     let done = c.in_ok-record-in-Do.ensures in
     let then = c.record.new.self.search in
-    nearer n s then c.steps.invariant.session.search done.session.search (done.session.options ∙ sym c.steps.invariant.session.options) _ c.in-Do.entry
+    nearer n s then c.steps.invariant.session.search done.session.search (done.session.options ∙ sym c.steps.invariant.session.options) _ _ c.in-Do.entry
     done.taken done.repaired in_order due
 
 -- ---- ends
 
-pub returns-in_err-entry-clause-recorded : goal.returns-in_err-entry-clause-recorded
-returns-in_err-entry-clause-recorded g c =
+pub returns-in_err-due-clause-recorded : goal.returns-in_err-due-clause-recorded
+returns-in_err-due-clause-recorded g c =
     let p = err_from_is_err_and c.from_residual.result c.from_residual.ensures.1 in
     rw (p.1)
     (λ text first is.
@@ -79,6 +85,8 @@ returns-in_err-entry-clause-recorded g c =
       last = so.last;
       begins = so.begins;
       any_moment = so.any_moment;
+      acknowledged = so.acknowledged;
+      few = so.few;
       held = λ memory. recorded-stands (net_of c.args.net.now) text so.last c.steps.self.journal.gate (searched c.steps.self.search) (g.D.Disk.told c.steps.disk) so.held;
     })
 
@@ -87,7 +95,8 @@ returns-in_err-record-in-Do-clause-recorded g c =
     let n = net_of c.args.net.now in
     let s = c.steps.self.search in
     let e = shown_entry c.in-Do.entry in
-    let in_order = rw c.in-Do.is at c.in_ok-entry.ensures.in_order in
+    let in_order = rw c.in-Do.is at c.in_ok-due.ensures.in_order in
+    let due = rw c.in-Do.is at c.in_ok-due.ensures.next in
     let p = err_from_is_err_and c.from_residual-in_err-record-in-Do.result c.from_residual-in_err-record-in-Do.ensures.1 in
     rw (p.1, p.2)
     (λ text first is.
@@ -98,6 +107,10 @@ returns-in_err-record-in-Do-clause-recorded g c =
       begins = begins-more so.last first e so.begins;
       any_moment = so_far-moments n text first so.last e (g.D.Disk.told c.args.disk.now) (g.D.Disk.told c.steps.disk) (g.D.Disk.told c.record.new.disk) so.begins so.held.in_order (in_order-more n start so.last e so.held.in_order order) so.any_moment
           (c.record.ensures.any_moment text so.held.file so.last so.held.on_disk so.held.kept);
+      acknowledged = keeps-more n text first so.last e c.steps.self.journal.gate (searched c.steps.self.search) (g.D.Disk.told c.args.disk.now) (g.D.Disk.told c.steps.disk) (g.D.Disk.told c.record.new.disk) so.held
+          (in_order-more n start so.last e so.held.in_order order) so.acknowledged (c.record.ensures.any_moment text so.held.file so.last so.held.on_disk so.held.kept);
+      few = few-more n c.args.orders first so.last (searched s) s.options s.repaired _ s.tree.kept.cuts c.in-Do.entry c.steps.invariant.session.options
+          c.steps.invariant.session.search.tree.kept.counted due so.held.made so.few;
       held = λ memory.
           let put = c.in_err-record-in-Do.ensures.kept (ap Err memory) text so.held.file so.last so.held.on_disk so.held.kept in
           kept-stands n text (so.last ++ e ∷ []) c.record.new.self.journal.gate put.0 (g.D.Disk.told c.record.new.disk)
@@ -116,13 +129,13 @@ returns-in-Closed-clause-run g c =
       steps = c.steps.invariant.way.steps;
       made = c.steps.invariant.way.made;
       end = next-closed (net_of c.args.net.now) c.args.orders (searched s) s.options c.steps.invariant.session.options s.repaired s.tree.kept.cuts
-          c.steps.invariant.session.search.tree.kept.counted (rw c.in-Closed.is at c.in_ok-entry.ensures.next);
+          c.steps.invariant.session.search.tree.kept.counted (rw c.in-Closed.is at c.in_ok-due.ensures.next);
     }
 
 pub returns-in-Closed-clause-recorded : goal.returns-in-Closed-clause-recorded
 returns-in-Closed-clause-recorded g c = λ text first is.
     let so = c.steps.invariant.so_far text first is in
-    record { last = so.last; begins = so.begins; any_moment = so.any_moment; held = so.held }
+    record { last = so.last; begins = so.begins; any_moment = so.any_moment; acknowledged = so.acknowledged; few = so.few; held = so.held }
 
 pub returns-in-Stopped-clause-run : goal.returns-in-Stopped-clause-run
 returns-in-Stopped-clause-run g c =
@@ -132,13 +145,13 @@ returns-in-Stopped-clause-run g c =
       steps = c.steps.invariant.way.steps;
       made = c.steps.invariant.way.made;
       end = next-stopped (net_of c.args.net.now) c.args.orders (searched s) s.options c.steps.invariant.session.options s.repaired s.tree.kept.cuts
-          c.steps.invariant.session.search.tree.kept.counted (rw c.in-Stopped.is at c.in_ok-entry.ensures.next);
+          c.steps.invariant.session.search.tree.kept.counted _ (rw c.in-Stopped.is at c.in_ok-due.ensures.next);
     }
 
 pub returns-in-Stopped-clause-recorded : goal.returns-in-Stopped-clause-recorded
 returns-in-Stopped-clause-recorded g c = λ text first is.
     let so = c.steps.invariant.so_far text first is in
-    record { last = so.last; begins = so.begins; any_moment = so.any_moment; held = so.held }
+    record { last = so.last; begins = so.begins; any_moment = so.any_moment; acknowledged = so.acknowledged; few = so.few; held = so.held }
 
 pub returns-in-Stuck-clause-run : goal.returns-in-Stuck-clause-run
 returns-in-Stuck-clause-run g c =
@@ -148,13 +161,13 @@ returns-in-Stuck-clause-run g c =
       steps = c.steps.invariant.way.steps;
       made = c.steps.invariant.way.made;
       end = next-stuck (net_of c.args.net.now) c.args.orders (searched s) s.options c.steps.invariant.session.options s.repaired s.tree.kept.cuts
-          c.steps.invariant.session.search.tree.kept.counted (rw c.in-Stuck.is at c.in_ok-entry.ensures.next);
+          c.steps.invariant.session.search.tree.kept.counted _ (rw c.in-Stuck.is at c.in_ok-due.ensures.next);
     }
 
 pub returns-in-Stuck-clause-recorded : goal.returns-in-Stuck-clause-recorded
 returns-in-Stuck-clause-recorded g c = λ text first is.
     let so = c.steps.invariant.so_far text first is in
-    record { last = so.last; begins = so.begins; any_moment = so.any_moment; held = so.held }
+    record { last = so.last; begins = so.begins; any_moment = so.any_moment; acknowledged = so.acknowledged; few = so.few; held = so.held }
 
 pub returns-in-Infeasible-clause-run : goal.returns-in-Infeasible-clause-run
 returns-in-Infeasible-clause-run g c =
@@ -164,13 +177,13 @@ returns-in-Infeasible-clause-run g c =
       steps = c.steps.invariant.way.steps;
       made = c.steps.invariant.way.made;
       end = next-infeasible (net_of c.args.net.now) c.args.orders (searched s) s.options c.steps.invariant.session.options s.repaired s.tree.kept.cuts
-          c.steps.invariant.session.search.tree.kept.counted (rw c.in-Infeasible.is at c.in_ok-entry.ensures.next);
+          c.steps.invariant.session.search.tree.kept.counted (rw c.in-Infeasible.is at c.in_ok-due.ensures.next);
     }
 
 pub returns-in-Infeasible-clause-recorded : goal.returns-in-Infeasible-clause-recorded
 returns-in-Infeasible-clause-recorded g c = λ text first is.
     let so = c.steps.invariant.so_far text first is in
-    record { last = so.last; begins = so.begins; any_moment = so.any_moment; held = so.held }
+    record { last = so.last; begins = so.begins; any_moment = so.any_moment; acknowledged = so.acknowledged; few = so.few; held = so.held }
 
 pub returns-in-Undecided-clause-run : goal.returns-in-Undecided-clause-run
 returns-in-Undecided-clause-run g c =
@@ -179,11 +192,11 @@ returns-in-Undecided-clause-run g c =
       entries = c.steps.invariant.way.entries;
       steps = c.steps.invariant.way.steps;
       made = c.steps.invariant.way.made;
-      end = next-undecided (net_of c.args.net.now) c.args.orders (searched s) s.options c.steps.invariant.session.options s.repaired s.tree.kept.cuts c.steps.invariant.session.search.tree.kept.counted
-          (rw c.in-Undecided.is at c.in_ok-entry.ensures.next);
+      end = next-undecided (net_of c.args.net.now) c.args.orders (searched s) s.options c.steps.invariant.session.options s.repaired s.tree.kept.cuts c.steps.invariant.session.search.tree.kept.counted _
+          (rw c.in-Undecided.is at c.in_ok-due.ensures.next);
     }
 
 pub returns-in-Undecided-clause-recorded : goal.returns-in-Undecided-clause-recorded
 returns-in-Undecided-clause-recorded g c = λ text first is.
     let so = c.steps.invariant.so_far text first is in
-    record { last = so.last; begins = so.begins; any_moment = so.any_moment; held = so.held }
+    record { last = so.last; begins = so.begins; any_moment = so.any_moment; acknowledged = so.acknowledged; few = so.few; held = so.held }

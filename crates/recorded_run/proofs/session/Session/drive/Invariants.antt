@@ -9,7 +9,7 @@ use Rattle.search_run.specs.Left.{left}
 use Rattle.search_run.proofs.Stepping.{IsWay}
 use Rattle.recorded_run.specs.Recorded.{IsRecorded}
 use Rattle.recorded_run.specs.Sessions.{IsSession}
-use Rattle.recorded_run.proofs.Recording.{SoFar}
+use Rattle.recorded_run.proofs.Acknowledging.{SoFar}
 use Rattle.recorded_run.proofs.session.Session.drive.Given as goal
 
 abbrev pub invariant-steps : goal.invariant-steps
@@ -18,7 +18,7 @@ invariant-steps g l = record {
   way : IsWay (net_of l.net) l.orders (searched l.fn.self.search) (searched l.self.search);
   left : IsTrue (g.D.Disk.told l.disk).tells → IsLeft l.self.journal (g.D.Disk.told l.disk);
   so_far : (text : List ℕ) (first : List Entry) → IsRecorded (net_of l.net) text first l.fn.self.journal.gate (searched l.fn.self.search) (g.D.Disk.told l.fn.disk)
-      → SoFar (net_of l.net) text first (g.D.Disk.told l.fn.disk) (g.D.Disk.told l.disk) l.self.journal.gate (searched l.self.search);
+      → SoFar (net_of l.net) text l.orders first (g.D.Disk.told l.fn.disk) (g.D.Disk.told l.disk) l.self.journal.gate (searched l.self.search);
   same_disk : IsSameDisk (g.D.Disk.told l.fn.disk) (g.D.Disk.told l.disk);
 }
 

@@ -11,4 +11,4 @@ pub returns-in-Some-clause-in_order : goal.returns-in-Some-clause-in_order
 returns-in-Some-clause-in_order g c =
     let n = net_of c.args.net.now in
     let s = searched c.args.self.now in
-    subst (λ (w : Written). IsPlanInOrder n s w) (sym c.in_ok-plan.ensures) (improve-order n s (shown_plan c.in-Some.plan.now) c.requires.limited c.in-Some.ensures.some)
+    rw c.untried.ensures.due (subst (λ (w : Written). IsPlanInOrder n s w) (sym c.in_ok-plan.ensures) (improve-order n s (shown_plan c.in-Some.plan.now) c.requires.limited c.in-Some.ensures.some))
