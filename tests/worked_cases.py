@@ -159,8 +159,6 @@ torn solve net --nodes 0 = 13
 NOT_ASKED = """
 help
 
---help
---version
 solve
 solve net --nodes
 solve net --nodes x
