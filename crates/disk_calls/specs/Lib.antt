@@ -1,2 +1,1 @@
 pub mod Disks
-pub mod Calls

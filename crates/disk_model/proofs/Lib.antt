@@ -1,4 +1,3 @@
 mod Landing
 mod Calls
 mod Replay
-mod Wider

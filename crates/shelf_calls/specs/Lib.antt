@@ -1,5 +1,4 @@
 pub mod Files
-pub mod Calls
 pub mod Opened
 pub mod Told
 pub mod MemFiles

@@ -193,7 +193,7 @@ impl Shelf for MemShelf {
 }
 
 /// The bytes of the first file of that name.
-pub(crate) fn find_file<'a>(files: &'a [(String, Vec<u8>)], name: &str) -> Option<&'a [u8]>
+fn find_file<'a>(files: &'a [(String, Vec<u8>)], name: &str) -> Option<&'a [u8]>
     ensures { option_copied result ≡ file_of (files_of files.now) name.now }
 {
     for (held, bytes) in files {

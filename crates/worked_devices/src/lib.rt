@@ -11,8 +11,6 @@ pub use parts::disk_of;
 #[cfg(test)]
 mod buffers;
 #[cfg(test)]
-mod calls;
-#[cfg(test)]
 mod disks;
 #[cfg(test)]
 mod files;
