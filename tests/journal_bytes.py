@@ -1,4 +1,4 @@
-"""The bytes of a journal, by docs/FORMATS.md alone: written for the tests that make journals by hand, and read for those that look
+"""The bytes of a journal of either version, by docs/FORMATS.md alone: written for the tests that make journals by hand, and read for those that look
 at what a run left. The canonical text of a network, which a journal holds, is made here too."""
 
 import json
@@ -14,6 +14,8 @@ checker = SourceFileLoader("second_checker", str(TOP / "tools" / "second_checker
 MAGIC = b"POOLJNL"
 GATE = 1  # of an open gate
 HEAD = 5  # a gate and the length of a payload
+TURN = b"\4"  # the payload behind which a file of version 1 goes on in version 2
+SPLITS = {1: (b"\1", ">HIq"), 2: (b"\3", ">IIq")}  # by version: the kind of a split, and its leaf, coordinate and cut
 
 
 def heeds_interrupts():
@@ -24,7 +26,7 @@ def heeds_interrupts():
 # ---- written
 
 
-def header(text, birth=1, version=1):
+def header(text, birth=1, version=2):
     return bytes([birth]) + MAGIC + bytes([version]) + struct.pack(">I", len(text)) + text.encode()
 
 
@@ -32,9 +34,9 @@ def record(payload, gate=GATE):
     return bytes([gate]) + struct.pack(">I", len(payload)) + payload
 
 
-def journal(text, *payloads):
+def journal(text, *payloads, version=2):
     """A whole journal: its records have open gates, and a closed gate stands behind them."""
-    return header(text) + b"".join(map(record, payloads)) + b"\0"
+    return header(text, version=version) + b"".join(map(record, payloads)) + b"\0"
 
 
 def proof(scale, *parts):
@@ -45,8 +47,9 @@ def root(proof_bytes):
     return b"\0" + proof_bytes
 
 
-def split(leaf, coord, cut, left=None, right=None):
-    return b"\1" + struct.pack(">HIq", leaf, coord, cut) + b"".join(b"\1" + half if half else b"\0" for half in (left, right))
+def split(leaf, coord, cut, left=None, right=None, version=2):
+    kind, form = SPLITS[version]
+    return kind + struct.pack(form, leaf, coord, cut) + b"".join(b"\1" + half if half else b"\0" for half in (left, right))
 
 
 def plan(base, flow_base, weights, outflows, direct):
@@ -88,9 +91,30 @@ def payloads(data):
     return [data[at + HEAD : end] for at, end in zip(gates, gates[1:])]
 
 
+def rewritten(payload, old, new):
+    """A payload of one version, in the bytes of another."""
+    kind, form = SPLITS[old]
+    if payload[:1] != kind:
+        return payload
+    fields, behind = struct.unpack_from(form, payload, 1), payload[1 + struct.calcsize(form) :]
+    return SPLITS[new][0] + struct.pack(SPLITS[new][1], *fields) + behind
+
+
+def entries(data):
+    """The entries of a file, each in the bytes of version 2; its Turn is none."""
+    return [rewritten(payload, 1, 2) for payload in payloads(data) if payload != TURN]
+
+
+def turned(text, entries, count):
+    """A journal of version 1 with so many entries in that version, and the others, if there are more, behind its Turn."""
+    first = [rewritten(entry, 2, 1) for entry in entries[:count]]
+    return journal(text, *first, *([TURN, *entries[count:]] if entries[count:] else []), version=1)
+
+
 def splits(entries):
     """The splits among the payloads, each as a line of a certificate has it."""
-    cuts = [struct.unpack(">HIq", entry[1:15]) for entry in entries if entry[:1] == b"\1" and len(entry) >= 15]
+    forms = dict(SPLITS.values())
+    cuts = [struct.unpack_from(forms[entry[:1]], entry, 1) for entry in entries if entry[:1] in forms]
     return [f"split {leaf} {coord} {cut}" for leaf, coord, cut in cuts]
 
 

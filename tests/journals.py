@@ -123,9 +123,9 @@ def differs(label, found, wanted):
 
 def ends_as(trial, case, label):
     """Whether a run on the journal as it stands prints what an unbroken one prints, and leaves the same entries."""
-    held = made.payloads(trial.left())
+    held = made.entries(trial.left())
     yield from differs(label, trial.solve(case), case.done)
-    yield from differs(f"{label}: entries", made.payloads(trial.left()), case.entries())
+    yield from differs(f"{label}: entries", made.entries(trial.left()), case.entries())
     cuts = re.findall("(?m)^split .*$", case.done.out)
     yield from differs(f"{label}: splits of the certificate", cuts[: len(made.splits(held))], made.splits(held))
     if not trial.says(case.net, case.done.out).startswith("accepted "):
@@ -188,6 +188,39 @@ def longer_searches(trial, case):
         yield f"another rule: {trial.says(case.net, done.out)}"
 
 
+# ---- files of version 1
+
+
+def old_files(trial, cases):
+    """A file of version 1 goes on behind its Turn, which is there only where an entry was added; what it holds counts as ever."""
+    wanted = Done(0, (EXAMPLES / "row1.cert").read_text(), "")
+    old = trial.file(journal(made.canonical(ROW1.read_bytes()), SHIP, version=1)).read_bytes()
+    yield from differs("row1 of version 1", trial.solve(Case("row1", ROW1, [])), wanted)
+    yield from differs("row1 of version 1: its journal", trial.left(), old)
+    haverly = EXAMPLES / "haverly1.json"
+    old = trial.file(journal(made.canonical(haverly.read_bytes()), plan(1, 1, [1, 0], [0, 0], [0, 0]), version=1)).read_bytes()
+    yield from differs("Haverly 1 of version 1", trial.solve(Case("Haverly 1", haverly, ["--nodes", "2", "--gap", "0"])).status in (0, 10), True)
+    yield from differs("Haverly 1 of version 1: its Turn", trial.left()[: len(old) + 5], old[:-1] + bytes.fromhex("01 00000001 04"))
+    for case in cases:
+        text = made.text_of(case.file)
+        for count in range(len(case.entries()) + 1):
+            trial.file(made.turned(text, case.entries()[:count], count))
+            label = f"{case.label} of version 1, from {count} entries on"
+            yield from ends_as(trial, case, label)
+            yield from differs(f"{label}: its journal", trial.left(), made.turned(text, case.entries(), count))
+
+
+def old_refusals(good):
+    """Number and bytes of journals of row1 with a Turn where none may stand, or an entry of the other version."""
+    text, zero, one = made.text_of(good), plan(1, 1, [], [], [0]), plan(1, 1, [], [], [1000000])
+    cut, turn = [split(0, 0, 1, version=version) for version in (1, 2)], made.TURN
+    yield from ((0, journal(text, *payloads)) for payloads in ([turn], [cut[0]]))
+    yield from ((number, journal(text, *payloads, version=1)) for number, payloads in (
+        (0, [cut[1]]), (2, [zero, turn, turn]), (2, [zero, turn, cut[0]]), (0, [turn + b"\0"]), (2, [zero, turn, b"\x09"]),
+        # Entries that are read, and not in order: the Turn before them counts as a record.
+        (1, [zero, zero]), (2, [zero, turn, zero]), (3, [zero, turn, SHIP, one]), (1, [zero, zero, turn])))
+
+
 # ---- files made by hand
 
 
@@ -240,7 +273,7 @@ def foreign_files(good, other):
         ROW1.read_bytes(), b"\1\0", b"\1" + MAGIC[:6], b"\1POOLJNK" + good[8:], b"\3POOLJNK" + good[8:], b"minutes of the meeting\n",
         b"\1" + random.Random(7).randbytes(100000), b"\xff" * 5000))
     yield from ((32, f"journal of unknown version {version}", data) for version, data in (
-        (7, good[:8] + b"\7" + good[9:]), (0, good[:8] + b"\0" + good[9:]), (2, good[:8] + b"\2"), (255, good[:8] + b"\xff" + good[9:]),
+        (7, good[:8] + b"\7" + good[9:]), (0, good[:8] + b"\0" + good[9:]), (3, good[:8] + b"\3"), (255, good[:8] + b"\xff" + good[9:]),
         (0, good[:8])))
     yield from ((30, "journal of another network", data) for data in (
         other, good[:9], good[:12], good[:13], good[:100], good[:230], header(""), header("") + b"\0", header(text[:-1]) + b"\0",
@@ -276,7 +309,7 @@ def bad_trees():
 def refused_files(trial, case, other):
     """Each status from 30 to 33 with its message; the file stays as it is, byte for byte."""
     files = list(foreign_files(case.file, other.file))
-    files += [(31, f"journal record {number} is bad", data) for number, data in bad_records(case.file)]
+    files += [(31, f"journal record {number} is bad", data) for number, data in [*bad_records(case.file), *old_refusals(case.file)]]
     for status, words, data in files:
         trial.file(data)
         label = f"refused: {words}: {data[:9]}, {len(data)} bytes"
@@ -333,12 +366,16 @@ def lost_output(trial, case):
 # ---- runs that are stopped
 
 
-def killed(trial, case, kills):
-    """Kills a run at random moments, resumes it each time, and begins anew when it came to its end."""
+def killed(trial, case, kills, old=None):
+    """Kills a run at random moments, resumes it each time, and begins anew when it came to its end: with no file, or with so many entries in
+    a file of version 1."""
     stopped = ends = 0
+    label, text = case.label if old is None else f"{case.label} of version 1", made.text_of(case.file)
     while stopped < kills:
         trial.journal.unlink(missing_ok=True)
-        held, begun = [], time.monotonic()
+        if old is not None:
+            trial.file(made.turned(text, case.entries()[:old], old))
+        held, begun = made.entries(trial.left()), time.monotonic()
         while True:
             run = subprocess.Popen(trial.words(case), stdout=subprocess.PIPE, stderr=subprocess.PIPE, text=True)
             try:
@@ -348,16 +385,16 @@ def killed(trial, case, kills):
                 run.send_signal(signal.SIGKILL)
                 run.communicate()
             stopped += 1
-            found = made.payloads(trial.left())
-            yield from differs(f"{case.label}: entries from before kill {stopped}", found[: len(held)], held)
-            yield from differs(f"{case.label}: entries of an unbroken run, at kill {stopped}", found, case.entries()[: len(found)])
+            found = made.entries(trial.left())
+            yield from differs(f"{label}: entries from before kill {stopped}", found[: len(held)], held)
+            yield from differs(f"{label}: entries of an unbroken run, at kill {stopped}", found, case.entries()[: len(found)])
             trial.tried["entries resumed from"] += len(found)
             held, begun = found, 0
         ends += 1
         case.seconds = min(case.seconds, time.monotonic() - begun)
-        yield from differs(f"{case.label}: the end after kill {stopped}", Done(run.returncode, out, error), case.done)
-        yield from differs(f"{case.label}: the file after kill {stopped}", trial.left(), case.file)
-        yield from ends_as(trial, case, f"{case.label}: after its end")
+        yield from differs(f"{label}: the end after kill {stopped}", Done(run.returncode, out, error), case.done)
+        yield from differs(f"{label}: the file after kill {stopped}", trial.left(), case.file if old is None else made.turned(text, case.entries(), old))
+        yield from ends_as(trial, case, f"{label}: after its end")
     trial.tried["kills"] += stopped
     trial.tried["ends after kills"] += ends
 
@@ -529,6 +566,7 @@ def parts(trial, hand, kills):
     yield from headers(trial, [row1, first, second, many, large])
     yield from by_hand(trial)
     yield from longer_searches(trial, many)
+    yield from old_files(hand, [row1, first])
     for case in (row1, first):
         yield from unborn_files(hand, case)
         yield from behind_the_gate(hand, case)
@@ -544,6 +582,7 @@ def parts(trial, hand, kills):
     yield from locked(trial, row1)
     for case, share in ((first, 0.35), (second, 0.35), (many, 0.2), (large, 0.1)):
         yield from killed(trial, case, int(kills * share))
+        yield from killed(trial, case, int(kills * share), 1)
 
 
 def main():

@@ -3,7 +3,8 @@
 
 A small library in front of the C library tells in a log each call that the program makes of files: opened, closed, read, written, cut,
 synced. It can end the run before one of them, have one fail, and leave out a sync; a C compiler has to be there to make it, and nothing
-else. A run of one entry and one of ten splits are ended (SIGKILL) before each of their calls, and resumed. What a crash of the machine
+else. A run of one entry and one of ten splits are ended (SIGKILL) before each of their calls, and resumed; and so are two that begin with a
+file of version 1, which turn. What a crash of the machine
 leaves in the place of such an end is worked out from the log by a model of a disk: what no sync put there may be lost or garbled, also
 where a later change came through, and so is a name whose folder was not synced. Nothing acknowledged is lost: an entry counts as
 acknowledged once the run, with the entry in its file, writes on, or a sync of it returned. Over each file that is left the same
@@ -246,14 +247,14 @@ class Disk:
     def meet(self, call):
         """The run comes to a call: where it writes on, what it recorded before is acknowledged."""
         if call.name == "write":
-            self.acknowledged = made.payloads(self.now() or b"")
+            self.acknowledged = made.entries(self.now() or b"")
 
     def follow(self, call):
         """The disk after a call."""
         self.meet(call)
         self.change(call)
         if call.syncs_journal() and call.answer == 0:
-            self.acknowledged = made.payloads(self.now() or b"")
+            self.acknowledged = made.entries(self.now() or b"")
 
     def change(self, call):
         if call.of == "folder" and call.name == "sync" and call.answer == 0:
@@ -296,7 +297,7 @@ class Disk:
 def moment(trial, case, disk, label):
     """Over each file that a crash leaves now: what is acknowledged is there, and the next run ends as ever."""
     for number, file in enumerate(disk.images()):
-        found = made.payloads(file or b"")
+        found = made.entries(file or b"")
         yield from differs(f"{label}: crash {number}: acknowledged entries", found[: len(disk.acknowledged)], disk.acknowledged)
         yield from differs(f"{label}: crash {number}: entries of an unbroken run", found, case.entries()[: len(found)])
         trial.tried["crashes"] += 1
@@ -327,13 +328,25 @@ def unbroken(trial, case):
     yield from moments(trial, case, Disk(), calls, case.label)
 
 
-def killed(trial, case):
-    """A run that is killed before each of its calls, and the run behind it, with each moment of that."""
-    trial.put(None)
+def turned(trial, case, count):
+    """A run over a file of version 1 with so many entries, each moment of it, and the same killed before each of its calls: four for the Turn."""
+    text, label = made.text_of(case.file), f"{case.label}, {count} entries of version 1"
+    begun = made.turned(text, case.entries()[:count], count)
+    trial.put(begun)
+    done, calls = trial.called(case)
+    yield from differs(label, (done, trial.there()), (case.done, made.turned(text, case.entries(), count)))
+    yield from differs(f"{label}: folder, sync, Turn, entries", len(list(filter(Call.of_disk, calls))), 2 + 4 + 4 * (len(case.entries()) - count))
+    yield from moments(trial, case, Disk(begun), calls, label)
+    yield from killed(trial, case, begun, label)
+
+
+def killed(trial, case, begun=None, named=None):
+    """A run that is killed before each of its calls, and the run behind it, with each moment of that; over a file, or none."""
+    trial.put(begun)
     calls = trial.called(case)[1]
     for last in range(1, len(calls) + 1):
-        label, disk = f"{case.label}: killed before call {last}", Disk()
-        trial.put(None)
+        label, disk = f"{named or case.label}: killed before call {last}", Disk(begun)
+        trial.put(begun)
         done, before = trial.called(case, CALLS_LAST=last)
         out = case.done.out if any(map(Call.speaks, before)) else ""
         yield from differs(label, (done, before), (Done(-signal.SIGKILL, out, ""), calls[: last - 1]))
@@ -342,7 +355,7 @@ def killed(trial, case):
         yield from differs(f"{label}: the file", trial.there(), disk.now())
         done, behind = trial.called(case)
         left = trial.there()
-        yield from differs(f"{label}: resumed", (done, made.payloads(left or b"")), (case.done, case.entries()))
+        yield from differs(f"{label}: resumed", (done, made.entries(left or b"")), (case.done, case.entries()))
         yield from moments(trial, case, disk, behind, f"{label}: resumed")
         yield from differs(f"{label}: resumed: the file", left, disk.now())
         trial.tried["kills"] += 1
@@ -450,6 +463,7 @@ def parts(trial):
         yield from killed(trial, case)
         yield from failed(trial, case)
         yield from left_out(trial, case)
+        yield from turned(trial, case, len(case.entries()) // 2)
     yield from failed_reads(trial)
 
 

@@ -21,7 +21,7 @@ from pathlib import Path
 sys.dont_write_bytecode = True
 TOP = Path(__file__).resolve().parent.parent
 sys.path.insert(0, str(TOP / "tools"))
-from journal_bytes import header, heeds_interrupts, journal, plan, proof, record, root, split
+from journal_bytes import TURN, header, heeds_interrupts, journal, plan, proof, record, root, split, turned
 
 tool = SourceFileLoader("watch", str(TOP / "tools" / "watch")).load_module()
 HEAD = "  seconds  splits                 bound             best cost                   gap  recorded"
@@ -97,7 +97,8 @@ def splits(folder):
     price = proof(3, (2, 18000000))
     small = [split(0, 0, 524288), split(1, 1, 262144, proof(0, (11, 1)))]
     plans = [plan(3, 2, [2, 1], [3], []), plan(1, 1, [1, 0], [100000000], [])]
-    (folder / "feeds").write_bytes(journal(TWO_FEEDS, plans[0], root(price), *small, plans[1]))
+    entries = [plans[0], root(price), *small, plans[1]]
+    (folder / "feeds").write_bytes(journal(TWO_FEEDS, *entries))
     # 2 of 3 parts are bought at 6 and 1 at 16, and sold at 9: 1/3 for each unit, so 0.0000005 for 1.5 millionths, rounded up.
     lines = [
         line(0, "-300.000000", "0.000001", "300.000001", "a better plan"),
@@ -107,6 +108,10 @@ def splits(folder):
         line(2, "-300.000000", "-300.000000", "0.000000", "a better plan"),
     ]
     yield from shows("splits", folder / "feeds", lines)
+    # In a file of version 1 that goes on in version 2 behind its Turn the same is shown, and nothing for the Turn.
+    for count in range(len(entries) + 1):
+        (folder / "feeds").write_bytes(turned(TWO_FEEDS, entries, count))
+        yield from shows(f"splits, {count} entries of version 1", folder / "feeds", lines)
 
 
 def gates(folder):
@@ -161,6 +166,12 @@ def bad_records(folder):
     for words, text, payloads, lines in cases:
         (folder / "bad").write_bytes(journal(text, *payloads))
         yield from shows(words, folder / "bad", lines, 31, f"bad: {words}\n")
+    for words, version, payloads in (
+        ("record 0 is bad: no entry has the kind 4", 2, [TURN]), ("record 1 is bad: no entry has the kind 1", 2, [zero, split(0, 0, 1, version=1)]),
+        ("record 1 is bad: no entry has the kind 3", 1, [zero, split(0, 0, 1)]), ("record 2 is bad: no entry has the kind 4", 1, [zero, TURN, TURN]),
+        ("record 2 is bad: a plan that is not better", 1, [zero, TURN, zero])):
+        (folder / "bad").write_bytes(journal(ROW1, *payloads, version=version))
+        yield from shows(f"version {version}: {words}", folder / "bad", [first] if payloads[0] == zero else [], 31, f"bad: {words}\n")
     (folder / "bad").write_bytes(header(ROW1) + record(zero) + record(SHIP)[:-3])
     words = "record 1 is bad: it is cut off, or longer than any entry of this network"
     yield from shows("a record that the file does not hold", folder / "bad", [first], 31, f"bad: {words}\n")

@@ -343,7 +343,9 @@ def certificate_with(net, plan, splits, proofs, bounds):
 
 # ---- journals
 
-MAGIC, VERSION, OPEN = b"POOLJNL", 1, 1
+MAGIC, OPEN = b"POOLJNL", 1
+TURN = b"\4"  # the payload behind which a journal of version 1 goes on in version 2
+SPLITS = {1: (1, "HIq"), 2: (3, "IIq")}  # by version: the kind of a split, and how its leaf, coordinate and cut are written
 TEXT_AT = 13  # where the network's text begins: behind birth byte, magic, version and the text's length
 
 
@@ -379,15 +381,15 @@ class Bytes:
         return self.proof() if present else None
 
 
-def entry_of(payload, longest):
-    """The entry of a payload, which has at most so many bytes."""
+def entry_of(payload, longest, version=2):
+    """The entry of a payload, which has at most so many bytes, in a version."""
     refuse(not 0 < len(payload) <= longest, "it is cut off, or longer than any entry of this network")
-    data = Bytes(payload)
+    data, (cuts, form) = Bytes(payload), SPLITS[version]
     [kind] = data.take("B")
     if kind == 0:
         entry = SimpleNamespace(kind="root", proofs=[data.proof()])
-    elif kind == 1:
-        split = data.take("HIq")
+    elif kind == cuts:
+        split = data.take(form)
         entry = SimpleNamespace(kind="split", split=split, proofs=[data.proof_or_none(), data.proof_or_none()])
     else:
         refuse(kind != 2, f"no entry has the kind {kind}")
@@ -406,6 +408,14 @@ class Journal:
 
     def begin(self, head):
         self.head, self.at, self.last, self.records = head, len(head), b"", 0
+        self.version = head[8] if head else 2
+
+    def entry(self, payload, longest):
+        """The entry of the next payload, in the version that it has; nothing where it is the Turn, behind which version 2 follows."""
+        if self.version == 1 and payload == TURN:
+            self.version = 2
+            return None
+        return entry_of(payload, longest, self.version)
 
     def news(self):
         """Whether the journal began anew, and the payloads behind those that were read."""
@@ -426,7 +436,7 @@ class Journal:
             return b""
         if not magic:
             raise Ends(33, "not a journal")
-        if len(head) < 9 or head[8] != VERSION:
+        if len(head) < 9 or head[8] not in SPLITS:
             raise Ends(32, f"a journal of unknown version{f' {head[8]}' if len(head) > 8 else ''}")
         [length] = struct.unpack(">I", head[9:13].rjust(4, b"\0"))
         text = file.read(min(length, explain.MAX_BYTES))
@@ -454,7 +464,7 @@ class Search:
         self.net = Network(json.loads(text))
         self.rows = Rows(self.net)
         self.splits, self.bounds, self.leaves, self.cut = [], [], [], set()
-        self.longest = max(41 + 24 * len(self.rows.rows), 15 + 4 * self.net.shape[4] + 8 * (self.net.shape[5] + self.net.shape[6]))
+        self.longest = max(43 + 24 * len(self.rows.rows), 15 + 4 * self.net.shape[4] + 8 * (self.net.shape[5] + self.net.shape[6]))
         self.proved, self.cost, self.plan = False, None, None
         self.add_node(self.rows.reach_bound(), None)
 
@@ -518,15 +528,15 @@ def proof_payload(proof):
 
 
 def journal_of(net, plan, splits=(), proofs=()):
-    """The bytes of a journal with a plan, if there is one, and a tree."""
+    """The bytes of a journal, of version 2, with a plan, if there is one, and a tree."""
     text, of_node = net.canonical().encode(), {proof.node: proof for proof in proofs}
     payloads = [b"\0" + proof_payload(of_node[0])] if 0 in of_node else []
     payloads += [plan_payload(plan)] if plan else []
     for t, split in enumerate(splits):
         halves = [of_node.get(node) for node in (2 * t + 1, 2 * t + 2)]
-        payloads.append(struct.pack(">BHIq", 1, *split) + b"".join(b"\1" + proof_payload(proof) if proof else b"\0" for proof in halves))
+        payloads.append(struct.pack(">BIIq", 3, *split) + b"".join(b"\1" + proof_payload(proof) if proof else b"\0" for proof in halves))
     records = b"".join(bytes([OPEN]) + struct.pack(">I", len(payload)) + payload for payload in payloads)
-    return b"\1" + MAGIC + bytes([VERSION]) + struct.pack(">I", len(text)) + text + records + b"\0"
+    return b"\1" + MAGIC + b"\2" + struct.pack(">I", len(text)) + text + records + b"\0"
 
 
 # ---- the program

@@ -1,5 +1,6 @@
 -- The tree of the root alone is the network's.
-use Rattle.std.proofs.Common.{◌≡◌, ℕ, zero, suc, ◌<◌, List, [], ◌∷◌, get_or, replicate, Option, Some, None, ℤ, arith, refl, sym, subst, ◌∙◌, map, option_map}
+use Rattle.std.proofs.Common.{◌≡◌, ℕ, zero, suc, ◌<◌, List, [], ◌∷◌, get_or, replicate, Option, Some, None, ℤ, arith, refl, sym, ap, subst, ◌∙◌, map, option_map}
+use Rattle.std.proofs.Math.Path.{fun_ext}
 use Rattle.std.proofs.lemmas.Option.{none-some}
 use Rattle.pool_model.specs.Network.{Net}
 use Rattle.pool_model.specs.Starting.{reach_bound}
@@ -8,6 +9,7 @@ use Rattle.row_model.specs.Multipliers.{Proof}
 use Rattle.box_space.specs.Views.{shown_proof}
 use Rattle.linear_program.specs.declared.multipliers.Proof.{Proof as HeldProof}
 use Rattle.row_model.specs.Trees.{Split, node_bound}
+use Rattle.row_model.specs.Entries.{Searched, start}
 use Rattle.split_tree.specs.declared.span.Span.{Span}
 use Rattle.split_tree.specs.Splits.{Splits, IsOf as AreCut}
 use Rattle.box_tree.specs.Kept.{Kept, searched_of, IsKeptOf}
@@ -71,3 +73,14 @@ first-held n t cuts proofs bounds e cut c f g =
       best = None;
       cost = None;
     }) (sym e) (first-kept n t.spans) cut)))
+
+-- ---- what is searched at the start
+
+abbrev bare : List Split → (ℕ → Option Proof) → Searched
+bare splits proof = record { tree = record { splits = splits; proof = proof }; best = None }
+
+pub searched-first : (t u : Splits) (cuts : List ℕ) (proofs : List (Option HeldProof)) (bounds : List (Option ℤ)) → t ≡ u → u.list ≡ [] → proofs ≡ None ∷ []
+    → searched_of record { splits = t; cuts = cuts; proofs = map (option_map shown_proof) proofs; bounds = bounds; best = None; cost = None } ≡ start
+searched-first t u cuts proofs bounds same e f =
+    ap (λ (xs : List Split). bare xs (λ node. get_or (map (option_map shown_proof) proofs) node None)) (ap (λ (s : Splits). s.list) same ∙ e)
+    ∙ ap (bare []) (fun_ext (λ node. ap (λ (xs : List (Option HeldProof)). get_or (map (option_map shown_proof) xs) node None) f ∙ no_proof node))

@@ -27,9 +27,8 @@ impl Tree {
     /// Takes the entry, exactly where it is in order and there is memory for it. Else it answers the entry's first fault, drops the
     /// entry, and the tree is as it was.
     ///
-    /// A split takes a step for each split above its leaf, up to the innermost one on its coordinate, some to put its halves among the
-    /// leaves, and memory for itself and two nodes. For each half that has a proof it also builds the half's box, from the leaf up to the
-    /// root, and values the proof there.
+    /// A split takes a few steps to be judged, some to put its halves among the leaves, and memory for itself and two nodes. For each
+    /// half that has a proof it also builds the half's box, as `split_tree` says, and values the proof there.
     pub fn apply(&mut self, net: &Network, entry: Entry) -> Result<(), EntryFault>
         requires { IsOf (net_of net.now) self.old }
         // Promise: An entry that is taken makes of the tree what the definition says

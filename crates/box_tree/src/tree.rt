@@ -136,7 +136,7 @@ impl Tree {
         self.cuts.as_slice()
     }
 
-    /// The box of a node. It goes from the node up to the root, and keeps the innermost cut on each side.
+    /// The box of a node, found as `split_tree` says.
     pub fn box_of(&self, net: &Network, node: u32) -> Result<BoxEnds, Memory>
         requires tree { IsOf (net_of net.now) self.now }
         requires there { node < trees.nodes self.now.kept.splits.list }

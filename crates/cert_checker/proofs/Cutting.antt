@@ -1,5 +1,5 @@
 -- Splits that are read and taken one after another.
-use Rattle.std.proofs.Common.{◌≡◌, ℕ, ◌+◌, ◌-◌, ◌<◌, ◌≤◌, eqb, List, [], ◌∷◌, ◌++◌, length, take, length-append, refl, sym, ap, subst, ◌∙◌, arith}
+use Rattle.std.proofs.Common.{◌≡◌, ℕ, ◌+◌, ◌-◌, ◌<◌, ◌≤◌, eqb, List, [], ◌∷◌, ◌++◌, length, take, length-append, inr, refl, sym, ap, subst, ◌∙◌, arith}
 use Rattle.std.specs.Prelude.{map}
 use Rattle.std.proofs.lemmas.List.{map-append}
 use Rattle.std.proofs.Math.Seq.{take-append_seam, get_or-append_seam}
@@ -62,6 +62,7 @@ cut-wrong n kind m k l count t tree s f are lt run ready holds =
     let taken : AreTaken n front t tree = record { list = sym (ap (λ (i : ℕ). take i front) (sym are.long) ∙ take-append_seam tree.list (s ∷ [])); is = are.is } in
     record {
       kept = all.kept;
+      quiet = inr all.quiet;
       cause = record {
         items = splits count ∷ map cut front;
         run = all;

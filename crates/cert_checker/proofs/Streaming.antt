@@ -14,12 +14,13 @@ use Rattle.cert_format.proofs.Outcomes.{one_text}
 use Rattle.cert_stream.specs.Items.{Field}
 use Rattle.cert_stream.specs.Streams.{Reader, fresh, IsRest, IsTextOf, IsMore, FailsLater}
 use Rattle.cert_stream.proofs.Runs.{run-fails}
-use Rattle.cert_checker.specs.Answers.{Spells, GivesFirst, IsRefused, verdict_of}
+use Rattle.cert_checker.specs.Answers.{Spells, GivesFirst, IsRefused}
 use Rattle.proof_lines.specs.declared.refusal.Refusal.{Refusal}
 use Rattle.proof_lines.specs.declared.refusal.Refusal.TheVariants.{Text, Memory as NoMemory}
 use Rattle.proof_lines.specs.declared.stream_refusal.StreamRefusal.{StreamRefusal}
 use Rattle.proof_lines.specs.declared.stream_refusal.StreamRefusal.TheVariants.{Read, TooLong, Refused, Memory}
-use Rattle.cert_checker.specs.declared.verdict.Verdict.{Verdict}
+use Rattle.cert_writing.specs.declared.certificate.Claim.{Claim}
+use Rattle.cert_format.specs.Views.{shown_claim}
 use Rattle.proof_lines.specs.Refusals.{IsFirstRefusal}
 use Rattle.cert_checker.specs.Streams.{IsAnswer, IsStreamAnswer, IsStreamedAs}
 use Rattle.cert_checker.proofs.Followed.{valid-follows}
@@ -40,13 +41,13 @@ no-cert bytes line c faulty spelled = elim (cases_lt (line_feeds bytes) line) [
 -- ---- answers
 
 -- the text was read to its end, and what it claims is valid
-pub answer-valid : (n : Net) (most : ℕ) (rest : Option (List ℕ)) (bytes : List ℕ) (items : List Field) (v : Verdict) → IsLimited n → (t : IsTextOf most rest bytes items)
-    → IsValid n t.cert → v ≡ verdict_of t.cert.claim → IsStreamAnswer n rest most (Ok v)
-answer-valid n most rest bytes items v limited t valid verdict = record {
+pub answer-valid : (n : Net) (most : ℕ) (rest : Option (List ℕ)) (bytes : List ℕ) (items : List Field) (claim : Claim) → IsLimited n → (t : IsTextOf most rest bytes items)
+    → IsValid n t.cert → shown_claim claim ≡ t.cert.claim → IsStreamAnswer n rest most (Ok claim)
+answer-valid n most rest bytes items claim limited t valid claims = record {
   bytes = bytes;
   are = t.are;
   answer_is = (
-    record { cert = t.cert; spelled = record { is = t.is; text = t.text }; valid = valid; verdict = verdict },
+    record { cert = t.cert; spelled = record { is = t.is; text = t.text }; valid = valid; claims = claims },
     λ c spelled. subst (λ (x : Cert). Follows n x.claim) (spelled-same bytes t.cert c record { is = t.is; text = t.text } spelled) (valid-follows n t.cert limited valid),
     t.short,
   );
@@ -100,12 +101,12 @@ answer-long n most (Some r) more = record { bytes = r; are = λ x e. cc; answer_
 
 -- ---- a valid certificate
 
-pub streamed : (n : Net) (most : ℕ) (rest : Option (List ℕ)) (bytes : List ℕ) (c : Cert) (result : Result Verdict StreamRefusal) → IsStreamAnswer n rest most result
+pub streamed : (n : Net) (most : ℕ) (rest : Option (List ℕ)) (bytes : List ℕ) (c : Cert) (result : Result Claim StreamRefusal) → IsStreamAnswer n rest most result
     → rest ≡ Some bytes → length bytes ≤ most
     → Spells bytes c → IsValid n c → result ≢ Err (Refused NoMemory) → IsStreamedAs c.claim result
 streamed n most rest bytes c result checked told short spelled valid other = cases result checked.answer_is other
   where
-    refusing : Refusal → Result Verdict StreamRefusal
+    refusing : Refusal → Result Claim StreamRefusal
     refusing r = Err (Refused r)
 
     same : bytes ≡ checked.bytes
@@ -122,8 +123,8 @@ streamed n most rest bytes c result checked told short spelled valid other = cas
     refused NoMemory is some = some refl
     refused _ is some = not_first _ is
 
-    cases : (result : Result Verdict StreamRefusal) → IsAnswer n checked.bytes most result → result ≢ Err (Refused NoMemory) → IsStreamedAs c.claim result
-    cases (Ok v) is some = is.0.verdict ∙ ap (λ (x : Cert). verdict_of x.claim) (spelled-same checked.bytes is.0.cert c is.0.spelled here)
+    cases : (result : Result Claim StreamRefusal) → IsAnswer n checked.bytes most result → result ≢ Err (Refused NoMemory) → IsStreamedAs c.claim result
+    cases (Ok claim) is some = is.0.claims ∙ ap (λ (x : Cert). x.claim) (spelled-same checked.bytes is.0.cert c is.0.spelled here)
     cases (Err Read) is some = inl refl
     cases (Err TooLong) is some = absurd (omega (arith, is, short, ap length same))
     cases (Err Memory) is some = inr refl

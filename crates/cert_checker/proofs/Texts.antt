@@ -6,10 +6,10 @@ use Rattle.cert_checker.specs.Streams.{IsAnswer, IsStreamAnswer, IsStreamedAs}
 use Rattle.proof_lines.specs.declared.refusal.Refusal.{Refusal}
 use Rattle.proof_lines.specs.declared.stream_refusal.StreamRefusal.{StreamRefusal}
 use Rattle.proof_lines.specs.declared.stream_refusal.StreamRefusal.TheVariants.{Refused}
-use Rattle.cert_checker.specs.declared.verdict.Verdict.{Verdict}
+use Rattle.cert_writing.specs.declared.certificate.Claim.{Claim}
 
 -- the bytes that are told are those that were answered on
-pub text-answer : (n : Net) (bytes : List ℕ) (rest : Option (List ℕ)) (most : ℕ) (answer : Result Verdict StreamRefusal) → rest ≡ Some bytes → IsStreamAnswer n rest most answer
+pub text-answer : (n : Net) (bytes : List ℕ) (rest : Option (List ℕ)) (most : ℕ) (answer : Result Claim StreamRefusal) → rest ≡ Some bytes → IsStreamAnswer n rest most answer
     → IsAnswer n bytes most answer
 text-answer n bytes rest most answer told checked = subst (λ (b : List ℕ). IsAnswer n b most answer) (sym (checked.are bytes told)) checked.answer_is
 

@@ -1,5 +1,5 @@
 -- The parts of a certificate, put together as they are read.
-use Rattle.std.proofs.Common.{◌≡◌, ◌≢◌, ℕ, ℤ, List, [], ◌∷◌, ◌++◌, length, Option, refl, sym, ap, subst, ◌∙◌, append_assoc}
+use Rattle.std.proofs.Common.{◌≡◌, ◌≢◌, ℕ, ℤ, List, [], ◌∷◌, ◌++◌, length, Option, inr, refl, sym, ap, subst, ◌∙◌, append_assoc}
 use Rattle.std.specs.Prelude.{map}
 use Rattle.std.specs.List.{flat_map}
 use Rattle.std.proofs.lemmas.List.{append-nil}
@@ -37,6 +37,7 @@ pub shape-halts : (n : Net) (m j : Moment) (k : ℕ) (sh : List ℕ) → Run m j
     → Halts (IsRefusedFront n) m j (Refused Shape)
 shape-halts n m j k sh run ready other = record {
   kept = run.kept;
+  quiet = inr run.quiet;
   cause = record {
     items = kind k ∷ shape sh ∷ [];
     run = run;

@@ -3,31 +3,25 @@
 ghost use Rattle.std.specs.Prelude.{◌≡◌, ◌≢◌, pos, ◌-ℤ◌, ◌*ℤ◌, FitsSigned, IfOk, IfErr};
 ghost use Rattle.std.specs.Int.{w128};
 ghost use Rattle.cert_format.specs.Views.{shown_claim};
-ghost use Rattle.cert_checker.specs.Answers.{verdict_of};
 ghost use Rattle.cert_checker.specs.Claims.{IsClaimRefusal, IsBoundRefusal, AreClaimed, HasRoom};
 
-use crate::verdict::Verdict;
 use cert_format::Claim;
 use plan_core::Cost;
 use proof_lines::Refusal;
 
-/// The numbers of the claim, or the first of them that is not what the plan costs and the tree shows.
+/// The first number of the claim that is not what the plan costs and the tree shows, if there is one.
 pub(crate) fn check_claim(
     claim: &Claim,
     cost: Option<Cost>,
     found: Option<i128>,
-) -> Result<Verdict, Refusal>
+) -> Result<(), Refusal>
     requires { HasRoom cost found }
-    ensures verdict { IfOk result (λ v. v ≡ verdict_of (shown_claim claim.now)) }
     ensures claimed { IfOk result (λ _. AreClaimed cost found (shown_claim claim.now)) }
     ensures refused { IfErr result (IsClaimRefusal cost found (shown_claim claim.now)) }
 {
     match claim {
         Claim::NoPlan => check_no_plan(found),
-        Claim::Bound { bound } => {
-            check_bound(found, *bound)?;
-            Ok(Verdict::BoundOnly { bound: *bound })
-        }
+        Claim::Bound { bound } => check_bound(found, *bound),
         Claim::Gap {
             cost: num,
             base,
@@ -44,26 +38,19 @@ pub(crate) fn check_claim(
                 },
             )?;
             check_bound(found, *bound)?;
-            check_gap(*num, *base, *bound, *gap)?;
-            Ok(Verdict::Gap {
-                cost: *num,
-                base: *base,
-                bound: *bound,
-                gap: *gap,
-            })
+            check_gap(*num, *base, *bound, *gap)
         }
     }
 }
 
 /// WrongKind, exactly where a leaf may hold a plan.
-fn check_no_plan(found: Option<i128>) -> Result<Verdict, Refusal>
-    ensures verdict { IfOk result (λ v. v ≡ Verdict.NoPlan) }
+fn check_no_plan(found: Option<i128>) -> Result<(), Refusal>
     ensures none { IfOk result (λ _. found ≡ None) }
     ensures kind { IfErr result (λ r. r ≡ Refusal.WrongKind) }
     ensures some { IfErr result (λ _. found ≢ None) }
 {
     match found {
-        None => Ok(Verdict::NoPlan),
+        None => Ok(()),
         Some(_) => Err(Refusal::WrongKind),
     }
 }

@@ -1,6 +1,6 @@
 //! The checker of certificates.
 //!
-//! [`check`] goes over the text of a certificate of a network and answers a [`Verdict`], exactly where some certificate has this
+//! [`check`] goes over the text of a certificate of a network and answers what it claims, exactly where some certificate has this
 //! text and is valid: its plan obeys and costs what is claimed, its tree of boxes holds every plan, each proof on a box is in order
 //! there, and the bound is what they show together. Else it answers the first [`Refusal`] of a fixed order. [`check_stream`]
 //! answers the same of a certificate in an opened file, which it reads once and in pieces as they come. It keeps the plan, the
@@ -21,11 +21,9 @@ mod claim;
 mod laws;
 mod opening;
 mod stream;
-mod verdict;
 mod walk;
 
 pub use checking::check;
 pub use laws::valid_law;
 pub use proof_lines::{Refusal, StreamRefusal};
 pub use stream::check_stream;
-pub use verdict::Verdict;

@@ -1,6 +1,6 @@
 //! The check of a certificate that is read as a stream: each part is judged as it comes.
 
-ghost use Rattle.std.specs.Prelude.{◌≡◌, ◌≢◌, ◌≤◌, ℕ, List, Some, Err, length};
+ghost use Rattle.std.specs.Prelude.{◌≡◌, ◌≢◌, ◌≤◌, ◌⊎◌, ℕ, List, Some, Err, length};
 ghost use Rattle.edge_io.specs.Counts.{Rose};
 ghost use Rattle.shelf_calls.specs.Told.{Keeps};
 ghost use Rattle.pool_model.specs.Network.{Net, net_of};
@@ -15,15 +15,15 @@ ghost use Rattle.proof_lines.specs.declared.refusal.Refusal.TheVariants as refus
 ghost use Rattle.proof_lines.specs.declared.stream_refusal.StreamRefusal.TheVariants as streams;
 
 use crate::claim::check_claim;
-use crate::verdict::Verdict;
 use crate::walk::walk;
 use blend_network::Network;
+use cert_format::Claim;
 use cert_stream::CertReader;
 use proof_lines::{Refusal, StreamRefusal};
 use shelf_calls::Shelf;
 use std::alloc::Global;
 
-/// What the certificate in the opened file says of the network, or the first cause to refuse it.
+/// What the certificate in the opened file claims of the network, or the first cause to refuse it.
 ///
 /// The file may have at most so many bytes. It is read once, in memory that depends on the network and on the number of
 /// splits alone: a proof is judged as its line is read, and nothing of it is kept. A refusal waits for the end of the file,
@@ -33,7 +33,7 @@ pub fn check_stream<S: Shelf>(
     net: &Network,
     shelf: &mut S,
     most: u64,
-) -> Result<Verdict, StreamRefusal>
+) -> Result<Claim, StreamRefusal>
     // Some bytes, which are the rest of the file where it is told, are accepted or refused as a text is and are at most so many; or
     // they are more. What the certificate of these bytes claims follows for every plan.
     // Promise: `check` of a file is `check` of its bytes: a file that comes in pieces is accepted or refused as its text is, with what it
@@ -49,6 +49,9 @@ pub fn check_stream<S: Shelf>(
     // Promise: `check` of a file is `check` of its bytes: a file that comes in pieces is accepted or refused as its text is, with what it
     //   claims, once it is read to its end; else it has more bytes than it may have, the shelf failed, or memory ran out
     ensures read { result ≡ Err streams.Read → Rose (S.told shelf.old).faults (S.told shelf.new).faults }
+    // Promise: Of a file whose reading failed it is told that it failed: every other answer on it, want of memory too, leaves the shelf's
+    //   count of faults as it was
+    ensures quiet { (result ≡ Err streams.Read) ⊎ ((S.told shelf.new).faults ≡ (S.told shelf.old).faults) }
     ensures no_memory_refusal { result ≢ Err (streams.Refused refusals.Memory) }
     ensures kept { Keeps (S.told shelf.old) (S.told shelf.new) }
 {
@@ -62,12 +65,15 @@ fn answer<S: Shelf>(
     net: &Network,
     reader: &mut CertReader,
     shelf: &mut S,
-) -> Result<Verdict, StreamRefusal>
+) -> Result<Claim, StreamRefusal>
     requires { (most : ℕ) × (reader.old ≡ fresh most) }
     ensures { (most : ℕ) → reader.old ≡ fresh most → IsAnswered (net_of net.now) most (moment reader.old (S.told shelf.old)) (moment reader.new (S.told shelf.new)) result }
 {
     match walk(alloc, net, reader, shelf) {
-        Ok(found) => Ok(check_claim(&found.claim, found.cost, found.bound)?),
+        Ok(found) => {
+            check_claim(&found.claim, found.cost, found.bound)?;
+            Ok(found.claim)
+        }
         Err(refusal) => Err(at_the_end(refusal, reader, shelf)),
     }
 }

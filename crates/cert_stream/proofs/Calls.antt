@@ -1,5 +1,5 @@
 -- Calls that follow on one another, put together.
-use Rattle.std.proofs.Common.{◌≡◌, ◌≢◌, ℕ, ◌-◌, ◌^◌, ◌<◌, ◌≤◌, IsTrue, List, [], ◌∷◌, ◌++◌, length, Option, None, Some, refl, sym, ap, subst, ◌∙◌, append_assoc, length-append, arith, inl, inr}
+use Rattle.std.proofs.Common.{◌≡◌, ◌≢◌, ℕ, ◌-◌, ◌^◌, ◌<◌, ◌≤◌, ◌⊎◌, IsTrue, List, [], ◌∷◌, ◌++◌, length, Option, None, Some, Result, Ok, Err, refl, sym, ap, subst, ◌∙◌, append_assoc, length-append, arith, inl, inr}
 use Rattle.std.proofs.lemmas.List.{append-nil}
 use Rattle.edge_io.specs.Counts.{Grows, RoseBy}
 use Rattle.shelf_calls.specs.Opened.{ahead, IsUsedUp}
@@ -98,6 +98,16 @@ pub fails-then : (e : ItemFault) {r s : Reader} (m k l : ShelfTold) → ReaderTo
 fails-then Read m k l h counted kept more f = rose-behind m.faults k.faults l.faults kept.faults_grow f
 fails-then TooLong {r} {s} m k l h counted kept more f = (more-then h f.0, took-more-then r.left s.left m.taken k.taken l.taken (omega (arith, h.within)) counted f.1 more.taken_grows)
 fails-then (Text t) m k l h counted kept more f = f
+
+-- a call that did not fail left the count of faults of its shelf as it was
+pub told-quiet : {X : Type 0} {x : X} {before after : ℕ} → (◌≡◌ {A = Result X ItemFault} (Ok x) (Err Read)) ⊎ (after ≡ before) → after ≡ before
+told-quiet (inl e) = absurd cc
+told-quiet (inr e) = e
+
+-- and so did one that failed for another reason
+pub fault-quiet : {X : Type 0} {fault : ItemFault} {before after : ℕ} → (◌≡◌ {A = Result X ItemFault} (Err fault) (Err Read)) ⊎ (after ≡ before) → (fault ≡ Read) ⊎ (after ≡ before)
+fault-quiet (inl e) = inl cc
+fault-quiet (inr e) = inr e
 
 -- ---- what is read
 

@@ -84,6 +84,8 @@ impl CertReader {
         ensures too_long { result ≡ Err faults.TooLong → IsMore self.old.left (S.told shelf.old).rest }
         ensures took_more { result ≡ Err faults.TooLong → TookMore self.old.left (S.told shelf.old).taken (S.told shelf.new).taken }
         ensures read { result ≡ Err faults.Read → Rose (S.told shelf.old).faults (S.told shelf.new).faults }
+        // Promise: A call of a reader that does not say that the shelf failed leaves the shelf's count of faults as it was
+        ensures quiet { (result ≡ Err faults.Read) ⊎ ((S.told shelf.new).faults ≡ (S.told shelf.old).faults) }
         ensures kept { Keeps (S.told shelf.old) (S.told shelf.new) }
     {
         self.fill(shelf, LOOK)?;
@@ -120,6 +122,7 @@ impl CertReader {
         ensures too_long { result ≡ Err faults.TooLong → IsMore self.old.left (S.told shelf.old).rest }
         ensures took_more { result ≡ Err faults.TooLong → TookMore self.old.left (S.told shelf.old).taken (S.told shelf.new).taken }
         ensures read { result ≡ Err faults.Read → Rose (S.told shelf.old).faults (S.told shelf.new).faults }
+        ensures quiet { (result ≡ Err faults.Read) ⊎ ((S.told shelf.new).faults ≡ (S.told shelf.old).faults) }
         ensures kept { Keeps (S.told shelf.old) (S.told shelf.new) }
     {
         while !self.has_ended() {
@@ -167,6 +170,7 @@ impl CertReader {
         ensures too_long { result ≡ Err faults.TooLong → IsMore self.old.left (S.told shelf.old).rest }
         ensures took_more { result ≡ Err faults.TooLong → TookMore self.old.left (S.told shelf.old).taken (S.told shelf.new).taken }
         ensures read { result ≡ Err faults.Read → Rose (S.told shelf.old).faults (S.told shelf.new).faults }
+        ensures quiet { (result ≡ Err faults.Read) ⊎ ((S.told shelf.new).faults ≡ (S.told shelf.old).faults) }
         ensures kept { Keeps (S.told shelf.old) (S.told shelf.new) }
     {
         self.fill(shelf, 1)?;
@@ -186,6 +190,7 @@ impl CertReader {
         ensures enough { OnOk result ((count ≤ length self.new.held) ⊎ IsTrue self.new.ended) }
         ensures counted { OnOk result (RoseBy (self.old.left - self.new.left) (S.told shelf.old).taken (S.told shelf.new).taken) }
         ensures failed { IfErr result (λ e. Fails e self.old.left (S.told shelf.old) (S.told shelf.new)) }
+        ensures quiet { (result ≡ Err faults.Read) ⊎ ((S.told shelf.new).faults ≡ (S.told shelf.old).faults) }
         ensures kept { Keeps (S.told shelf.old) (S.told shelf.new) }
     {
         while self.held.len() < count && !self.ended {
@@ -200,6 +205,7 @@ impl CertReader {
         ensures took { OnOk result (ReaderTook self.old (S.told shelf.old).rest self.new (S.told shelf.new).rest) }
         ensures ended { OnOk result (IsTrue self.new.ended) }
         ensures failed { IfErr result (λ e. Fails e self.old.left (S.told shelf.old) (S.told shelf.new)) }
+        ensures quiet { (result ≡ Err faults.Read) ⊎ ((S.told shelf.new).faults ≡ (S.told shelf.old).faults) }
         ensures kept { Keeps (S.told shelf.old) (S.told shelf.new) }
     {
         while !self.ended {
@@ -217,6 +223,7 @@ impl CertReader {
         ensures some { OnOk result (IsTrue self.new.ended ⊎ (length self.old.held < length self.new.held)) }
         ensures counted { OnOk result (RoseBy (self.old.left - self.new.left) (S.told shelf.old).taken (S.told shelf.new).taken) }
         ensures failed { IfErr result (λ e. Fails e self.old.left (S.told shelf.old) (S.told shelf.new)) }
+        ensures quiet { (result ≡ Err faults.Read) ⊎ ((S.told shelf.new).faults ≡ (S.told shelf.old).faults) }
         ensures kept { Keeps (S.told shelf.old) (S.told shelf.new) }
     {
         match self.held.take_from(shelf) {

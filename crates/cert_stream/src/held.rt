@@ -1,6 +1,6 @@
 //! Bytes that are taken from an opened file and not read.
 
-ghost use Rattle.std.specs.Prelude.{◌≡◌, ◌-◌, ◌<◌, ◌≤◌, List, ℕ, [], length, drop, IfOk, OnErr};
+ghost use Rattle.std.specs.Prelude.{◌≡◌, ◌-◌, ◌<◌, ◌≤◌, List, ℕ, [], length, drop, IfOk, OnOk, OnErr};
 ghost use Rattle.edge_io.specs.Counts.{Rose, RoseBy};
 ghost use Rattle.shelf_calls.specs.Told.{Keeps};
 ghost use Rattle.cert_stream.specs.Rooms.{IsHandedOut};
@@ -79,6 +79,7 @@ impl Held {
         ensures handed { IfOk result (IsHandedOut self.old (S.told shelf.old).rest self.new (S.told shelf.new).rest) }
         ensures counted { IfOk result (λ n. RoseBy n (S.told shelf.old).taken (S.told shelf.new).taken) }
         ensures failed { OnErr result (Rose (S.told shelf.old).faults (S.told shelf.new).faults) }
+        ensures quiet { OnOk result ((S.told shelf.new).faults ≡ (S.told shelf.old).faults) }
         ensures kept { Keeps (S.told shelf.old) (S.told shelf.new) }
     {
         let held = self.to - self.from;

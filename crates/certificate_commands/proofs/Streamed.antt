@@ -11,16 +11,20 @@ use Rattle.proof_lines.specs.declared.refusal.Refusal.{Refusal}
 use Rattle.proof_lines.specs.declared.refusal.Refusal.TheVariants.{Text, Memory}
 use Rattle.proof_lines.specs.declared.stream_refusal.StreamRefusal.{StreamRefusal}
 use Rattle.proof_lines.specs.declared.stream_refusal.StreamRefusal.TheVariants as streams
-use Rattle.cert_checker.specs.declared.verdict.Verdict.{Verdict}
+use Rattle.cert_format.specs.Views.{shown_claim}
+use Rattle.cert_writing.specs.declared.certificate.Claim.{Claim}
+use Rattle.pool_report.specs.Report.{IsReported}
+use Rattle.certificate_commands.specs.declared.judging.Telling.{Telling}
+use Rattle.certificate_commands.proofs.Reported.{valid-reported}
 use Rattle.cert_checker.specs.Streams.{IsStreamAnswer}
 use Rattle.cert_checker.proofs.Order.{valid-clear}
 use Rattle.cert_checker.proofs.Streaming.{spelled-same}
 use Rattle.cert_lengths.specs.Lengths.{most_bytes}
-use Rattle.certificate_commands.specs.CheckEnds.{AreRead, CheckEnds, ChecksAs, JudgedUnder}
+use Rattle.certificate_commands.specs.CheckEnds.{AreRead, CheckEnds, JudgedUnder, JudgesAs, told_text}
 use Rattle.certificate_commands.specs.OpenedEnds.{AreRest, IsLongRest, JudgedRest, LineOnRest, OpenedEnds}
 use Rattle.run_status.specs.Reads.{Files, ReadsUnder}
 use Rattle.run_status.specs.Took.{Part, whole, front, nothing, printed_by, Took, TookPart}
-use Rattle.printed_lines.specs.Verdicts.{accepted_line, refused_line}
+use Rattle.printed_lines.specs.Verdicts.{refused_line}
 use Rattle.run_status.specs.declared.status.Status.{Status}
 use Rattle.run_status.specs.declared.status.Status.TheVariants as statuses
 
@@ -37,28 +41,41 @@ refused-invalid n bytes r is own c spelled = clear-first n bytes r is c spelled
 
 -- ---- what was answered on an opened file
 
-module _ (n : Net) (rest : Option (List ℕ)) where
-  abbrev Answered : Result Verdict StreamRefusal → Type 0
-  Answered answer = IsStreamAnswer n rest most_bytes answer
+abbrev Answered : Net → Option (List ℕ) → Result Claim StreamRefusal → Type 0
+Answered n rest answer = IsStreamAnswer n rest most_bytes answer
 
-  pub accepted-line : (v : Verdict) → Answered (Ok v) → LineOnRest n rest statuses.Accepted (accepted_line v)
-  accepted-line v h = (h.bytes, record { are = h.are; short = h.answer_is.2 }, record { verdict = v; accepted = h.answer_is.0; follows = h.answer_is.1; spelled = refl })
+-- what is accepted can be reported
+pub accepted-reported : (network : Network) (rest : Option (List ℕ)) (claim : Claim) → Answered (net_of network) rest (Ok claim) → IsReported (net_of network) (shown_claim claim)
+accepted-reported network rest claim h =
+    let is = h.answer_is.0 in subst (IsReported (net_of network)) (sym is.claims) (valid-reported (net_of network) is.cert is.valid)
 
-  abbrev refusing : StreamRefusal → Result Verdict StreamRefusal
-  refusing s = Err s
+pub accepted-told : (telling : Telling) (network : Network) (rest : Option (List ℕ)) (claim : Claim) → Answered (net_of network) rest (Ok claim)
+    → LineOnRest telling network rest statuses.Accepted (told_text telling network (shown_claim claim))
+accepted-told telling network rest claim h =
+    let is = h.answer_is.0 in (
+      h.bytes,
+      record { are = h.are; short = h.answer_is.2 },
+      record { certificate = is.cert; spelled = is.spelled; valid = is.valid; follows = h.answer_is.1 is.cert is.spelled; told = ap (told_text telling network) is.claims },
+    )
 
-  module _ (s : StreamRefusal) (r : Refusal) (is : s ≡ streams.Refused r) (other : s ≢ streams.Refused Memory) (checked : Answered (refusing s)) where
-    own : r ≢ Memory
-    own e = other (is ∙ ap (λ (x : Refusal). streams.Refused x) e)
+abbrev refusing : StreamRefusal → Result Claim StreamRefusal
+refusing s = Err s
 
-    here : Answered (refusing (streams.Refused r))
-    here = subst (λ (x : StreamRefusal). Answered (refusing x)) is checked
+module _ (n : Net) (rest : Option (List ℕ)) (s : StreamRefusal) (r : Refusal) (is : s ≡ streams.Refused r) (other : s ≢ streams.Refused Memory) (checked : Answered n rest (refusing s)) where
+  own : r ≢ Memory
+  own e = other (is ∙ ap (λ (x : Refusal). streams.Refused x) e)
 
-    pub refused-line : LineOnRest n rest (statuses.Refused r) (refused_line r)
-    refused-line = (here.bytes, record { are = here.are; short = here.answer_is.1 }, record { refused = here.answer_is.0; own = own; spelled = refl })
+  here : Answered n rest (refusing (streams.Refused r))
+  here = subst (λ (x : StreamRefusal). Answered n rest (refusing x)) is checked
 
-    pub refused-judged : JudgedRest n rest (statuses.Refused r)
-    refused-judged = (here.bytes, record { are = here.are; short = here.answer_is.1 }, refused-invalid n here.bytes r here.answer_is.0 own)
+  pub refused-judged : JudgedRest n rest (statuses.Refused r)
+  refused-judged = (here.bytes, record { are = here.are; short = here.answer_is.1 }, refused-invalid n here.bytes r here.answer_is.0 own)
+
+pub refused-line : (telling : Telling) (network : Network) (rest : Option (List ℕ)) (s : StreamRefusal) (r : Refusal) (is : s ≡ streams.Refused r) (other : s ≢ streams.Refused Memory)
+    (checked : Answered (net_of network) rest (refusing s)) → LineOnRest telling network rest (statuses.Refused r) (refused_line r)
+refused-line telling network rest s r is other checked =
+    let h = here (net_of network) rest s r is other checked in
+    (h.bytes, record { are = h.are; short = h.answer_is.1 }, record { refused = h.answer_is.0; own = own (net_of network) rest s r is other checked; spelled = refl })
 
 -- ---- the file under a name is what is read of it
 
@@ -82,9 +99,9 @@ too-long (Some told) cert rest start before after opened grows l =
     record { bytes = opened.bytes; are = opened.are; more = subst (λ (b : List ℕ). most_bytes < length b) (sym (l.are opened.bytes opened.rest_is)) l.more }
 
 module _ (files : Option Files) (net cert : List ℕ) (network : Network) (rest : Option (List ℕ)) (opened : IsOpened files cert rest) (reads : ReadsUnder files net network) where
-  pub took-file : (status : Status) (old new : Option (List ℕ)) → Took (LineOnRest (net_of network) rest) status old new → Took (ChecksAs files net cert) status old new
-  took-file status old new took =
-      took-part (LineOnRest (net_of network) rest) (ChecksAs files net cert) (λ s text line. (network, (line.0, has-file files net cert network rest line.0 opened reads line.1, line.2)))
+  pub took-file : (telling : Telling) (status : Status) (old new : Option (List ℕ)) → Took (LineOnRest telling network rest) status old new → Took (JudgesAs telling files net cert) status old new
+  took-file telling status old new took =
+      took-part (LineOnRest telling network rest) (JudgesAs telling files net cert) (λ s text line. (network, (line.0, has-file files net cert network rest line.0 opened reads line.1, line.2)))
       (printed_by status) status old new took
 
   judged-file : (status : Status) → JudgedRest (net_of network) rest status → JudgedUnder files net cert status

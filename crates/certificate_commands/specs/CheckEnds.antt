@@ -4,17 +4,19 @@ use Rattle.shelf_calls.specs.Files.{HasFile, IsTooLong}
 use Rattle.shelf_calls.specs.declared.fault.OpenFault.{OpenFault}
 use Rattle.shelf_calls.specs.declared.fault.OpenFault.TheVariants as open_faults
 use Rattle.pool_model.specs.Network.{Network, Net, net_of}
-use Rattle.pool_model.specs.Claim.{Follows}
+use Rattle.pool_model.specs.Claim.{Claimed, Follows}
 use Rattle.cert_format.specs.Cert.{Cert}
 use Rattle.cert_format.specs.Valid.{IsValid}
 use Rattle.proof_lines.specs.declared.refusal.Refusal.{Refusal}
 use Rattle.proof_lines.specs.declared.refusal.Refusal.TheVariants as refusals
-use Rattle.cert_checker.specs.declared.verdict.Verdict.{Verdict}
-use Rattle.cert_checker.specs.Answers.{Spells, IsAccepted, IsRefused}
+use Rattle.cert_checker.specs.Answers.{Spells, IsRefused}
 use Rattle.cert_lengths.specs.Lengths.{most_bytes}
 use Rattle.run_status.specs.Reads.{Files, IsRefusedAs, ReadsNone, ReadsUnder}
 use Rattle.run_status.specs.Took.{IsCutShort, IsNetworkRefused, unread_status}
 use Rattle.printed_lines.specs.Verdicts.{accepted_line, refused_line}
+use Rattle.pool_report.specs.Report.{report_text}
+use Rattle.certificate_commands.specs.declared.judging.Telling.{Telling}
+use Rattle.certificate_commands.specs.declared.judging.Telling.TheVariants as tellings
 use Rattle.certificate_commands.specs.declared.checking.CheckOutcome.{CheckOutcome}
 use Rattle.certificate_commands.specs.declared.checking.CheckOutcome.TheVariants as outcomes
 use Rattle.run_status.specs.declared.status.Status.{Status}
@@ -37,14 +39,20 @@ unopened open_faults.Memory = outcomes.Memory
 
 -- ---- what is printed
 
--- the line of a verdict on the bytes: they are a valid certificate of the network, and what they claim follows
+-- what is told of a claim: its line, or its report
+abbrev pub told_text : Telling → Network → Claimed → List ℕ
+told_text tellings.Line network claim = accepted_line claim
+told_text tellings.Report network claim = report_text network claim
+
+-- what is told of the bytes: they are a valid certificate of the network, and what it claims follows
 -- Promise: The line `accepted ..` is that of a certificate that is valid for the network of NET, with its numbers, and all that it claims
 --   follows for every plan
-pub record Accepts (n : Net) (bytes : List ℕ) (text : List ℕ) : Type 0 where
-  pub verdict : Verdict
-  pub accepted : IsAccepted n bytes verdict
-  pub follows : (c : Cert) → Spells bytes c → Follows n c.claim
-  pub spelled : text ≡ accepted_line verdict
+pub record Accepts (telling : Telling) (network : Network) (bytes : List ℕ) (text : List ℕ) : Type 0 where
+  pub certificate : Cert
+  pub spelled : Spells bytes certificate
+  pub valid : IsValid (net_of network) certificate
+  pub follows : Follows (net_of network) certificate.claim
+  pub told : text ≡ told_text telling network certificate.claim
 
 -- the line of the first cause to refuse the bytes
 -- Promise: The line `refused ..` is that of the first cause to refuse the text
@@ -53,11 +61,11 @@ pub record Refuses (n : Net) (bytes : List ℕ) (refusal : Refusal) (text : List
   pub own : refusal ≢ refusals.Memory
   pub spelled : text ≡ refused_line refusal
 
--- the lines that answer on the bytes, by the status
-abbrev pub LineOn : Net → List ℕ → Status → List ℕ → Type 0
-LineOn n bytes statuses.Accepted text = Accepts n bytes text
-LineOn n bytes (statuses.Refused refusal) text = Refuses n bytes refusal text
-LineOn n bytes status text = ⊥
+-- the texts that answer on the bytes, by the status
+abbrev pub LineOn : Telling → Network → List ℕ → Status → List ℕ → Type 0
+LineOn telling network bytes statuses.Accepted text = Accepts telling network bytes text
+LineOn telling network bytes (statuses.Refused refusal) text = Refuses (net_of network) bytes refusal text
+LineOn telling network bytes status text = ⊥
 
 -- a network and a certificate of at most so many bytes are read from these files
 pub record AreRead (files : Option Files) (net cert : List ℕ) (network : Network) (bytes : List ℕ) : Type 0 where
@@ -65,9 +73,13 @@ pub record AreRead (files : Option Files) (net cert : List ℕ) (network : Netwo
   pub file : HasFile files cert bytes
   pub short : length bytes ≤ most_bytes
 
--- the lines that answer on the certificate under the second name, for the network under the first, by the status
+-- the texts that answer on the certificate under the second name, for the network under the first, by the status
+abbrev pub JudgesAs : Telling → Option Files → (net cert : List ℕ) → Status → List ℕ → Type 0
+JudgesAs telling files net cert status text = (network : Network) × ((bytes : List ℕ) × AreRead files net cert network bytes × LineOn telling network bytes status text)
+
+-- the same, where lines are told
 abbrev pub ChecksAs : Option Files → (net cert : List ℕ) → Status → List ℕ → Type 0
-ChecksAs files net cert status text = (network : Network) × ((bytes : List ℕ) × AreRead files net cert network bytes × LineOn (net_of network) bytes status text)
+ChecksAs = JudgesAs tellings.Line
 
 -- ---- when each status comes
 

@@ -1,9 +1,10 @@
 -- How the check of a certificate ends whose file is open and of which nothing was read.
 use Rattle.std.specs.Prelude.{ℕ, ◌<◌, ◌≤◌, List, length, Option}
-use Rattle.pool_model.specs.Network.{Net}
+use Rattle.pool_model.specs.Network.{Net, Network}
 use Rattle.cert_stream.specs.Streams.{IsRest, TookMore}
 use Rattle.cert_lengths.specs.Lengths.{most_bytes}
 use Rattle.certificate_commands.specs.CheckEnds.{IsJudged, LineOn}
+use Rattle.certificate_commands.specs.declared.judging.Telling.{Telling}
 use Rattle.run_status.specs.declared.status.Status.{Status}
 use Rattle.run_status.specs.declared.status.Status.TheVariants as statuses
 
@@ -12,9 +13,9 @@ pub record AreRest (rest : Option (List ℕ)) (bytes : List ℕ) : Type 0 where
   pub are : IsRest rest bytes
   pub short : length bytes ≤ most_bytes
 
--- the lines that answer on the file, by the status
-abbrev pub LineOnRest : Net → Option (List ℕ) → Status → List ℕ → Type 0
-LineOnRest n rest status text = (bytes : List ℕ) × AreRest rest bytes × LineOn n bytes status text
+-- the texts that answer on the file, by the status
+abbrev pub LineOnRest : Telling → Network → Option (List ℕ) → Status → List ℕ → Type 0
+LineOnRest telling network rest status text = (bytes : List ℕ) × AreRest rest bytes × LineOn telling network bytes status text
 
 -- what the file is, by the status
 abbrev pub JudgedRest : Net → Option (List ℕ) → Status → Type 0

@@ -1,71 +1,29 @@
 -- How `report` ends: as `check` does, with the report in place of the line of an accepted certificate.
-use Rattle.std.specs.Prelude.{◌≡◌, ℕ, List, Option}
-use Rattle.shelf_calls.specs.declared.fault.ShelfFault.{ShelfFault}
-use Rattle.shelf_calls.specs.declared.fault.ShelfFault.TheVariants as faults
-use Rattle.pool_model.specs.Network.{Network, Net, net_of}
-use Rattle.pool_model.specs.Claim.{Follows}
-use Rattle.cert_format.specs.Cert.{Cert}
-use Rattle.cert_format.specs.Valid.{IsValid}
-use Rattle.cert_checker.specs.Answers.{Spells}
-use Rattle.pool_report.specs.Report.{report_text}
+use Rattle.std.specs.Prelude.{ℕ, List, Option}
 use Rattle.run_status.specs.Reads.{Files}
-use Rattle.certificate_commands.specs.CheckEnds.{AreRead, CheckDecided, CheckEnds, Refuses}
-use Rattle.run_status.specs.Took.{unread_status}
+use Rattle.certificate_commands.specs.CheckEnds.{CheckDecided, CheckEnds, JudgesAs, check_status}
+use Rattle.certificate_commands.specs.declared.judging.Telling.TheVariants.{Report}
 use Rattle.certificate_commands.specs.declared.reporting.ReportOutcome.{ReportOutcome}
-use Rattle.certificate_commands.specs.declared.reporting.ReportOutcome.TheVariants as outcomes
 use Rattle.run_status.specs.declared.status.Status.{Status}
 use Rattle.run_status.specs.declared.status.Status.TheVariants as statuses
-
--- the status of a run that read no certificate
-abbrev pub unread_certificate : ShelfFault → Status
-unread_certificate faults.Failed = statuses.ReadFault
-unread_certificate faults.TooLong = statuses.CertTooLong
-unread_certificate faults.Memory = statuses.OutOfMemory
-
--- the status that it ends with
-abbrev pub report_status : ReportOutcome → Status
-report_status outcomes.Done = statuses.Done
-report_status (outcomes.Refused refusal) = statuses.Refused refusal
-report_status (outcomes.Unread why) = unread_status why
-report_status (outcomes.CertificateUnread fault) = unread_certificate fault
-report_status outcomes.Memory = statuses.OutOfMemory
-report_status outcomes.WriteFault = statuses.WriteFault
-
--- ---- what is printed
-
--- the bytes are the text of a certificate that is valid for the network
-pub record IsOfValid (n : Net) (bytes : List ℕ) : Type 0 where
-  pub certificate : Cert
-  pub spelled : Spells bytes certificate
-  pub valid : IsValid n certificate
-
--- the report of the valid certificate of this text; what it claims follows
-pub record Reports (network : Network) (bytes text : List ℕ) : Type 0 where
-  pub certificate : Cert
-  pub spelled : Spells bytes certificate
-  pub valid : IsValid (net_of network) certificate
-  pub follows : Follows (net_of network) certificate.claim
-  pub told : text ≡ report_text network certificate.claim
-
--- the texts that answer on the bytes, by the status
-abbrev pub ReportOn : Network → List ℕ → Status → List ℕ → Type 0
-ReportOn network bytes statuses.Done text = Reports network bytes text
-ReportOn network bytes (statuses.Refused refusal) text = Refuses (net_of network) bytes refusal text
-ReportOn network bytes status text = ⊥
-
--- the texts that answer on the certificate under the second name, for the network under the first, by the status
--- Promise: What `report` prints is the report of a certificate that is valid for the network of NET, rounded as the definition says, or the
---   line of the first cause to refuse the text
-abbrev pub ReportsAs : Option Files → (net cert : List ℕ) → Status → List ℕ → Type 0
-ReportsAs files net cert status text = (network : Network) × ((bytes : List ℕ) × AreRead files net cert network bytes × ReportOn network bytes status text)
-
--- ---- when each status comes
 
 -- the status with which `check` ends on the same files: a report is done where a certificate is accepted
 abbrev pub as_check : Status → Status
 as_check statuses.Done = statuses.Accepted
 as_check statuses.Accepted = statuses.Done
 as_check status = status
+
+-- the status that it ends with
+abbrev pub report_status : ReportOutcome → Status
+report_status outcome = as_check (check_status outcome.check)
+
+-- the texts that answer on the certificate under the second name, for the network under the first, by the status
+-- Promise: What `report` prints is the report of a certificate that is valid for the network of NET, rounded as the definition says, or the
+--   line of the first cause to refuse the text
+abbrev pub ReportsAs : Option Files → (net cert : List ℕ) → Status → List ℕ → Type 0
+ReportsAs files net cert status = JudgesAs Report files net cert (as_check status)
+
+-- ---- when each status comes
 
 -- Each status comes only where that of `check` does.
 -- Promise: Each other status comes only where it says so of the files: 3 where no network is read from NET, with its first cause; 4 where

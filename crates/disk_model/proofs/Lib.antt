@@ -1,3 +1,4 @@
 mod Landing
 mod Calls
 mod Replay
+mod Wider

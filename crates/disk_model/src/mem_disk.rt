@@ -3,6 +3,7 @@
 ghost use Rattle.std.specs.Prelude.{◌≡◌, ◌+◌, ◌^◌, ◌<◌, ◌≤◌, ◌⊎◌, ◌++◌, ◌∷◌, [], None, false, length, take, drop, Contains, IsTrue, IfOk, IfSome, OnOk, OnErr, IsErr, option_map, Some};
 ghost use Rattle.edge_io.specs.Counts.{Grows, Rose};
 ghost use Rattle.disk_calls.specs.Disks.{written, Torn, Shortened, Only, Reaches, LeavesBy, LeavesNothingNew, Elapses, IsSameDevice, GoesOn, Finds, Fails};
+ghost use Rattle.disk_calls.specs.Calls.{Opens, Notes};
 ghost use Rattle.disk_model.specs.Steps.{held, file_after, after_step, Lands, Replayed, Takes};
 
 use crate::step::{Step, WHOLLY};
@@ -209,6 +210,58 @@ impl MemDisk {
             Ok(file) => self.found.push(file).is_ok(),
             Err(_) => false,
         }
+    }
+
+    /// Opens the file, and notes nothing.
+    pub(crate) fn hold(&mut self) -> Result<(), DiskFailed>
+        ensures opens { OnOk result (Opens (told_of self.old) (told_of self.new)) }
+        ensures crash { LeavesNothingNew (told_of self.old) (told_of self.new) }
+        ensures goes_on { GoesOn (told_of self.old) (told_of self.new) }
+        ensures same_file { IsSameFile self.old self.new }
+        ensures told { Contains (failing_of self.old) (calls_of self.old) → IsErr result }
+        ensures counted { IsCounted self.old self.new }
+    {
+        self.count(true)?;
+        self.attached = true;
+        Ok(())
+    }
+
+    /// Notes the file as found.
+    pub(crate) fn find(&mut self) -> Result<(), DiskFailed>
+        ensures notes { OnOk result (Notes (told_of self.old) (told_of self.new)) }
+        ensures same { OnOk result ((told_of self.new).reads ≡ (told_of self.old).reads) }
+        ensures not_noted { OnErr result ((told_of self.new).attached ≡ (told_of self.old).attached) }
+        ensures crash { LeavesNothingNew (told_of self.old) (told_of self.new) }
+        ensures time { Elapses (told_of self.old) (told_of self.new) }
+        ensures same_device { IsSameDevice (told_of self.old) (told_of self.new) }
+        ensures same_file { IsSameFile self.old self.new }
+        ensures told { Contains (failing_of self.old) (calls_of self.old) → IsErr result }
+        ensures counted { IsCounted self.old self.new }
+    {
+        let noted = self.note();
+        self.count(noted)
+    }
+
+    /// Lets the file go: what reads give is not known from now on.
+    pub(crate) fn let_go(&mut self)
+        ensures unknown { (told_of self.new).reads ≡ None }
+        ensures crash { LeavesNothingNew (told_of self.old) (told_of self.new) }
+        ensures goes_on { GoesOn (told_of self.old) (told_of self.new) }
+        ensures same_file { IsSameFile self.old self.new }
+        ensures same_failing { failing_of self.new ≡ failing_of self.old }
+        ensures same_calls { calls_of self.new ≡ calls_of self.old }
+    {
+        self.attached = false;
+    }
+
+    /// The length of the file, where it is open.
+    pub(crate) fn reach(&self) -> Option<usize>
+        ensures { result ≡ option_map length (told_of self.now).reads }
+    {
+        if !self.attached {
+            return None;
+        }
+        Some(self.bytes().len())
     }
 
     /// Goes a sync, where the call is not told to fail and memory lasts: whether it did.

@@ -8,6 +8,9 @@ use Rattle.row_model.specs.Multipliers.{Part, Proof}
 use Rattle.row_model.specs.Trees.{Split}
 use Rattle.row_model.specs.Entries.{Entry, root_proof, split_of, improve}
 use Rattle.journal_format.specs.Fields.{field, signed_field, number_at, signed_at}
+use Rattle.journal_format.specs.Versions.{split_kind, leaf_width}
+use Rattle.journal_format.specs.declared.version.Version.{Version}
+use Rattle.journal_format.specs.declared.version.Version.TheVariants.{One, Two}
 use Rattle.journal_format.specs.Payload.{part_bytes, proof_bytes, half_bytes, split_bytes, list_bytes, plan_bytes, payload, PartFits, ProofFits, HalfFits, SplitFits, ListFits, PlanFits, EntryFits}
 use Rattle.journal_format.specs.Reading.{◌>>=◌, part_at, parts_at, proof_at, half_at, split_at, numbers_at, list_at, plan_at, root_entry_at, split_entry_at, plan_entry_at, entry_at, payload_at}
 use Rattle.journal_format.proofs.Numbers.{IsBytes, Takes, Takes-then, IsWide, wide2, wide4, wide8, number_again, number_takes, signed_again, signed_takes}
@@ -127,29 +130,35 @@ half_again (Some p) rest fits = rw (proof_again p rest fits) refl
 
 -- ---- splits
 
-split_takes : (bytes : List ℕ) (x : Split) (rest : List ℕ) → IsBytes bytes → split_at bytes ≡ Some (x, rest) → Takes bytes (split_bytes x) rest × SplitFits x
+wide-leaf : (v : Version) → IsWide (leaf_width v)
+wide-leaf One = wide2
+wide-leaf Two = wide4
+
+split_takes : (v : Version) (bytes : List ℕ) (x : Split) (rest : List ℕ) → IsBytes bytes → split_at v bytes ≡ Some (x, rest) → Takes bytes (split_bytes v x) rest × SplitFits v x
 unfolding split_at
-split_takes bytes x rest fits e =
-    let a = bind_some (number_at 2 bytes) (λ leaf. number_at 4 leaf.1 >>= λ coord. signed_at coord.1 >>= λ cut. Some (record { leaf = leaf.0; coord = coord.0; cut = cut.0 }, cut.1)) (x, rest) e in
+split_takes v bytes x rest fits e =
+    let w = leaf_width v in
+    let a = bind_some (number_at w bytes) (λ leaf. number_at 4 leaf.1 >>= λ coord. signed_at coord.1 >>= λ cut. Some (record { leaf = leaf.0; coord = coord.0; cut = cut.0 }, cut.1)) (x, rest) e in
     let b = bind_some (number_at 4 a.0.1) (λ coord. signed_at coord.1 >>= λ cut. Some (record { leaf = a.0.0; coord = coord.0; cut = cut.0 }, cut.1)) (x, rest) a.2 in
     let d = bind_some (signed_at b.0.1) (λ cut. Some (record { leaf = a.0.0; coord = b.0.0; cut = cut.0 }, cut.1)) (x, rest) b.2 in
-    let s = number_takes 2 wide2 bytes a.0.0 a.0.1 fits a.1 in
+    let s = number_takes w (wide-leaf v) bytes a.0.0 a.0.1 fits a.1 in
     let t = number_takes 4 wide4 a.0.1 b.0.0 b.0.1 s.0.rest_fits b.1 in
     let u = signed_takes b.0.1 d.0.0 d.0.1 t.0.rest_fits d.1 in
     let behind = Takes-then a.0.1 (field 4 b.0.0) b.0.1 (signed_field d.0.0) d.0.1 t.0 u.0 in
-    let whole = Takes-then bytes (field 2 a.0.0) a.0.1 (field 4 b.0.0 ++ signed_field d.0.0) d.0.1 s.0 behind in
-    as_read (λ (q : Split) (l : List ℕ). Takes bytes (split_bytes q) l × SplitFits q) (record { leaf = a.0.0; coord = b.0.0; cut = d.0.0 }, d.0.1) (x, rest) d.2 (
-      subst (λ (l : List ℕ). Takes bytes l d.0.1) (sym (append_assoc (field 2 a.0.0) (field 4 b.0.0) (signed_field d.0.0))) whole,
-      record { leaf = omega (arith, s.1); coord = omega (arith, t.1); cut = u.1 },
+    let whole = Takes-then bytes (field w a.0.0) a.0.1 (field 4 b.0.0 ++ signed_field d.0.0) d.0.1 s.0 behind in
+    as_read (λ (q : Split) (l : List ℕ). Takes bytes (split_bytes v q) l × SplitFits v q) (record { leaf = a.0.0; coord = b.0.0; cut = d.0.0 }, d.0.1) (x, rest) d.2 (
+      subst (λ (l : List ℕ). Takes bytes l d.0.1) (sym (append_assoc (field w a.0.0) (field 4 b.0.0) (signed_field d.0.0))) whole,
+      record { leaf = s.1; coord = omega (arith, t.1); cut = u.1 },
     )
 
-split_again : (x : Split) (rest : List ℕ) → SplitFits x → split_at (split_bytes x ++ rest) ≡ Some (x, rest)
+split_again : (v : Version) (x : Split) (rest : List ℕ) → SplitFits v x → split_at v (split_bytes v x ++ rest) ≡ Some (x, rest)
 unfolding split_at
-split_again x rest fits =
-    let regrouped : split_bytes x ++ rest ≡ field 2 x.leaf ++ (field 4 x.coord ++ (signed_field x.cut ++ rest)) = simp append_assoc in
-    ap split_at regrouped
+split_again v x rest fits =
+    let w = leaf_width v in
+    let regrouped : split_bytes v x ++ rest ≡ field w x.leaf ++ (field 4 x.coord ++ (signed_field x.cut ++ rest)) = simp append_assoc in
+    ap (split_at v) regrouped
     ∙ rw (
-      number_again 2 x.leaf (field 4 x.coord ++ (signed_field x.cut ++ rest)) (omega (arith, fits.leaf)),
+      number_again w x.leaf (field 4 x.coord ++ (signed_field x.cut ++ rest)) fits.leaf,
       number_again 4 x.coord (signed_field x.cut ++ rest) (omega (arith, fits.coord)),
       signed_again x.cut rest fits.cut,
     ) refl
@@ -243,53 +252,69 @@ plan_again w rest fits =
 
 -- ---- entries
 
-split_entry_takes : (bytes : List ℕ) (x : Entry) (rest : List ℕ) → IsBytes bytes → split_entry_at bytes ≡ Some (x, rest) → Takes (1 ∷ bytes) (payload x) rest × EntryFits x
+-- the bytes of a split, behind its kind
+abbrev split_tail : Version → Split → Option Proof → Option Proof → List ℕ
+split_tail v x left right = split_bytes v x ++ half_bytes left ++ half_bytes right
+
+split_entry_takes : (v : Version) (k : ℕ) (bytes : List ℕ) (x : Entry) (rest : List ℕ) → k ≡ split_kind v → IsBytes bytes → split_entry_at v bytes ≡ Some (x, rest)
+    → Takes (k ∷ bytes) (payload v x) rest × EntryFits v x
 unfolding split_entry_at
-split_entry_takes bytes x rest fits e =
-    let a = bind_some (split_at bytes) (λ split. half_at split.1 >>= λ left. half_at left.1 >>= λ right. Some (split_of split.0 left.0 right.0, right.1)) (x, rest) e in
+split_entry_takes v k bytes x rest kind fits e =
+    let a = bind_some (split_at v bytes) (λ split. half_at split.1 >>= λ left. half_at left.1 >>= λ right. Some (split_of split.0 left.0 right.0, right.1)) (x, rest) e in
     let b = bind_some (half_at a.0.1) (λ left. half_at left.1 >>= λ right. Some (split_of a.0.0 left.0 right.0, right.1)) (x, rest) a.2 in
     let d = bind_some (half_at b.0.1) (λ right. Some (split_of a.0.0 b.0.0 right.0, right.1)) (x, rest) b.2 in
-    let s = split_takes bytes a.0.0 a.0.1 fits a.1 in
+    let s = split_takes v bytes a.0.0 a.0.1 fits a.1 in
     let t = half_takes a.0.1 b.0.0 b.0.1 s.0.rest_fits b.1 in
     let u = half_takes b.0.1 d.0.0 d.0.1 t.0.rest_fits d.1 in
-    let k1 = Takes-then bytes (split_bytes a.0.0) a.0.1 (half_bytes b.0.0) b.0.1 s.0 t.0 in
-    let k2 = Takes-then bytes (split_bytes a.0.0 ++ half_bytes b.0.0) b.0.1 (half_bytes d.0.0) d.0.1 k1 u.0 in
-    as_read (λ (q : Entry) (l : List ℕ). Takes (1 ∷ bytes) (payload q) l × EntryFits q) (split_of a.0.0 b.0.0 d.0.0, d.0.1) (x, rest) d.2
-    (Takes-byte 1 bytes (split_bytes a.0.0 ++ half_bytes b.0.0 ++ half_bytes d.0.0) d.0.1 k2, (s.1, t.1, u.1))
+    let k1 = Takes-then bytes (split_bytes v a.0.0) a.0.1 (half_bytes b.0.0) b.0.1 s.0 t.0 in
+    let k2 = Takes-then bytes (split_bytes v a.0.0 ++ half_bytes b.0.0) b.0.1 (half_bytes d.0.0) d.0.1 k1 u.0 in
+    let whole : Takes (k ∷ bytes) (split_kind v ∷ split_tail v a.0.0 b.0.0 d.0.0) d.0.1 =
+    subst (λ (n : ℕ). Takes (k ∷ bytes) (n ∷ split_tail v a.0.0 b.0.0 d.0.0) d.0.1) kind (Takes-byte k bytes (split_tail v a.0.0 b.0.0 d.0.0) d.0.1 k2) in
+    as_read (λ (q : Entry) (l : List ℕ). Takes (k ∷ bytes) (payload v q) l × EntryFits v q) (split_of a.0.0 b.0.0 d.0.0, d.0.1) (x, rest) d.2
+    (whole, (s.1, t.1, u.1))
 
-root_entry_takes : (bytes : List ℕ) (x : Entry) (rest : List ℕ) → IsBytes bytes → root_entry_at bytes ≡ Some (x, rest) → Takes (0 ∷ bytes) (payload x) rest × EntryFits x
+root_entry_takes : (v : Version) (bytes : List ℕ) (x : Entry) (rest : List ℕ) → IsBytes bytes → root_entry_at bytes ≡ Some (x, rest) → Takes (0 ∷ bytes) (payload v x) rest × EntryFits v x
 unfolding root_entry_at
-root_entry_takes bytes x rest fits e =
+root_entry_takes v bytes x rest fits e =
     let a = bind_some (proof_at bytes) (λ proof. Some (root_proof proof.0, proof.1)) (x, rest) e in
     let s = proof_takes bytes a.0.0 a.0.1 fits a.1 in
-    as_read (λ (q : Entry) (l : List ℕ). Takes (0 ∷ bytes) (payload q) l × EntryFits q) (root_proof a.0.0, a.0.1) (x, rest) a.2
+    as_read (λ (q : Entry) (l : List ℕ). Takes (0 ∷ bytes) (payload v q) l × EntryFits v q) (root_proof a.0.0, a.0.1) (x, rest) a.2
     (Takes-byte 0 bytes (proof_bytes a.0.0) a.0.1 s.0, s.1)
 
-plan_entry_takes : (bytes : List ℕ) (x : Entry) (rest : List ℕ) → IsBytes bytes → plan_entry_at bytes ≡ Some (x, rest) → Takes (2 ∷ bytes) (payload x) rest × EntryFits x
+plan_entry_takes : (v : Version) (bytes : List ℕ) (x : Entry) (rest : List ℕ) → IsBytes bytes → plan_entry_at bytes ≡ Some (x, rest) → Takes (2 ∷ bytes) (payload v x) rest × EntryFits v x
 unfolding plan_entry_at
-plan_entry_takes bytes x rest fits e =
+plan_entry_takes v bytes x rest fits e =
     let a = bind_some (plan_at bytes) (λ plan. Some (improve plan.0, plan.1)) (x, rest) e in
     let s = plan_takes bytes a.0.0 a.0.1 fits a.1 in
-    as_read (λ (q : Entry) (l : List ℕ). Takes (2 ∷ bytes) (payload q) l × EntryFits q) (improve a.0.0, a.0.1) (x, rest) a.2
+    as_read (λ (q : Entry) (l : List ℕ). Takes (2 ∷ bytes) (payload v q) l × EntryFits v q) (improve a.0.0, a.0.1) (x, rest) a.2
     (Takes-byte 2 bytes (plan_bytes a.0.0) a.0.1 s.0, s.1)
 
-entry_takes : (bytes : List ℕ) (x : Entry) (rest : List ℕ) → IsBytes bytes → entry_at bytes ≡ Some (x, rest) → Takes bytes (payload x) rest × EntryFits x
+entry_takes : (v : Version) (bytes : List ℕ) (x : Entry) (rest : List ℕ) → IsBytes bytes → entry_at v bytes ≡ Some (x, rest) → Takes bytes (payload v x) rest × EntryFits v x
 unfolding entry_at
-entry_takes [] x rest fits e = absurd cc
-entry_takes (zero ∷ bytes) x rest fits e = root_entry_takes bytes x rest (IsBytes-behind 0 bytes fits) e
-entry_takes (suc zero ∷ bytes) x rest fits e = split_entry_takes bytes x rest (IsBytes-behind 1 bytes fits) e
-entry_takes (suc (suc zero) ∷ bytes) x rest fits e = plan_entry_takes bytes x rest (IsBytes-behind 2 bytes fits) e
-entry_takes (suc (suc (suc kind)) ∷ bytes) x rest fits e = absurd cc
+entry_takes v [] x rest fits e = absurd cc
+entry_takes v (zero ∷ bytes) x rest fits e = root_entry_takes v bytes x rest (IsBytes-behind 0 bytes fits) e
+entry_takes One (suc zero ∷ bytes) x rest fits e = split_entry_takes One 1 bytes x rest refl (IsBytes-behind 1 bytes fits) e
+entry_takes Two (suc zero ∷ bytes) x rest fits e = absurd cc
+entry_takes v (suc (suc zero) ∷ bytes) x rest fits e = plan_entry_takes v bytes x rest (IsBytes-behind 2 bytes fits) e
+entry_takes One (suc (suc (suc kind)) ∷ bytes) x rest fits e = absurd cc
+entry_takes Two (suc (suc (suc zero)) ∷ bytes) x rest fits e = split_entry_takes Two 3 bytes x rest refl (IsBytes-behind 3 bytes fits) e
+entry_takes Two (suc (suc (suc (suc kind))) ∷ bytes) x rest fits e = absurd cc
 
-entry_again : (x : Entry) (rest : List ℕ) → EntryFits x → entry_at (payload x ++ rest) ≡ Some (x, rest)
-unfolding entry_at root_entry_at split_entry_at plan_entry_at
-entry_again (root_proof p) rest fits = rw (proof_again p rest fits) refl
-entry_again (split_of x left right) rest fits =
-    let regrouped : split_bytes x ++ half_bytes left ++ half_bytes right ++ rest ≡ split_bytes x ++ (half_bytes left ++ (half_bytes right ++ rest)) =
-    append_assoc (split_bytes x ++ half_bytes left) (half_bytes right) rest ∙ append_assoc (split_bytes x) (half_bytes left) (half_bytes right ++ rest) in
-    ap split_entry_at regrouped
-    ∙ rw (split_again x (half_bytes left ++ (half_bytes right ++ rest)) fits.0, half_again left (half_bytes right ++ rest) fits.1, half_again right rest fits.2) refl
-entry_again (improve w) rest fits = rw (plan_again w rest fits) refl
+split_entry_again : (v : Version) (x : Split) (left right : Option Proof) (rest : List ℕ) → SplitFits v x → HalfFits left → HalfFits right
+    → split_entry_at v (split_tail v x left right ++ rest) ≡ Some (split_of x left right, rest)
+unfolding split_entry_at
+split_entry_again v x left right rest fits a b =
+    let regrouped : split_tail v x left right ++ rest ≡ split_bytes v x ++ (half_bytes left ++ (half_bytes right ++ rest)) =
+    append_assoc (split_bytes v x ++ half_bytes left) (half_bytes right) rest ∙ append_assoc (split_bytes v x) (half_bytes left) (half_bytes right ++ rest) in
+    ap (split_entry_at v) regrouped
+    ∙ rw (split_again v x (half_bytes left ++ (half_bytes right ++ rest)) fits, half_again left (half_bytes right ++ rest) a, half_again right rest b) refl
+
+entry_again : (v : Version) (x : Entry) (rest : List ℕ) → EntryFits v x → entry_at v (payload v x ++ rest) ≡ Some (x, rest)
+unfolding entry_at root_entry_at plan_entry_at
+entry_again v (root_proof p) rest fits = rw (proof_again p rest fits) refl
+entry_again One (split_of x left right) rest fits = split_entry_again One x left right rest fits.0 fits.1 fits.2
+entry_again Two (split_of x left right) rest fits = split_entry_again Two x left right rest fits.0 fits.1 fits.2
+entry_again v (improve w) rest fits = rw (plan_again w rest fits) refl
 
 -- ---- whole payloads
 
@@ -298,18 +323,18 @@ guard_whole true x y e = (refl, cc)
 guard_whole false x y e = absurd cc
 
 -- what is read of bytes has these bytes
-pub payload_takes : (bytes : List ℕ) (x : Entry) → IsBytes bytes → payload_at bytes ≡ Some x → (bytes ≡ payload x) × EntryFits x
+pub payload_takes : (v : Version) (bytes : List ℕ) (x : Entry) → IsBytes bytes → payload_at v bytes ≡ Some x → (bytes ≡ payload v x) × EntryFits v x
 unfolding payload_at
-payload_takes bytes x fits e =
-    let a = bind_some (entry_at bytes) (λ entry. cond (eqb (length entry.1) 0) (Some entry.0) None) x e in
+payload_takes v bytes x fits e =
+    let a = bind_some (entry_at v bytes) (λ entry. cond (eqb (length entry.1) 0) (Some entry.0) None) x e in
     let g = guard_whole (eqb (length a.0.1) 0) a.0.0 x a.2 in
     let none : a.0.1 ≡ [] = nil_from_length a.0.1 (eqb-true (length a.0.1) 0 g.0) in
-    let t = entry_takes bytes a.0.0 a.0.1 fits a.1 in
-    (t.0.parts ∙ ap (λ (l : List ℕ). payload a.0.0 ++ l) none ∙ append-nil (payload a.0.0) ∙ ap payload g.1, subst EntryFits g.1 t.1)
+    let t = entry_takes v bytes a.0.0 a.0.1 fits a.1 in
+    (t.0.parts ∙ ap (λ (l : List ℕ). payload v a.0.0 ++ l) none ∙ append-nil (payload v a.0.0) ∙ ap (payload v) g.1, subst (EntryFits v) g.1 t.1)
 
 -- and an entry's bytes are read as the entry
-pub payload_again : (x : Entry) → EntryFits x → payload_at (payload x) ≡ Some x
+pub payload_again : (v : Version) (x : Entry) → EntryFits v x → payload_at v (payload v x) ≡ Some x
 unfolding payload_at
-payload_again x fits =
-    let read : entry_at (payload x) ≡ Some (x, []) = ap entry_at (sym (append-nil (payload x))) ∙ entry_again x [] fits in
+payload_again v x fits =
+    let read : entry_at v (payload v x) ≡ Some (x, []) = ap (entry_at v) (sym (append-nil (payload v x))) ∙ entry_again v x [] fits in
     rw read refl

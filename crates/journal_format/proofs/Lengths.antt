@@ -1,5 +1,5 @@
 -- How many bytes an entry has.
-use Rattle.std.proofs.Common.{◌≡◌, ℕ, ◌+◌, ◌*◌, ◌<◌, List, [], ◌∷◌, ◌++◌, length, map, Option, Some, None, option_map, take, get_or, refl, sym, ap, ◌∙◌, arith, length-append, length-take}
+use Rattle.std.proofs.Common.{◌≡◌, ℕ, ◌+◌, ◌*◌, ◌<◌, ◌≤◌, List, [], ◌∷◌, ◌++◌, length, map, Option, Some, None, option_map, take, get_or, refl, sym, ap, ◌∙◌, arith, length-append, length-take}
 use Rattle.std.proofs.lemmas.List.{length-map}
 use Rattle.std.specs.Int.{w64, cast_unsigned}
 use Rattle.std.specs.List.{flat_map}
@@ -7,7 +7,10 @@ use Rattle.pool_model.specs.Plan.{Written}
 use Rattle.row_model.specs.Multipliers.{Part, Proof}
 use Rattle.row_model.specs.Trees.{Split}
 use Rattle.journal_format.specs.Fields.{field, signed_field}
-use Rattle.journal_format.specs.Payload.{part_bytes, proof_bytes, split_bytes, list_bytes, plan_bytes}
+use Rattle.row_model.specs.Entries.{Entry, root_proof, split_of, improve}
+use Rattle.journal_format.specs.Versions.{leaf_width}
+use Rattle.journal_format.specs.declared.version.Version.{Version}
+use Rattle.journal_format.specs.Payload.{part_bytes, proof_bytes, half_bytes, split_bytes, list_bytes, plan_bytes, payload}
 use Rattle.journal_format.proofs.Numbers.{length-field}
 
 pub length-part_bytes : (p : Part) → length (part_bytes p) ≡ 12
@@ -28,13 +31,13 @@ length-proof_bytes p =
       length-parts_bytes p.parts,
     )
 
-pub length-split_bytes : (s : Split) → length (split_bytes s) ≡ 14
-length-split_bytes s =
+pub length-split_bytes : (v : Version) (s : Split) → length (split_bytes v s) ≡ 12 + leaf_width v
+length-split_bytes v s =
     omega (
       arith,
-      length-append (field 2 s.leaf ++ field 4 s.coord) (signed_field s.cut),
-      length-append (field 2 s.leaf) (field 4 s.coord),
-      length-field 2 s.leaf,
+      length-append (field (leaf_width v) s.leaf ++ field 4 s.coord) (signed_field s.cut),
+      length-append (field (leaf_width v) s.leaf) (field 4 s.coord),
+      length-field (leaf_width v) s.leaf,
       length-field 4 s.coord,
       length-field 8 (cast_unsigned w64 s.cut),
     )
@@ -60,6 +63,18 @@ length-plan_bytes w =
       length-list_bytes 8 w.outflows,
       length-list_bytes 8 w.direct,
     )
+
+-- no payload is as short as the Turn's
+pub payload-long : (v : Version) (e : Entry) → 2 ≤ length (payload v e)
+payload-long v (root_proof proof) = omega (arith, length-proof_bytes proof)
+payload-long v (split_of split left right) =
+    omega (
+      arith,
+      length-append (split_bytes v split ++ half_bytes left) (half_bytes right),
+      length-append (split_bytes v split) (half_bytes left),
+      length-split_bytes v split,
+    )
+payload-long v (improve plan) = omega (arith, length-plan_bytes plan)
 
 -- the lengths of all that is written
 pub ruleset sizes = (

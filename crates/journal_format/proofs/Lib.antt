@@ -4,6 +4,7 @@ pub mod Heads
 pub mod Repeated
 pub mod Lengths
 pub mod RecordLaws
+pub mod HistoryLaws
 pub mod OwnFiles
 pub mod ShortPayloads
 pub mod Decided

@@ -1,6 +1,8 @@
 pub mod Fields
+pub mod Versions
 pub mod Payload
 pub mod Reading
+pub mod Histories
 pub mod Files
 pub mod Pages
 pub mod Gives

@@ -3,6 +3,6 @@ use Rattle.std.specs.Prelude.{ℕ, ◌+◌, ◌*◌, max}
 use Rattle.pool_model.specs.Network.{Net}
 use Rattle.row_model.specs.Catalogue.{rows}
 
--- the longest payload of an entry that is in order: a split with proofs of all rows on both halves, or a plan
+-- the longest payload of an entry that is in order, in either version: a split with proofs of all rows on both halves, or a plan
 abbrev pub longest : Net → ℕ
-longest n = max (41 + 24 * rows n) (15 + 4 * n.feeds + 8 * n.outs + 8 * n.directs)
+longest n = max (43 + 24 * rows n) (15 + 4 * n.feeds + 8 * n.outs + 8 * n.directs)

@@ -1,10 +1,13 @@
--- Reading the bytes of an entry from left to right.
+-- Reading the bytes of an entry from left to right, in either version.
 use Rattle.std.specs.Prelude.{ℕ, zero, suc, List, [], ◌∷◌, length, Option, Some, None, ◌==◌, if◌then◌else◌}
 use Rattle.pool_model.specs.Plan.{Written}
 use Rattle.row_model.specs.Multipliers.{Part, Proof}
 use Rattle.row_model.specs.Trees.{Split}
 use Rattle.row_model.specs.Entries.{Entry, root_proof, split_of, improve}
 use Rattle.journal_format.specs.Fields.{number_at, signed_at}
+use Rattle.journal_format.specs.Versions.{leaf_width}
+use Rattle.journal_format.specs.declared.version.Version.{Version}
+use Rattle.journal_format.specs.declared.version.Version.TheVariants.{One, Two}
 
 infixl 10 ◌>>=◌
 abbrev pub ◌>>=◌ : {A B : Type 0} → Option A → (A → Option B) → Option B
@@ -41,9 +44,9 @@ half_at (suc zero ∷ rest) = do
   Some (Some proof.0, proof.1)
 half_at (suc (suc b) ∷ rest) = None
 
-unfoldable pub split_at : List ℕ → Option (Split × List ℕ)
-split_at bytes = do
-  leaf ← number_at 2 bytes
+unfoldable pub split_at : Version → List ℕ → Option (Split × List ℕ)
+split_at v bytes = do
+  leaf ← number_at (leaf_width v) bytes
   coord ← number_at 4 leaf.1
   cut ← signed_at coord.1
   Some (record { leaf = leaf.0; coord = coord.0; cut = cut.0 }, cut.1)
@@ -75,9 +78,9 @@ root_entry_at bytes = do
   proof ← proof_at bytes
   Some (root_proof proof.0, proof.1)
 
-unfoldable pub split_entry_at : List ℕ → Option (Entry × List ℕ)
-split_entry_at bytes = do
-  split ← split_at bytes
+unfoldable pub split_entry_at : Version → List ℕ → Option (Entry × List ℕ)
+split_entry_at v bytes = do
+  split ← split_at v bytes
   left ← half_at split.1
   right ← half_at left.1
   Some (split_of split.0 left.0 right.0, right.1)
@@ -87,15 +90,19 @@ plan_entry_at bytes = do
   plan ← plan_at bytes
   Some (improve plan.0, plan.1)
 
-unfoldable pub entry_at : List ℕ → Option (Entry × List ℕ)
-entry_at [] = None
-entry_at (zero ∷ rest) = root_entry_at rest
-entry_at (suc zero ∷ rest) = split_entry_at rest
-entry_at (suc (suc zero) ∷ rest) = plan_entry_at rest
-entry_at (suc (suc (suc kind)) ∷ rest) = None
+-- the kinds 0 and 2 are those of either version; a split is of kind 1 in version 1, and of kind 3 in version 2
+unfoldable pub entry_at : Version → List ℕ → Option (Entry × List ℕ)
+entry_at v [] = None
+entry_at v (zero ∷ rest) = root_entry_at rest
+entry_at One (suc zero ∷ rest) = split_entry_at One rest
+entry_at Two (suc zero ∷ rest) = None
+entry_at v (suc (suc zero) ∷ rest) = plan_entry_at rest
+entry_at One (suc (suc (suc kind)) ∷ rest) = None
+entry_at Two (suc (suc (suc zero)) ∷ rest) = split_entry_at Two rest
+entry_at Two (suc (suc (suc (suc kind))) ∷ rest) = None
 
 -- the entry whose bytes these are, all of them
-unfoldable pub payload_at : List ℕ → Option Entry
-payload_at bytes = do
-  entry ← entry_at bytes
+unfoldable pub payload_at : Version → List ℕ → Option Entry
+payload_at v bytes = do
+  entry ← entry_at v bytes
   if length entry.1 == 0 then Some entry.0 else None

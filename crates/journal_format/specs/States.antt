@@ -8,4 +8,4 @@ use Rattle.journal_format.specs.declared.head.State.TheVariants.{Unborn, Zeroed,
 abbrev pub IsIn : List ℕ → List ℕ → State → Type 0
 IsIn text file Unborn = IsUnborn file × SaysZeroed false file
 IsIn text file Zeroed = IsUnborn file × SaysZeroed true file
-IsIn text file Born = file ≡ header 1 text ++ drop (length (header 1 text)) file
+IsIn text file (Born v) = file ≡ header 1 v text ++ drop (length (header 1 v text)) file

@@ -14,11 +14,12 @@ pub enum JournalFault {
     Disk,
     /// The file has more than one byte, byte 0 is not 0, and the bytes 1 to 7 are not the magic.
     NotAJournal,
-    /// The file is born with this version, which is not 1; where the byte is missing the version is 0.
+    /// The file is born with this version, which is neither 1 nor 2; where the byte is missing the version is 0.
     UnknownVersion(u8),
     /// The file is born with another text.
     OtherNetwork,
-    /// The record of this number, from 0, has an open gate and holds no entry's bytes.
+    /// The record of this number, from 0 and with the Turn, has an open gate. It holds no entry's bytes, and it is not the one Turn that
+    /// its file may have.
     BadRecord(u64),
     /// There was no memory. It may come in place of any other answer.
     Memory,

@@ -1,19 +1,25 @@
-//! Entries, read from their bytes.
+//! Entries, read from their bytes, in either version.
 
-ghost use Rattle.std.specs.Prelude.{◌≡◌, map, option_map, IfOk};
+ghost use Rattle.std.specs.Prelude.{◌≡◌, ◌↔◌, map, option_map, IsTrue, IfOk};
 ghost use Rattle.box_space.specs.Views.{shown_part, shown_proof, shown_split};
 ghost use Rattle.plan_core.specs.Views.{shown_plan};
 ghost use Rattle.box_tree.specs.Views.{shown_entry};
-ghost use Rattle.journal_format.specs.Payload.{payload, EntryFits};
+ghost use Rattle.journal_format.specs.Versions.{leaf_width};
+ghost use Rattle.journal_format.specs.Payload.{payload, turn_payload, EntryFits};
+ghost use Rattle.journal_format.specs.Fields.{number_at};
 ghost use Rattle.journal_format.specs.Gives.{Gives};
 ghost use Rattle.journal_format.specs.Reading.{part_at, parts_at, proof_at, half_at, split_at, numbers_at, list_at, plan_at, root_entry_at, split_entry_at, plan_entry_at, entry_at, payload_at};
 
 use crate::fault::EntryUnread;
 use crate::fields::{i64_at, u16_at, u32_at, u64_at};
+use crate::version::Version;
 use box_space::{Part, Proof, Split};
 use box_tree::Entry;
 use plan_core::WrittenPlan;
 use std::alloc::Global;
+
+/// The payload of the Turn.
+const TURN: [u8; 1] = [4];
 
 // Each of these answers what stands at the front, and the bytes behind it.
 
@@ -63,14 +69,25 @@ fn half(alloc: Global, bytes: &[u8]) -> Result<(Option<Proof>, &[u8]), EntryUnre
     }
 }
 
-#[tactic(auto, unfolding(crate::specs::Reading::split_at))]
-fn split(bytes: &[u8]) -> Result<(Split, &[u8]), EntryUnread>
-    ensures { Gives (λ x. (shown_split x.0, x.1.now)) result (split_at bytes.now) }
+fn leaf(version: Version, bytes: &[u8]) -> Result<(u32, &[u8]), EntryUnread>
+    ensures { Gives (λ x. (x.0, x.1.now)) result (number_at (leaf_width version) bytes.now) }
 {
-    let (leaf, rest) = u16_at(bytes)?;
+    match version {
+        Version::One => {
+            let (leaf, rest) = u16_at(bytes)?;
+            Ok((u32::from(leaf), rest))
+        }
+        Version::Two => u32_at(bytes),
+    }
+}
+
+#[tactic(auto, unfolding(crate::specs::Reading::split_at))]
+fn split(version: Version, bytes: &[u8]) -> Result<(Split, &[u8]), EntryUnread>
+    ensures { Gives (λ x. (shown_split x.0, x.1.now)) result (split_at version bytes.now) }
+{
+    let (leaf, rest) = leaf(version, bytes)?;
     let (coord, rest) = u32_at(rest)?;
     let (cut, rest) = i64_at(rest)?;
-    let leaf = u32::from(leaf);
     Ok((Split { leaf, coord, cut }, rest))
 }
 
@@ -136,26 +153,27 @@ fn plan(alloc: Global, bytes: &[u8]) -> Result<(WrittenPlan, &[u8]), EntryUnread
 }
 
 #[tactic(auto, unfolding(crate::specs::Reading::split_entry_at))]
-fn split_entry(alloc: Global, bytes: &[u8]) -> Result<(Entry, &[u8]), EntryUnread>
-    ensures { Gives (λ x. (shown_entry x.0, x.1.now)) result (split_entry_at bytes.now) }
+fn split_entry(alloc: Global, version: Version, bytes: &[u8]) -> Result<(Entry, &[u8]), EntryUnread>
+    ensures { Gives (λ x. (shown_entry x.0, x.1.now)) result (split_entry_at version bytes.now) }
 {
-    let (split, rest) = split(bytes)?;
+    let (split, rest) = split(version, bytes)?;
     let (left, rest) = half(alloc, rest)?;
     let (right, rest) = half(alloc, rest)?;
     Ok((Entry::SplitOf(split, left, right), rest))
 }
 
 #[tactic(auto, unfolding(crate::specs::Reading::entry_at, crate::specs::Reading::root_entry_at, crate::specs::Reading::plan_entry_at))]
-fn entry(alloc: Global, bytes: &[u8]) -> Result<(Entry, &[u8]), EntryUnread>
-    ensures { Gives (λ x. (shown_entry x.0, x.1.now)) result (entry_at bytes.now) }
+fn entry(alloc: Global, version: Version, bytes: &[u8]) -> Result<(Entry, &[u8]), EntryUnread>
+    ensures { Gives (λ x. (shown_entry x.0, x.1.now)) result (entry_at version bytes.now) }
 {
-    match bytes {
-        [0, rest @ ..] => {
+    match (version, bytes) {
+        (_, [0, rest @ ..]) => {
             let (proof, rest) = proof(alloc, rest)?;
             Ok((Entry::Root(proof), rest))
         }
-        [1, rest @ ..] => split_entry(alloc, rest),
-        [2, rest @ ..] => {
+        (Version::One, [1, rest @ ..]) => split_entry(alloc, version, rest),
+        (Version::Two, [3, rest @ ..]) => split_entry(alloc, version, rest),
+        (_, [2, rest @ ..]) => {
             let (plan, rest) = plan(alloc, rest)?;
             Ok((Entry::Improve(plan), rest))
         }
@@ -163,22 +181,29 @@ fn entry(alloc: Global, bytes: &[u8]) -> Result<(Entry, &[u8]), EntryUnread>
     }
 }
 
-/// The entry whose bytes these are, all of them. `Malformed` where they are no entry's.
-pub fn read_payload(alloc: Global, bytes: &[u8]) -> Result<Entry, EntryUnread>
-    ensures exact { Gives shown_entry result (payload_at bytes.now) }
-    ensures spelled { IfOk result (λ e. (bytes.now ≡ payload (shown_entry e)) × EntryFits (shown_entry e)) }
+/// The entry whose bytes these are in that version, all of them. `Malformed` where they are no entry's.
+pub fn read_payload(alloc: Global, version: Version, bytes: &[u8]) -> Result<Entry, EntryUnread>
+    ensures exact { Gives shown_entry result (payload_at version bytes.now) }
+    ensures spelled { IfOk result (λ e. (bytes.now ≡ payload version (shown_entry e)) × EntryFits version (shown_entry e)) }
 {
-    whole(alloc, bytes)
+    whole(alloc, version, bytes)
 }
 
 #[tactic(auto, unfolding(crate::specs::Reading::payload_at))]
-fn whole(alloc: Global, bytes: &[u8]) -> Result<Entry, EntryUnread>
-    ensures { Gives shown_entry result (payload_at bytes.now) }
+fn whole(alloc: Global, version: Version, bytes: &[u8]) -> Result<Entry, EntryUnread>
+    ensures { Gives shown_entry result (payload_at version bytes.now) }
 {
-    let (entry, rest) = entry(alloc, bytes)?;
+    let (entry, rest) = entry(alloc, version, bytes)?;
     if rest.is_empty() {
         Ok(entry)
     } else {
         Err(EntryUnread::Malformed)
     }
+}
+
+/// Whether these bytes are the payload of the Turn, all of them.
+pub fn is_turn(bytes: &[u8]) -> bool
+    ensures { IsTrue result ↔ bytes.now ≡ turn_payload }
+{
+    bytes == TURN.as_slice()
 }

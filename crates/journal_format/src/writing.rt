@@ -1,4 +1,4 @@
-//! Entries, written as their bytes.
+//! Entries, written as their bytes in version 2; and the Turn.
 
 ghost use Rattle.std.specs.Prelude.{◌≡◌, ◌+◌, ◌*◌, ◌^◌, ◌<◌, ◌≤◌, ◌-◌, map, option_map, min, length};
 ghost use Rattle.std.specs.List.{flat_map, AllByRecursion};
@@ -6,10 +6,11 @@ ghost use Rattle.box_space.specs.Views.{shown_part, shown_proof, shown_split};
 ghost use Rattle.plan_core.specs.Views.{shown_plan};
 ghost use Rattle.box_tree.specs.Views.{shown_entry};
 ghost use Rattle.journal_format.specs.Fields.{field};
-ghost use Rattle.journal_format.specs.Payload.{part_bytes, proof_bytes, half_bytes, split_bytes, list_bytes, plan_bytes, payload, PartFits, ProofFits, HalfFits};
+ghost use Rattle.journal_format.specs.Payload.{part_bytes, proof_bytes, half_bytes, split_bytes, list_bytes, plan_bytes, payload, turn_payload, PartFits, ProofFits, HalfFits};
 ghost use Rattle.journal_format.specs.Payload.{SplitFits, ListFits, PlanFits, EntryFits, IsNarrow, IsNarrowPlan};
 ghost use Rattle.journal_format.specs.Files.{behind_gate};
 ghost use Rattle.journal_format.specs.Pages.{with_bytes};
+ghost use Rattle.journal_format.specs.declared.version.Version.TheVariants.{Two};
 
 use crate::fields::{i64_field, u16_field, u32_field, u64_field};
 use crate::page::Page;
@@ -19,17 +20,17 @@ use plan_core::WrittenPlan;
 
 // ---- lengths
 
-/// How many bytes an entry's payload has; `u64::MAX` where there are more.
+/// How many bytes an entry's payload has in version 2; `u64::MAX` where there are more.
 #[tactic(auto, using(crate::proofs::Lengths::sizes))]
 pub fn payload_len(entry: &Entry) -> u64
     // Promise: How long the payload of an entry is
-    ensures { result ≡ min (length (payload (shown_entry entry.now))) (2 ^ 64 - 1) }
+    ensures { result ≡ min (length (payload Two (shown_entry entry.now))) (2 ^ 64 - 1) }
 {
     match entry {
         Entry::Root(proof) => proof_len(proof).saturating_add(1),
         Entry::SplitOf(_, left, right) => half_len(left)
             .saturating_add(half_len(right))
-            .saturating_add(15),
+            .saturating_add(17),
         Entry::Improve(plan) => plan_len(plan).saturating_add(1),
     }
 }
@@ -116,12 +117,11 @@ fn put_half(page: &mut Page, half: &Option<Proof>)
 }
 
 fn put_split(page: &mut Page, split: &Split)
-    requires narrow { split.now.leaf < 2 ^ 16 }
-    requires room { length page.old.bytes + 14 ≤ page.old.room }
-    ensures bytes { page.new ≡ with_bytes page.old (split_bytes (shown_split split.now)) }
-    ensures fits { SplitFits (shown_split split.now) }
+    requires { length page.old.bytes + 16 ≤ page.old.room }
+    ensures bytes { page.new ≡ with_bytes page.old (split_bytes Two (shown_split split.now)) }
+    ensures fits { SplitFits Two (shown_split split.now) }
 {
-    page.put(&u16_field(split.leaf as u16));
+    page.put(&u32_field(split.leaf));
     page.put(&u32_field(split.coord));
     page.put(&i64_field(split.cut));
 }
@@ -186,10 +186,10 @@ fn put_plan(page: &mut Page, plan: &WrittenPlan)
 #[tactic(auto, using(crate::proofs::Lengths::sizes))]
 fn put_payload(page: &mut Page, entry: &Entry)
     requires narrow { IsNarrow (shown_entry entry.now) }
-    requires short { length (payload (shown_entry entry.now)) < 2 ^ 32 }
-    requires room { length page.old.bytes + length (payload (shown_entry entry.now)) ≤ page.old.room }
-    ensures bytes { page.new ≡ with_bytes page.old (payload (shown_entry entry.now)) }
-    ensures fits { EntryFits (shown_entry entry.now) }
+    requires short { length (payload Two (shown_entry entry.now)) < 2 ^ 32 }
+    requires room { length page.old.bytes + length (payload Two (shown_entry entry.now)) ≤ page.old.room }
+    ensures bytes { page.new ≡ with_bytes page.old (payload Two (shown_entry entry.now)) }
+    ensures fits { EntryFits Two (shown_entry entry.now) }
 {
     match entry {
         Entry::Root(proof) => {
@@ -197,7 +197,7 @@ fn put_payload(page: &mut Page, entry: &Entry)
             put_proof(page, proof);
         }
         Entry::SplitOf(split, left, right) => {
-            page.put(&[1]);
+            page.put(&[3]);
             put_split(page, split);
             put_half(page, left);
             put_half(page, right);
@@ -209,18 +209,26 @@ fn put_payload(page: &mut Page, entry: &Entry)
     }
 }
 
-/// Puts together what is written behind a gate: the length of the payload, the payload, and a closed gate. What the page held is
-/// taken out first.
+/// Puts together what is written behind a gate: the length of the payload in version 2, the payload, and a closed gate. What the page
+/// held is taken out first.
 #[tactic(auto, using(crate::proofs::Lengths::sizes))]
 pub fn put_behind_gate(page: &mut Page, size: u32, entry: &Entry)
-    requires size { size ≡ length (payload (shown_entry entry.now)) }
+    requires size { size ≡ length (payload Two (shown_entry entry.now)) }
     requires narrow { IsNarrow (shown_entry entry.now) }
     requires room { size + 5 ≤ page.old.room }
-    ensures bytes { page.new ≡ record { bytes = behind_gate (shown_entry entry.now); room = page.old.room } }
-    ensures fits { EntryFits (shown_entry entry.now) }
+    ensures bytes { page.new ≡ record { bytes = behind_gate (payload Two (shown_entry entry.now)); room = page.old.room } }
+    ensures fits { EntryFits Two (shown_entry entry.now) }
 {
     page.clear();
     page.put(&u32_field(size));
     put_payload(page, entry);
     page.put(&[0]);
+}
+
+/// What is written behind a gate where the Turn is recorded.
+#[tactic(auto, unfolding(crate::specs::Fields::field))]
+pub fn turn_behind_gate() -> [u8; 6]
+    ensures { result ≡ behind_gate turn_payload }
+{
+    [0, 0, 0, 1, 4, 0]
 }

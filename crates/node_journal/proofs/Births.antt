@@ -3,7 +3,10 @@ use Rattle.std.proofs.Common.{◌≡◌, ℕ, zero, suc, ◌+◌, ◌-◌, ◌�
 use Rattle.std.proofs.lemmas.List.{append-nil, drop_all, take_rest}
 use Rattle.disk_calls.specs.Disks.{written, Torn, Shortened}
 use Rattle.disk_calls.proofs.Calling.{torn_byte, torn-front, cut_front}
-use Rattle.journal_format.specs.Files.{header, newborn, records, IsShut, IsUnborn, IsZeroed, IsOwn, IsOwnFor}
+use Rattle.journal_format.specs.Histories.{born_in, history_bytes}
+use Rattle.journal_format.specs.Files.{header, newborn, IsShut, IsUnborn, IsZeroed, IsOwn, IsOwnFor}
+use Rattle.journal_format.specs.declared.version.Version.{Version}
+use Rattle.journal_format.specs.declared.version.Version.TheVariants.{Two}
 use Rattle.journal_format.proofs.OwnFiles.{blank-own, any_birth, born_not}
 
 -- ---- the first step
@@ -12,8 +15,8 @@ cons_first : (file : List ℕ) → 1 ≤ length file → file ≡ get_or file 0 
 cons_first [] le = absurd (omega arith)
 cons_first (b ∷ file) le = refl
 
-other_birth : (text : List ℕ) (birth other : ℕ) (rest file : List ℕ) → IsShut rest → file ≡ header birth text ++ rest → IsOwnFor text [] (other ∷ drop 1 file)
-other_birth text birth other rest file shut is = subst (λ (l : List ℕ). IsOwnFor text [] (other ∷ drop 1 l)) (sym is) (any_birth text other rest shut)
+other_birth : (v : Version) (text : List ℕ) (birth other : ℕ) (rest file : List ℕ) → IsShut rest → file ≡ header birth v text ++ rest → IsOwnFor text [] (other ∷ drop 1 file)
+other_birth v text birth other rest file shut is = subst (λ (l : List ℕ). IsOwnFor text [] (other ∷ drop 1 l)) (sym is) (any_birth v text other rest shut)
 
 short_any : (text : List ℕ) (other : ℕ) (file : List ℕ) → length file ≤ 1 → IsOwnFor text [] (other ∷ drop 1 file)
 short_any text other [] le = blank-own text (other ∷ []) (inl (omega arith))
@@ -31,8 +34,8 @@ torn_first text (b ∷ file) c unborn own marked torn =
     by : IsOwn text (b ∷ file) → IsOwnFor text [] ((torn_byte 0 (b ∷ file) c (omega arith) torn).0 ∷ file)
     by (inl short) = short_any text (torn_byte 0 (b ∷ file) c (omega arith) torn).0 (b ∷ file) short
     by (inr (inl none)) = short_any text (torn_byte 0 (b ∷ file) c (omega arith) torn).0 (b ∷ file) (marked none)
-    by (inr (inr (inl half))) = other_birth text half.0 (torn_byte 0 (b ∷ file) c (omega arith) torn).0 half.2 (b ∷ file) half.3 half.4
-    by (inr (inr (inr kept))) = absurd (born_not text (records kept.0 ++ kept.1.0) (b ∷ file) kept.1.2.parts unborn)
+    by (inr (inr (inl half))) = other_birth half.version text half.birth (torn_byte 0 (b ∷ file) c (omega arith) torn).0 half.rest (b ∷ file) half.shut half.parts
+    by (inr (inr (inr (list, kept)))) = absurd (born_not (born_in kept.history) text (history_bytes kept.history ++ kept.rest) (b ∷ file) kept.holds.parts unborn)
 
 -- byte 0 as it is written
 pub written_first : (file : List ℕ) → written file 0 (0 ∷ []) ≡ 0 ∷ drop 1 file
@@ -73,7 +76,7 @@ torn_birth text tail c is torn =
     let parts = torn_byte 0 (0 ∷ tail) c (omega arith) torn in
     let tail-is : tail ≡ drop 1 (newborn text) = ap (drop 1) is in
     let P : List ℕ → Type 0 = IsOwnFor text [] in
-    subst P (sym (parts.1 ∙ ap (λ (l : List ℕ). parts.0 ∷ l) tail-is)) (any_birth text parts.0 (0 ∷ []) (omega arith))
+    subst P (sym (parts.1 ∙ ap (λ (l : List ℕ). parts.0 ∷ l) tail-is)) (any_birth Two text parts.0 (0 ∷ []) (omega arith))
 
 -- byte 0 over it
 pub written_birth : (tail : List ℕ) → written (written (0 ∷ []) 1 tail) 0 (1 ∷ []) ≡ 1 ∷ tail

@@ -2,3 +2,4 @@ pub mod Runs
 pub mod Births
 pub mod Appends
 pub mod Openings
+pub mod Spelled

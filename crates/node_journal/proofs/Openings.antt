@@ -1,20 +1,26 @@
 -- What a file is when a journal has been opened on it.
-use Rattle.std.proofs.Common.{◌≡◌, ℕ, ◌-◌, ◌^◌, ◌<◌, ◌≤◌, ◌⊎◌, inl, inr, List, [], ◌∷◌, ◌++◌, length, take, drop, refl, sym, ap, subst, ◌∙◌}
+use Rattle.std.proofs.Common.{◌≡◌, ℕ, max, ◌-◌, ◌^◌, ◌<◌, ◌≤◌, ◌⊎◌, inl, inr, List, [], ◌∷◌, ◌++◌, length, map, take, drop, Option, None, refl, sym, ap, subst, ◌∙◌}
 use Rattle.std.proofs.Common.{append_assoc, arith, length-append, length-drop}
-use Rattle.std.specs.List.{AllByRecursion}
-use Rattle.std.proofs.lemmas.List.{take-append-drop, take_at, drop_at, take_all, append_cancel_left}
+use Rattle.std.proofs.lemmas.List.{append-nil, take-append-drop, take_at, drop_at, take_all}
 use Rattle.row_model.specs.Entries.{Entry}
 use Rattle.disk_calls.specs.Disks.{DiskTold, written}
 use Rattle.disk_calls.proofs.Calling.{written-behind}
 use Rattle.journal_format.specs.Fields.{field}
-use Rattle.journal_format.specs.Files.{header, newborn, records, IsRecordable, IsShut, IsClosed, IsUnborn, HoldsEntries, IsKept}
-use Rattle.journal_format.specs.Faults.{IsAllowed, IsFree, Has}
-use Rattle.journal_format.specs.Records.{IsKeptAt, IsHeaded, AreRecordsAt, IsBadBehind}
+use Rattle.journal_format.specs.Histories.{History, unturned, born_in, goes_on_in, history_bytes}
+use Rattle.journal_format.specs.Files.{header, text_bytes, newborn, IsRecordable, IsShut, IsClosed, IsUnborn, HoldsHistory, IsKept}
+use Rattle.journal_format.specs.Faults.{IsFree, Has}
+use Rattle.journal_format.specs.Records.{Place, IsKeptAt, IsHeaded, IsHistoryAt, IsBadBehind}
 use Rattle.node_journal.specs.Settled.{IsOnDisk}
 use Rattle.node_journal.specs.Journals.{IsOpenedAs}
+use Rattle.node_journal.specs.Found.{IsFoundFrom}
+use Rattle.node_journal.specs.declared.found.Found.{Found}
+use Rattle.box_tree.specs.Views.{shown_entry}
+use Rattle.journal_format.specs.declared.version.Version.{Version}
+use Rattle.journal_format.specs.declared.version.Version.TheVariants.{Two}
 use Rattle.journal_format.specs.declared.fault.JournalFault.{JournalFault}
 use Rattle.journal_format.proofs.Numbers.{length-field}
-use Rattle.journal_format.proofs.RecordLaws.{one_list}
+use Rattle.journal_format.proofs.Heads.{length-header}
+use Rattle.journal_format.proofs.HistoryLaws.{one_reading, ends-closed, each-recordable, history_at-least, bad_behind-least}
 use Rattle.journal_format.proofs.OwnFiles.{shut-closed}
 
 -- ---- the last gate
@@ -41,96 +47,129 @@ shut_written gate file is =
 
 -- ---- birth
 
-pub newborn_kept : (text whole : List ℕ) → whole ≡ newborn text → IsKeptAt (length whole - 1) text [] (newborn text)
-newborn_kept text whole is = record {
+pub newborn_kept : (text whole : List ℕ) (next : Place) → whole ≡ newborn text → next ≡ record { gate = length whole - 1; version = Two } → IsKeptAt next text [] (newborn text)
+newborn_kept text whole next is place = record {
+  history = unturned Two [];
+  entries = refl;
   rest = 0 ∷ [];
   shut = omega arith;
   holds = record { parts = refl; each = tt };
-  place = omega (arith, ap length is, length-append (header 1 text) (0 ∷ []));
+  place = ap (λ (p : Place). p.gate) place ∙ omega (arith, ap length is, length-append (header 1 Two text) (0 ∷ []), ap length (append-nil (header 1 Two text)));
+  version = ap (λ (p : Place). p.version) place;
 }
 
-pub born_opened : (text whole : List ℕ) (largest : ℕ) (file : List ℕ) (list : List Entry) (gate : ℕ) (d : DiskTold) → whole ≡ newborn text → IsUnborn file
-    → IsOnDisk (newborn text) d → list ≡ [] → gate ≡ length whole - 1 → IsOpenedAs text largest file list gate d
-born_opened text whole largest file list gate d is unborn on_disk none place = record {
-  stands = inl (unborn, none);
-  allowed = subst (AllByRecursion (IsAllowed largest)) (sym none) tt;
+pub born_opened : (text whole : List ℕ) (largest : ℕ) (file : List ℕ) (list : List Entry) (turn : Option ℕ) (next : Place) (d : DiskTold) → whole ≡ newborn text → IsUnborn file
+    → IsOnDisk (newborn text) d → list ≡ [] → turn ≡ None → next ≡ record { gate = length whole - 1; version = Two } → IsOpenedAs text largest file list turn next d
+born_opened text whole largest file list turn next d is unborn on_disk none unturned_yet place = record {
+  history = unturned Two [];
+  of_file = inl (unborn, refl);
+  entries = sym none;
+  turned = sym unturned_yet;
+  allowed = tt;
   now = newborn text;
   on_disk = on_disk;
-  kept = subst (λ (l : List Entry). IsKeptAt gate text l (newborn text)) (sym none) (subst (λ (n : ℕ). IsKeptAt n text [] (newborn text)) (sym place) (newborn_kept text whole is));
+  kept = subst (λ (l : List Entry). IsKeptAt next text l (newborn text)) (sym none) (newborn_kept text whole next is place);
 }
 
 -- ---- recovery
 
-all-recordable : (largest : ℕ) (list : List Entry) → AllByRecursion (IsAllowed largest) list → AllByRecursion IsRecordable list
-all-recordable largest [] all = tt
-all-recordable largest (e ∷ list) all = (all.0.recordable, all-recordable largest list all.1)
-
-module _ (text : List ℕ) (start largest : ℕ) (file : List ℕ) (headed : IsHeaded text start file) where
+module _ (v : Version) (text : List ℕ) (start largest : ℕ) (file : List ℕ) (headed : IsHeaded v text start file) where
   -- the header, the records and what is behind them
-  parts_of : (list : List Entry) (gate : ℕ) → AreRecordsAt largest start file list gate → file ≡ header 1 text ++ (records list ++ drop gate file)
-  parts_of list gate recs = headed.parts ∙ ap (λ (l : List ℕ). header 1 text ++ l) recs.parts
+  parts_of : (h : History) (gate : ℕ) → born_in h ≡ v → IsHistoryAt largest start file h gate → file ≡ header 1 (born_in h) text ++ (history_bytes h ++ drop gate file)
+  parts_of h gate born recs =
+      headed.parts ∙ ap (λ (l : List ℕ). header 1 v text ++ l) recs.parts ∙ ap (λ (w : Version). header 1 w text ++ (history_bytes h ++ drop gate file)) (sym born)
 
-  holds_of : (list : List Entry) (gate : ℕ) → AreRecordsAt largest start file list gate → HoldsEntries text list (drop gate file) file
-  holds_of list gate recs = record { parts = parts_of list gate recs; each = all-recordable largest list recs.allowed }
+  holds_of : (h : History) (gate : ℕ) → born_in h ≡ v → IsHistoryAt largest start file h gate → HoldsHistory text h (drop gate file) file
+  holds_of h gate born recs = record { parts = parts_of h gate born recs; each = each-recordable largest h recs.allowed }
 
-  pub recovered : (list : List Entry) (gate : ℕ) (now : List ℕ) (d : DiskTold) → AreRecordsAt largest start file list gate → IsClosed (drop gate file)
-      → IsOnDisk now d → take gate now ≡ take gate file → IsShut (drop gate now) → IsOpenedAs text largest file list gate d
-  recovered list gate now d recs closed on_disk same shut =
-      let long : length (header 1 text ++ records list) ≡ gate = omega (arith, length-append (header 1 text) (records list), recs.place, headed.place) in
-      let front : take gate file ≡ header 1 text ++ records list =
-      ap (take gate) (parts_of list gate recs ∙ sym (append_assoc (header 1 text) (records list) (drop gate file))) ∙ take_at (header 1 text ++ records list) (drop gate file) gate long in
+  place_of : (h : History) (gate : ℕ) → born_in h ≡ v → IsHistoryAt largest start file h gate → length (header 1 (born_in h) text ++ history_bytes h) ≡ gate
+  place_of h gate born recs =
+      omega (arith, length-append (header 1 (born_in h) text) (history_bytes h), recs.place, headed.place, length-header 1 (born_in h) text, length-header 1 v text)
+
+  pub recovered : (found : Found) (now : List ℕ) (next : Place) (d : DiskTold) → IsFoundFrom v largest start file found → IsClosed (drop found.spot.at file)
+      → IsOnDisk now d → take found.spot.at now ≡ take found.spot.at file → IsShut (drop found.spot.at now) → next ≡ record { gate = found.spot.at; version = found.spot.version }
+      → IsOpenedAs text largest file (map shown_entry found.entries.items) found.turn_at next d
+  recovered found now next d read closed on_disk same shut place =
+      let h = read.history in
+      let gate = found.spot.at in
+      let long = place_of h gate read.began read.records_at in
+      let front : take gate file ≡ header 1 (born_in h) text ++ history_bytes h =
+      ap (take gate) (parts_of h gate read.began read.records_at ∙ sym (append_assoc (header 1 (born_in h) text) (history_bytes h) (drop gate file)))
+      ∙ take_at (header 1 (born_in h) text ++ history_bytes h) (drop gate file) gate long in
       record {
-        stands = inr (drop gate file, closed, holds_of list gate recs);
-        allowed = recs.allowed;
+        history = h;
+        of_file = inr (drop gate file, closed, holds_of h gate read.began read.records_at);
+        entries = read.entries;
+        turned = read.turned;
+        allowed = read.records_at.allowed;
         now = now;
         on_disk = on_disk;
         kept = record {
+          history = h;
+          entries = read.entries;
           rest = drop gate now;
           shut = shut;
           holds = record {
-            parts = sym (take-append-drop gate now) ∙ ap (λ (l : List ℕ). l ++ drop gate now) (same ∙ front) ∙ append_assoc (header 1 text) (records list) (drop gate now);
-            each = all-recordable largest list recs.allowed;
+            parts = sym (take-append-drop gate now) ∙ ap (λ (l : List ℕ). l ++ drop gate now) (same ∙ front) ∙ append_assoc (header 1 (born_in h) text) (history_bytes h) (drop gate now);
+            each = each-recordable largest h read.records_at.allowed;
           };
-          place = omega (arith, recs.place, headed.place);
+          place = ap (λ (p : Place). p.gate) place ∙ sym long;
+          version = ap (λ (p : Place). p.version) place ∙ sym read.version;
         };
       }
 
   -- a bad record behind good ones
-  pub bad_has : (fault : JournalFault) → IsBadBehind largest start file fault → Has text largest file fault
+  bad_has : (fault : JournalFault) → IsBadBehind v largest start file fault → Has text largest file fault
   bad_has fault b = subst (Has text largest file) (sym b.is) (record {
-    list = b.list;
+    history = b.history;
     rest = drop b.after file;
-    holds = holds_of b.list b.after b.records_at;
+    holds = holds_of b.history b.after b.born b.records_at;
     allowed = b.records_at.allowed;
     count = refl;
     bad = b.bad;
   })
 
-  -- what a failed reading of records says of the file
-  pub refused_of : (fault : JournalFault) → IsFree fault ⊎ IsBadBehind largest start file fault → IsFree fault ⊎ Has text largest file fault
-  refused_of fault (inl free) = inl free
-  refused_of fault (inr bad) = inr (bad_has fault bad)
-
   -- where the file has its first closed gate, that is the one that is found
-  pub gate_there : (list m : List Entry) (gate : ℕ) → IsKept text list file → AreRecordsAt largest start file m gate → IsClosed (drop gate file) → gate < length file
-  gate_there list m gate kept recs closed =
-      let same = append_cancel_left (header 1 text) (records list ++ kept.0) (records m ++ drop gate file) (sym kept.2.parts ∙ parts_of m gate recs) in
-      let rest = one_list list m kept.0 (drop gate file) kept.2.each (all-recordable largest m recs.allowed) (shut-closed kept.0 kept.1) closed same in
-      let some = cons_shut (drop gate file) (subst IsShut rest.1 kept.1) in
+  pub gate_there : (list : List Entry) (found : Found) → IsKept text list file → IsFoundFrom v largest start file found → IsClosed (drop found.spot.at file) → found.spot.at < length file
+  gate_there list found kept read closed =
+      let h = read.history in
+      let gate = found.spot.at in
+      let rest = one_reading IsRecordable (λ w e good. good) text file kept.history h kept.rest (drop gate file) kept.holds.parts (parts_of h gate read.began read.records_at)
+      kept.holds.each (each-recordable largest h read.records_at.allowed) (ends-closed IsRecordable (goes_on_in kept.history) kept.rest (shut-closed kept.rest kept.shut))
+      (ends-closed IsRecordable (goes_on_in h) (drop gate file) closed) in
+      let some = cons_shut (drop gate file) (subst IsShut rest.1 kept.shut) in
       omega (arith, length-drop gate file)
+
+-- a journal whose largest payload is 0 holds what one of 1 does
+pub found-least : (v : Version) (largest start : ℕ) (file : List ℕ) (found : Found) → IsFoundFrom v (max largest 1) start file found → IsFoundFrom v largest start file found
+found-least v largest start file found is = record {
+  history = is.history;
+  began = is.began;
+  entries = is.entries;
+  turned = is.turned;
+  version = is.version;
+  count = is.count;
+  records_at = history_at-least largest start file is.history found.spot.at is.records_at;
+}
+
+pub refused-least : (v : Version) (text : List ℕ) (start largest : ℕ) (file : List ℕ) → IsHeaded v text start file → (fault : JournalFault)
+    → IsFree fault ⊎ IsBadBehind v (max largest 1) start file fault → IsFree fault ⊎ Has text largest file fault
+refused-least v text start largest file headed fault (inl free) = inl free
+refused-least v text start largest file headed fault (inr bad) = inr (bad_has v text start largest file headed fault (bad_behind-least v largest start file fault bad))
 
 -- ---- heads
 
--- what stands before the closed gate of a newborn file
-pub head_is : (text whole : List ℕ) → whole ≡ newborn text → take (length whole - 1) whole ≡ header 1 text
-head_is text whole is =
-    ap (take (length whole - 1)) is ∙ take_at (header 1 text) (0 ∷ []) (length whole - 1) (omega (arith, ap length is, length-append (header 1 text) (0 ∷ [])))
+-- what stands behind the version of a newborn file, before its closed gate
+pub tail_is : (text whole : List ℕ) → whole ≡ newborn text → take (length whole - 1 - 9) (drop 9 whole) ≡ text_bytes text
+tail_is text whole is =
+    ap (λ (l : List ℕ). take (length l - 1 - 9) (drop 9 l)) is
+    ∙ take_at (text_bytes text) (0 ∷ []) (length (newborn text) - 1 - 9) (omega (arith, length-append (text_bytes text) (0 ∷ [])))
 
 -- a born file, by what a newborn one begins with
-pub headed_is : (text whole file : List ℕ) → whole ≡ newborn text → file ≡ header 1 text ++ drop (length (header 1 text)) file → IsHeaded text (length (take (length whole - 1) whole)) file
-headed_is text whole file is parts =
-    let place : length (take (length whole - 1) whole) ≡ length (header 1 text) = ap length (head_is text whole is) in
-    record { place = place; parts = subst (λ (n : ℕ). file ≡ header 1 text ++ drop n file) (sym place) parts }
+pub headed_is : (v : Version) (text whole file : List ℕ) → whole ≡ newborn text → file ≡ header 1 v text ++ drop (length (header 1 v text)) file → IsHeaded v text (length whole - 1) file
+headed_is v text whole file is parts =
+    let place : length whole - 1 ≡ length (header 1 v text) = omega (arith, ap length is, length-append (header 1 Two text) (0 ∷ []), length-header 1 v text, length-header 1 Two text) in
+    record { place = place; parts = subst (λ (n : ℕ). file ≡ header 1 v text ++ drop n file) (sym place) parts }
 
 -- a fault that does not depend on the largest payload
 pub any_largest : (text file : List ℕ) (largest : ℕ) (fault : JournalFault) → IsFree fault ⊎ ((n : ℕ) → Has text n file fault) → IsFree fault ⊎ Has text largest file fault
@@ -138,4 +177,4 @@ any_largest text file largest fault (inl free) = inl free
 any_largest text file largest fault (inr has) = inr (has largest)
 
 pub newborn_short : (text : List ℕ) → length text ≤ 2 ^ 20 → length (newborn text) ≤ 2 ^ 21
-newborn_short text small = omega (arith, length-append (field 4 (length text) ++ text) (0 ∷ []), length-append (field 4 (length text)) text, length-field 4 (length text))
+newborn_short text small = omega (arith, length-append (text_bytes text) (0 ∷ []), length-append (field 4 (length text)) text, length-field 4 (length text))

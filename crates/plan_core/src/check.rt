@@ -50,11 +50,11 @@ fn check_shape(net: &Network, plan: &WrittenPlan) -> Result<(), PlanFault>
     ensures unshaped { IfErr result (λ _. ¬ IsShaped (net_of net.now) (shown_plan plan.now)) }
     ensures limited { IsLimited (net_of net.now) }
 {
-    let [_, _, _, _, feeds, outs, directs] = net.counts();
+    let counts = net.sizes();
     let bases = is_base(plan.base, MAX_BASE) && is_base(plan.flow_base, MAX_FLOW_BASE);
-    let lengths = plan.weights.len() == feeds as usize
-        && plan.outflows.len() == outs as usize
-        && plan.direct.len() == directs as usize;
+    let lengths = plan.weights.len() == counts.feeds as usize
+        && plan.outflows.len() == counts.outs as usize
+        && plan.direct.len() == counts.directs as usize;
     if bases && lengths {
         Ok(())
     } else {
@@ -74,9 +74,9 @@ fn check_weight_sums(net: &Network, plan: &WrittenPlan) -> Result<(), PlanFault>
     ensures keeps { IfOk result (λ _. Keeps (net_of net.now) (shown_plan plan.now) (λ l. PlanFault.WeightSum l)) }
     ensures first { IfErr result (IsFirstBroken (net_of net.now) (shown_plan plan.now) (λ l. PlanFault.WeightSum l)) }
 {
-    let [_, pools, _, _, _, _, _] = net.counts();
+    let counts = net.sizes();
     let sums = weight_sums(net, plan);
-    for pool in 0..pools {
+    for pool in 0..counts.pools {
         if sums[pool as usize] != u64::from(plan.base) {
             return Err(PlanFault::WeightSum(pool));
         }
@@ -94,9 +94,9 @@ fn check_sources(
     ensures keeps { IfOk result (λ _. Keeps (net_of net.now) (shown_plan plan.now) (λ i. PlanFault.SourceOver i)) }
     ensures first { IfErr result (IsFirstBroken (net_of net.now) (shown_plan plan.now) (λ i. PlanFault.SourceOver i)) }
 {
-    let [sources, _, _, _, _, _, _] = net.counts();
+    let counts = net.sizes();
     let denominator = plan.denominator();
-    for source in 0..sources {
+    for source in 0..counts.sources {
         if room(denominator, net.source_max(source)) < outflows[source as usize] {
             return Err(PlanFault::SourceOver(source));
         }
@@ -115,8 +115,8 @@ fn check_pools(
     ensures keeps { IfOk result (λ _. Keeps (net_of net.now) (shown_plan plan.now) (λ l. PlanFault.PoolOver l)) }
     ensures first { IfErr result (IsFirstBroken (net_of net.now) (shown_plan plan.now) (λ l. PlanFault.PoolOver l)) }
 {
-    let [_, pools, _, _, _, _, _] = net.counts();
-    for pool in 0..pools {
+    let counts = net.sizes();
+    for pool in 0..counts.pools {
         if room(u64::from(plan.flow_base), net.pool_max(pool)) < through[pool as usize] {
             return Err(PlanFault::PoolOver(pool));
         }
@@ -134,9 +134,9 @@ fn check_maxima(
     ensures keeps { IfOk result (λ _. Keeps (net_of net.now) (shown_plan plan.now) (λ j. PlanFault.ProductOver j)) }
     ensures first { IfErr result (IsFirstBroken (net_of net.now) (shown_plan plan.now) (λ j. PlanFault.ProductOver j)) }
 {
-    let [_, _, products, _, _, _, _] = net.counts();
+    let counts = net.sizes();
     let denominator = plan.denominator();
-    for product in 0..products {
+    for product in 0..counts.products {
         if room(denominator, net.product_max(product)) < inflows[product as usize] {
             return Err(PlanFault::ProductOver(product));
         }
@@ -154,9 +154,9 @@ fn check_minima(
     ensures keeps { IfOk result (λ _. Keeps (net_of net.now) (shown_plan plan.now) (λ j. PlanFault.ProductUnder j)) }
     ensures first { IfErr result (IsFirstBroken (net_of net.now) (shown_plan plan.now) (λ j. PlanFault.ProductUnder j)) }
 {
-    let [_, _, products, _, _, _, _] = net.counts();
+    let counts = net.sizes();
     let denominator = plan.denominator();
-    for product in 0..products {
+    for product in 0..counts.products {
         if inflows[product as usize] < room(denominator, net.product_min(product)) {
             return Err(PlanFault::ProductUnder(product));
         }
@@ -185,14 +185,14 @@ fn check_qualities(
     ensures keeps_least { IfOk result (λ _. KeepsEach (net_of net.now) (shown_plan plan.now) (λ j k. PlanFault.QualityUnder j k)) }
     ensures first { IfErr result (IsFirstQuality (net_of net.now) (shown_plan plan.now)) }
 {
-    let [_, _, products, _, _, _, _] = net.counts();
+    let counts = net.sizes();
     let sums = qualities(net, plan);
-    for product in 0..products {
+    for product in 0..counts.products {
         if let Some(quality) = first_above(net, product, inflows[product as usize], &sums) {
             return Err(PlanFault::QualityOver(product, quality));
         }
     }
-    for product in 0..products {
+    for product in 0..counts.products {
         if let Some(quality) = first_below(net, product, inflows[product as usize], &sums) {
             return Err(PlanFault::QualityUnder(product, quality));
         }
@@ -211,8 +211,8 @@ fn first_above(
     requires inflow { inflow ≤ 2 ^ 76 }
     ensures { IsFirstBelow (λ k. IsAbove ((net_of net.now).most product k) inflow (get_or (get_or sums.now k []) product (pos 0))) (net_of net.now).qualities result }
 {
-    let [_, _, _, qualities, _, _, _] = net.counts();
-    for quality in 0..qualities {
+    let counts = net.sizes();
+    for quality in 0..counts.qualities {
         if is_above(
             net.product_most(product, quality),
             inflow,
@@ -235,8 +235,8 @@ fn first_below(
     requires inflow { inflow ≤ 2 ^ 76 }
     ensures { IsFirstBelow (λ k. IsBelow ((net_of net.now).least product k) inflow (get_or (get_or sums.now k []) product (pos 0))) (net_of net.now).qualities result }
 {
-    let [_, _, _, qualities, _, _, _] = net.counts();
-    for quality in 0..qualities {
+    let counts = net.sizes();
+    for quality in 0..counts.qualities {
         if is_below(
             net.product_least(product, quality),
             inflow,

@@ -51,13 +51,10 @@ fn purchases(net: &Network, outflows: &[u128; MAX_SOURCES]) -> i128
     ensures value { result ≡ int_sum_below (λ i. (net_of net.now).source_cost i *ℤ pos (get_or outflows.now i 0)) (net_of net.now).sources }
     ensures size { unsigned_abs result ≤ 2 ^ 122 }
 {
-    let [sources, _, _, _, _, _, _] = net.counts();
+    let counts = net.sizes();
     let mut total = 0;
-    for source in 0..sources {
-        total += weighted(
-            i128::from(net.source_cost(source)),
-            outflows[source as usize],
-        );
+    for source in 0..counts.sources {
+        total += priced(net.source_cost(source), outflows[source as usize]);
     }
     total
 }
@@ -68,13 +65,20 @@ fn revenue(net: &Network, inflows: &[u128; MAX_PRODUCTS]) -> i128
     ensures value { result ≡ int_sum_below (λ j. (net_of net.now).price j *ℤ pos (get_or inflows.now j 0)) (net_of net.now).products }
     ensures size { unsigned_abs result ≤ 2 ^ 122 }
 {
-    let [_, _, products, _, _, _, _] = net.counts();
+    let counts = net.sizes();
     let mut total = 0;
-    for product in 0..products {
-        total += weighted(
-            i128::from(net.product_price(product)),
-            inflows[product as usize],
-        );
+    for product in 0..counts.products {
+        total += priced(net.product_price(product), inflows[product as usize]);
     }
     total
+}
+
+/// Money for each unit of a flow.
+fn priced(money: i64, flow: u128) -> i128
+    requires money { unsigned_abs money ≤ 10 ^ 12 }
+    requires flow { flow ≤ 2 ^ 82 }
+    ensures value { result ≡ money *ℤ pos flow }
+    ensures size { unsigned_abs result ≤ 10 ^ 12 * flow }
+{
+    weighted(i128::from(money), flow)
 }

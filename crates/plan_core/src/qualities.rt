@@ -19,9 +19,9 @@ pub(crate) fn qualities(net: &Network, plan: &WrittenPlan) -> [[i128; MAX_PRODUC
     requires room { HasRoom (net_of net.now) (shown_plan plan.now) }
     ensures { AreQualities (net_of net.now) (shown_plan plan.now) result }
 {
-    let [_, _, _, qualities, _, _, _] = net.counts();
+    let counts = net.sizes();
     let mut columns = [[0; MAX_PRODUCTS]; MAX_QUALITIES];
-    for quality in 0..qualities {
+    for quality in 0..counts.qualities {
         columns[quality as usize] = product_qualities(net, plan, quality);
     }
     columns
@@ -34,14 +34,14 @@ fn product_qualities(net: &Network, plan: &WrittenPlan, quality: u32) -> [i128; 
     requires room { HasRoom (net_of net.now) (shown_plan plan.now) }
     ensures { AreProductQualities (net_of net.now) (shown_plan plan.now) quality result }
 {
-    let [_, _, _, _, _, outs, directs] = net.counts();
+    let counts = net.sizes();
     let pools = pool_qualities(net, plan, quality);
     let mut sums = [0; MAX_PRODUCTS];
-    for out in 0..outs {
+    for out in 0..counts.outs {
         let (pool, product) = net.out(out);
         sums[product as usize] += weighted(pools[pool as usize], u128::from(plan.outflow(out)));
     }
-    for direct in 0..directs {
+    for direct in 0..counts.directs {
         let (source, product) = net.direct(direct);
         sums[product as usize] += weighted(
             i128::from(net.source_quality(source, quality)),
@@ -57,9 +57,9 @@ fn pool_qualities(net: &Network, plan: &WrittenPlan, quality: u32) -> [i128; MAX
     requires shaped { IsShaped (net_of net.now) (shown_plan plan.now) }
     ensures { ArePoolQualities (net_of net.now) (shown_plan plan.now) quality result }
 {
-    let [_, _, _, _, feeds, _, _] = net.counts();
+    let counts = net.sizes();
     let mut sums = [0; MAX_POOLS];
-    for feed in 0..feeds {
+    for feed in 0..counts.feeds {
         let (source, pool) = net.feed(feed);
         sums[pool as usize] += weighted(
             i128::from(net.source_quality(source, quality)),

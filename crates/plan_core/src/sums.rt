@@ -23,9 +23,9 @@ pub(crate) fn weight_sums(net: &Network, plan: &WrittenPlan) -> [u64; MAX_POOLS]
     requires { IsShaped (net_of net.now) (shown_plan plan.now) }
     ensures { AreWeightSums (net_of net.now) (shown_plan plan.now) result }
 {
-    let [_, _, _, _, feeds, _, _] = net.counts();
+    let counts = net.sizes();
     let mut sums = [0; MAX_POOLS];
-    for feed in 0..feeds {
+    for feed in 0..counts.feeds {
         let (_, pool) = net.feed(feed);
         sums[pool as usize] += u64::from(plan.weight(feed));
     }
@@ -38,9 +38,9 @@ pub(crate) fn pool_outflows(net: &Network, plan: &WrittenPlan) -> [u128; MAX_POO
     ensures flows { ArePoolOutflows (net_of net.now) (shown_plan plan.now) result }
     ensures size { (l : ℕ) → get_or result l 0 ≤ 2 ^ 72 }
 {
-    let [_, _, _, _, _, outs, _] = net.counts();
+    let counts = net.sizes();
     let mut flows = [0; MAX_POOLS];
-    for out in 0..outs {
+    for out in 0..counts.outs {
         let (pool, _) = net.out(out);
         flows[pool as usize] += u128::from(plan.outflow(out));
     }
@@ -58,13 +58,13 @@ pub(crate) fn source_outflows(
     requires size { (l : ℕ) → get_or pools.now l 0 ≤ 2 ^ 72 }
     ensures { AreSourceOutflows (net_of net.now) (shown_plan plan.now) result }
 {
-    let [_, _, _, _, feeds, _, directs] = net.counts();
+    let counts = net.sizes();
     let mut flows = [0; MAX_SOURCES];
-    for feed in 0..feeds {
+    for feed in 0..counts.feeds {
         let (source, pool) = net.feed(feed);
         flows[source as usize] += plan.whole_feed(feed, pools[pool as usize]);
     }
-    for direct in 0..directs {
+    for direct in 0..counts.directs {
         let (source, _) = net.direct(direct);
         flows[source as usize] += plan.whole_direct(direct);
     }
@@ -76,13 +76,13 @@ pub(crate) fn product_inflows(net: &Network, plan: &WrittenPlan) -> [u128; MAX_P
     requires { IsShaped (net_of net.now) (shown_plan plan.now) }
     ensures { AreProductInflows (net_of net.now) (shown_plan plan.now) result }
 {
-    let [_, _, _, _, _, outs, directs] = net.counts();
+    let counts = net.sizes();
     let mut flows = [0; MAX_PRODUCTS];
-    for out in 0..outs {
+    for out in 0..counts.outs {
         let (_, product) = net.out(out);
         flows[product as usize] += plan.whole_outflow(out);
     }
-    for direct in 0..directs {
+    for direct in 0..counts.directs {
         let (_, product) = net.direct(direct);
         flows[product as usize] += plan.whole_direct(direct);
     }

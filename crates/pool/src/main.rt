@@ -1,10 +1,10 @@
 //! The program: real files and streams round the top call.
 #![tactic(auto)]
 
-use disk_calls::FileDisk;
-use edge_io::StdSink;
+use disk_calls::{FileDisk, SystemFile};
+use edge_io::{StdSink, SystemStream};
 use pool_cli::{Status, run, write_message};
-use shelf_calls::FileShelf;
+use shelf_calls::{FileShelf, SystemFiles};
 use std::io::ErrorKind;
 use std::process::ExitCode;
 use std::rt::{Env, Files};
@@ -16,9 +16,9 @@ fn main(rt: HostRuntime) -> ExitCode {
     let _held = [hold(&rt), hold(&rt), hold(&rt)];
     let status = match words(&rt) {
         Ok(words) => {
-            let mut shelf = FileShelf::new(&rt);
-            let mut out = StdSink::new(rt.stdout());
-            let mut disk = FileDisk::new(&rt);
+            let mut shelf = FileShelf::new(SystemFiles::new(&rt));
+            let mut out = StdSink::new(SystemStream::new(rt.stdout()));
+            let mut disk = FileDisk::new(SystemFile::new(&rt));
             run(rt.alloc(), &words, &mut shelf, &mut out, &mut disk)
         }
         Err(status) => status,
@@ -30,7 +30,7 @@ fn main(rt: HostRuntime) -> ExitCode {
 /// Writes the message of a status; whatever standard error takes, the status stands. Its buffer would else lie on the stack throughout.
 #[inline(never)]
 fn tell<P: Print + Drop>(stream: P, status: &Status) {
-    let mut err = StdSink::new(stream);
+    let mut err = StdSink::new(SystemStream::new(stream));
     let _ = write_message(status, &mut err);
 }
 

@@ -1,5 +1,5 @@
 -- What is asked is one thing, and a run on it is what it was.
-use Rattle.std.proofs.Common.{◌≡◌, ℕ, List, Option, Some, sym, subst}
+use Rattle.std.proofs.Common.{◌≡◌, ◌⊎◌, ℕ, List, Option, Some, inl, inr, sym, subst, ◌∙◌}
 use Rattle.pool_model.specs.Network.{Network}
 use Rattle.box_space.specs.declared.coordinates.Form.{Form}
 use Rattle.cli_words.specs.Requests.{Asked, Solving, solve, check, report, formulate, make, trial}
@@ -27,6 +27,11 @@ module _ (asked other : Asked) (status end : Status) (same : asked ≡ other) (i
 
   pub journals_as : (Holds : Status → Solving → Type 0) → JournalsAs (Holds end) other → JournalsAs (Holds status) asked
   journals_as Holds h = subst (λ (x : Asked). JournalsAs (Holds status) x) (sym same) (subst (λ (x : Status). JournalsAs (Holds x) other) (sym is) h)
+
+-- the shelf failed, or its count of faults is as it was
+pub quiet_as : {status end : Status} {Same : Type 0} → status ≡ end → (end ≡ statuses.ReadFault) ⊎ Same → (status ≡ statuses.ReadFault) ⊎ Same
+quiet_as is (inl failed) = inl (is ∙ failed)
+quiet_as is (inr same) = inr same
 
 -- ---- what a run may be asked
 

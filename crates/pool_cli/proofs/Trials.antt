@@ -1,16 +1,16 @@
 -- How a trial goes.
-use Rattle.std.proofs.Common.{◌≡◌, ◌⊎◌, ℕ, ◌+◌, ◌*◌, inl, inr, Option, Some, None, ℤ, refl, sym, ap, subst}
+use Rattle.std.proofs.Common.{◌≡◌, ◌⊎◌, ℕ, ◌+◌, ◌*◌, inl, inr, Option, Some, None, ℤ, refl, sym, ap, subst, ◌∙◌}
 use Rattle.integers.proofs.Tabulate.{get_or-tabulate}
 use Rattle.pool_model.specs.Network.{Net, no_product, net_of}
 use Rattle.pool_model.specs.Plan.{Written, plan_of}
 use Rattle.pool_model.specs.Starting.{HasNoMinima, zero_plan}
-use Rattle.pool_model.specs.Claim.{Claimed, with_gap, with_bound, no_plan, Follows}
+use Rattle.pool_model.specs.Claim.{Claimed, with_gap, Follows}
 use Rattle.pool_model.proofs.Starts.{zero-obeys}
 use Rattle.row_model.specs.Trees.{tree_bound}
 use Rattle.cert_format.specs.Cert.{Cert}
-use Rattle.cert_checker.specs.Answers.{verdict_of}
-use Rattle.cert_checker.specs.declared.verdict.Verdict.{Verdict}
-use Rattle.cert_checker.specs.declared.verdict.Verdict.TheVariants as verdicts
+use Rattle.cert_format.specs.Views.{shown_claim}
+use Rattle.cert_writing.specs.declared.certificate.Claim.{Claim}
+use Rattle.cert_writing.specs.declared.certificate.Claim.TheVariants as claims
 use Rattle.tree_certificate.specs.Certificates.{claim_of}
 use Rattle.drawn_numbers.specs.Draws.{state_after}
 use Rattle.network_maker.specs.Generated.{generated, drawn_product}
@@ -43,16 +43,13 @@ solution-planned n o status c m s =
     let is = ap (λ (x : Cert). x.claim) s.is in
     subst HasPlanned (sym is) (planned_by n s.found.best (tree_bound n s.found.tree) m s.search.starts (subst (Follows n) is s.follows))
 
--- the verdict of a claim with a plan has its numbers
-pub planned-gap : (claim : Claimed) (v : Verdict) → HasPlanned claim → v ≡ verdict_of claim → ((bound : ℤ) × (v ≡ verdicts.BoundOnly bound)) ⊎ (v ≡ verdicts.NoPlan) → ⊥
-planned-gap (with_gap plan cost base bound gap) v planned is (inl (z, e)) = cc
-planned-gap (with_gap plan cost base bound gap) v planned is (inr e) = cc
-planned-gap (with_bound bound) v planned is other = planned
-planned-gap no_plan v planned is other = planned
+-- what is claimed, of a claim with a plan, is a gap
+pub planned-gap : (claim : Claimed) (read : Claim) → HasPlanned claim → shown_claim read ≡ claim → ((bound : ℤ) × (read ≡ claims.Bound bound)) ⊎ (read ≡ claims.NoPlan) → ⊥
+planned-gap claim read planned is (inl (z, e)) = subst HasPlanned (sym is ∙ ap shown_claim e) planned
+planned-gap claim read planned is (inr e) = subst HasPlanned (sym is ∙ ap shown_claim e) planned
 
-pub told-of : (status : Status) (claim : Claimed) (v : Verdict) (cost bound gap : ℤ) (base code : ℕ) → HasPlanned claim → v ≡ verdict_of claim →
-    v ≡ verdicts.Gap cost base bound gap → code ≡ code_of status
+pub told-of : (status : Status) (claim : Claimed) (plan : Written) (cost bound gap : ℤ) (base code : ℕ) → with_gap plan cost base bound gap ≡ claim → code ≡ code_of status
     → IsToldOf status claim (record { status = code; cost = cost; base = base; bound = bound; gap = gap })
-told-of status (with_gap plan a b z d) v cost bound gap base code planned is e told = cc
-told-of status (with_bound z) v cost bound gap base code planned is e told = absurd planned
-told-of status no_plan v cost bound gap base code planned is e told = absurd planned
+told-of status claim plan cost bound gap base code is told =
+    subst (λ c. IsToldOf status c (record { status = code; cost = cost; base = base; bound = bound; gap = gap })) is
+    (ap (λ k. record { status = k; cost = cost; base = base; bound = bound; gap = gap }) told)

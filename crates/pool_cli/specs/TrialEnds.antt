@@ -5,7 +5,7 @@ use Rattle.pool_model.specs.Claim.{Claimed, with_gap}
 use Rattle.box_space.specs.declared.coordinates.Form.TheVariants.{Pq}
 use Rattle.cert_format.specs.Cert.{Cert}
 use Rattle.cert_format.specs.Text.{text_of}
-use Rattle.cert_checker.specs.Answers.{IsAccepted, verdict_of}
+use Rattle.cert_checker.specs.Answers.{IsAccepted}
 use Rattle.branching.specs.declared.name.RuleName.TheVariants.{Widest}
 use Rattle.network_maker.specs.Generated.{generated}
 use Rattle.search_run.specs.declared.orders.Orders.{Orders}
@@ -39,7 +39,7 @@ pub record IsTrialOf (n : Net) (trial : Trial) : Type 0 where
   pub status : Status
   pub certificate : Cert
   pub solution : IsSolution n trial_orders status certificate
-  pub accepted : IsAccepted n (text_of certificate) (verdict_of certificate.claim)
+  pub accepted : IsAccepted n (text_of certificate) certificate.claim
   pub told : IsToldOf status certificate.claim trial
 
 -- the four lines of a trial of the network

@@ -79,6 +79,9 @@ pub fn run<S: Shelf, K: Sink, D: Disk>(
     ensures decided { (told : Files) (asked : Asked) → (S.told shelf.old).files ≡ Some told → Asks (map string_bytes words.now) asked → DecidedAs told asked result }
     // Promise: Status 20 comes only where the shelf's count of faults rose
     ensures read_fault { result ≡ Status.ReadFault → Rose (S.told shelf.old).faults (S.told shelf.new).faults }
+    // Promise: Under every status but 20 the count of faults of the shelf is as it was: a call of the shelf that failed is never told as want of
+    //   memory (23) or as anything else
+    ensures quiet { (result ≡ Status.ReadFault) ⊎ ((S.told shelf.new).faults ≡ (S.told shelf.old).faults) }
     // Promise: Status 21 comes only where the sink's count of faults rose
     ensures write_fault { result ≡ Status.WriteFault → Rose (K.faults out.old) (K.faults out.new) }
     // Promise: Status 22 comes only where the disk's count of faults rose
@@ -121,6 +124,7 @@ fn answer<S: Shelf, K: Sink, D: Disk>(
     ensures took { Took (AnswersAs (S.told shelf.old).files (shown_request request)) result (K.taken out.old) (K.taken out.new) }
     ensures ends { EndsAs (S.told shelf.old).files (S.told shelf.old).taken (S.told shelf.new).taken (shown_request request) result }
     ensures read_fault { result ≡ Status.ReadFault → Rose (S.told shelf.old).faults (S.told shelf.new).faults }
+    ensures quiet { (result ≡ Status.ReadFault) ⊎ ((S.told shelf.new).faults ≡ (S.told shelf.old).faults) }
     ensures write_fault { result ≡ Status.WriteFault → Rose (K.faults out.old) (K.faults out.new) }
     ensures disk_fault { result ≡ Status.DiskFault → Rose (D.told disk.old).faults (D.told disk.new).faults }
     ensures journal { IsTrue (D.told disk.old).tells → JournalsAs (λ s. Journaled (S.told shelf.old).files s (D.told disk.old) (D.told disk.new) result (λ c. K.taken out.new ≡ behind (K.taken out.old) (text_of c))) (shown_request request) }

@@ -1,6 +1,6 @@
 //! The command `formulate`.
 
-ghost use Rattle.std.specs.Prelude.{◌≡◌, ◌≢◌, ℕ, List, Option, IsTrue};
+ghost use Rattle.std.specs.Prelude.{◌≡◌, ◌≢◌, ◌⊎◌, ℕ, List, Option, IsTrue};
 ghost use Rattle.edge_io.specs.Counts.{Rose};
 ghost use Rattle.pool_cli.specs.FormulateEnds.{FormulateEnds, FormulatesAs, formulate_status};
 ghost use Rattle.run_status.specs.Reads.{Files, ReadsUnder};
@@ -53,6 +53,7 @@ pub(crate) fn formulate<S: Shelf, K: Sink>(
     ensures took { Took (FormulatesAs (S.told shelf.old).files name.now form) (formulate_status result) (K.taken out.old) (K.taken out.new) }
     ensures ends { FormulateEnds (S.told shelf.old).files name.now (S.told shelf.old).taken (S.told shelf.new).taken (formulate_status result) }
     ensures read_fault { formulate_status result ≡ Status.ReadFault → Rose (S.told shelf.old).faults (S.told shelf.new).faults }
+    ensures quiet { (formulate_status result ≡ Status.ReadFault) ⊎ ((S.told shelf.new).faults ≡ (S.told shelf.old).faults) }
     ensures write_fault { formulate_status result ≡ Status.WriteFault → Rose (K.faults out.old) (K.faults out.new) }
 {
     match network_under(alloc, name, shelf) {

@@ -5,10 +5,10 @@ ghost use Rattle.edge_io.specs.Counts.{Rose};
 ghost use Rattle.pool_model.specs.Network.{net_of};
 ghost use Rattle.pool_model.specs.Starting.{HasNoMinima};
 ghost use Rattle.cert_format.specs.Cert.{IsCert};
-ghost use Rattle.cert_format.specs.Views.{shown_cert};
+ghost use Rattle.cert_format.specs.Views.{shown_cert, shown_claim};
 ghost use Rattle.cert_format.specs.Text.{text_of};
 ghost use Rattle.cert_format.specs.Valid.{IsValid};
-ghost use Rattle.cert_checker.specs.Answers.{IsAccepted, verdict_of};
+ghost use Rattle.cert_checker.specs.Answers.{IsAccepted};
 ghost use Rattle.search_core.specs.Searches.{IsAsked};
 ghost use Rattle.search_run.specs.Orders.{options_of};
 ghost use Rattle.pool_cli.specs.TrialEnds as ends;
@@ -18,8 +18,8 @@ ghost use Rattle.run_status.specs.Took.{Took};
 use blend_network::Network;
 use box_space::Form;
 use branching::RuleName;
-use cert_checker::{Verdict, check};
-use cert_format::{Certificate, write_cert};
+use cert_checker::check;
+use cert_format::{Certificate, Claim, write_cert};
 use edge_io::{MemSink, Memory, Sink};
 use network_maker::make_network;
 use printed_lines::{Trial, write_trial};
@@ -85,12 +85,13 @@ fn trial_of(alloc: Global, network: &Network) -> Result<Trial, Memory>
     ensures tried { IfOk result (IsTrialOf (net_of network.now)) }
 {
     let solution = solution_of(alloc, network, orders())?;
-    match verdict_on(alloc, network, &solution.certificate)? {
-        Verdict::Gap {
+    match accepted_claim(alloc, network, &solution.certificate)? {
+        Claim::Gap {
             cost,
             base,
             bound,
             gap,
+            ..
         } => Ok(Trial {
             status: ended_status(solution.ended).code(),
             cost,
@@ -99,25 +100,25 @@ fn trial_of(alloc: Global, network: &Network) -> Result<Trial, Memory>
             gap,
         }),
         // Where nothing must be taken, the plan without any flow obeys.
-        Verdict::BoundOnly { .. } | Verdict::NoPlan => unreachable!(),
+        Claim::Bound { .. } | Claim::NoPlan => unreachable!(),
     }
 }
 
-/// The verdict on the text of a valid certificate.
-fn verdict_on(
+/// What the text of a valid certificate claims, by the check.
+fn accepted_claim(
     alloc: Global,
     network: &Network,
     certificate: &Certificate,
-) -> Result<Verdict, Memory>
+) -> Result<Claim, Memory>
     requires held { IsCert (shown_cert certificate.now) }
     requires valid { IsValid (net_of network.now) (shown_cert certificate.now) }
-    ensures accepted { IfOk result (IsAccepted (net_of network.now) (text_of (shown_cert certificate.now))) }
-    ensures numbers { IfOk result (λ v. v ≡ verdict_of (shown_cert certificate.now).claim) }
+    ensures accepted { IfOk result (λ c. IsAccepted (net_of network.now) (text_of (shown_cert certificate.now)) (shown_claim c)) }
+    ensures numbers { IfOk result (λ c. shown_claim c ≡ (shown_cert certificate.now).claim) }
 {
     let mut text = MemSink::new(alloc, Vec::new(alloc));
     match write_cert(certificate, &mut text) {
         Ok(()) => match check(alloc, network, text.taken()) {
-            Ok(verdict) => Ok(verdict),
+            Ok(claim) => Ok(claim),
             // A valid certificate is refused for want of memory alone.
             Err(_) => Err(Memory),
         },

@@ -6,7 +6,7 @@ ghost use Rattle.edge_io.specs.Writing.{Wrote};
 ghost use Rattle.pool_model.specs.Network.{net_of};
 ghost use Rattle.pool_model.specs.Plan.{IsWritten, Obeys, plan_of};
 ghost use Rattle.plan_core.specs.Views.{shown_plan};
-ghost use Rattle.cert_format.specs.Views.{shown_claim, shown_cert};
+ghost use Rattle.cert_format.specs.Views.{shown_claim};
 ghost use Rattle.pool_report.specs.Report.{IsReported, plan_lines, report_text};
 
 use crate::claims::{write_bound, write_gap};
@@ -14,7 +14,7 @@ use crate::flows::write_flows;
 use crate::means::write_means;
 use crate::slacks::write_slacks;
 use blend_network::Network;
-use cert_format::{Certificate, Claim};
+use cert_format::Claim;
 use edge_io::{Sink, WriteFault, write_whole};
 use plan_core::WrittenPlan;
 use text_buffer::TextBuffer;
@@ -23,17 +23,17 @@ use text_buffer::TextBuffer;
 ///
 /// `WriteFault` comes only where the sink's count of faults rose; the sink has taken a front of the text then. For each arc it goes once over the
 /// arcs, and for each product and quality once over the arcs for each arc.
-pub fn report<K: Sink>(net: &Network, cert: &Certificate, out: &mut K) -> Result<(), WriteFault>
-    requires { IsReported (net_of net.now) (shown_cert cert.now).claim }
+pub fn report<K: Sink>(net: &Network, claim: &Claim, out: &mut K) -> Result<(), WriteFault>
+    requires { IsReported (net_of net.now) (shown_claim claim.now) }
     // Promise: A report is the text of the definition, rounded as it says, or a front of it where the sink fails
-    ensures wrote { Wrote result (K.taken out.old) (report_text net.now (shown_cert cert.now).claim) (K.taken out.new) }
+    ensures wrote { Wrote result (K.taken out.old) (report_text net.now (shown_claim claim.now)) (K.taken out.new) }
     ensures failed { OnErr result (Rose (K.faults out.old) (K.faults out.new)) }
     ensures faults_grow { Grows (K.faults out.old) (K.faults out.new) }
 {
     let mut text = TextBuffer::new();
-    match put_report(net, &cert.claim, &mut text) {
+    match put_report(net, claim, &mut text) {
         Ok(()) => write_whole(out, text.text()),
-        Err(_) => put_report(net, &cert.claim, out),
+        Err(_) => put_report(net, claim, out),
     }
 }
 

@@ -5,8 +5,7 @@ use Rattle.plan_core.specs.Faults as plans
 use Rattle.row_book.specs.Faults as proofs
 use Rattle.proof_lines.specs.declared.refusal.Refusal.{Refusal}
 use Rattle.proof_lines.specs.declared.refusal.Refusal.TheVariants as refusals
-use Rattle.cert_checker.specs.declared.verdict.Verdict.{Verdict}
-use Rattle.cert_checker.specs.declared.verdict.Verdict.TheVariants as verdicts
+use Rattle.pool_model.specs.Claim.{Claimed, with_gap, with_bound, no_plan}
 
 -- a number behind a word
 abbrev pub labelled : List ℕ → ℤ → List ℕ
@@ -16,12 +15,16 @@ labelled word n = word ++ signed_decimal n
 abbrev pub numbered : List ℕ → ℤ → List ℕ
 numbered word n = labelled word n ++ codes "\n"
 
--- the line of an accepted certificate
-abbrev pub accepted_line : Verdict → List ℕ
-accepted_line (verdicts.Gap cost base bound gap) =
+-- the line of a cost over a base, a bound, and their gap over that base
+abbrev pub gap_line : (cost : ℤ) (base : ℕ) (bound gap : ℤ) → List ℕ
+gap_line cost base bound gap =
     labelled (codes "accepted gap cost ") cost ++ (labelled (codes " base ") (pos base) ++ (labelled (codes " bound ") bound ++ numbered (codes " gap ") gap))
-accepted_line (verdicts.BoundOnly bound) = numbered (codes "accepted bound ") bound
-accepted_line verdicts.NoPlan = codes "accepted none\n"
+
+-- the line of an accepted certificate, with the numbers that it claims
+abbrev pub accepted_line : Claimed → List ℕ
+accepted_line (with_gap plan cost base bound gap) = gap_line cost base bound gap
+accepted_line (with_bound bound) = numbered (codes "accepted bound ") bound
+accepted_line no_plan = codes "accepted none\n"
 
 -- The line of a refused certificate. Want of memory is no refusal, and has none.
 abbrev pub refused_line : Refusal → List ℕ

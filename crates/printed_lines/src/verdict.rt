@@ -4,42 +4,44 @@ ghost use Rattle.std.specs.Prelude.{◌≡◌, ◌++◌, codes, pos, OnErr};
 ghost use Rattle.edge_io.specs.Counts.{Grows, Rose};
 ghost use Rattle.edge_io.specs.Writing.{Wrote};
 ghost use Rattle.row_book.specs.Faults as proofs;
-ghost use Rattle.cert_checker.specs.declared.verdict.Verdict.TheVariants as verdicts;
-ghost use Rattle.printed_lines.specs.Verdicts.{accepted_line, labelled, numbered, refused_line};
+ghost use Rattle.cert_format.specs.Views.{shown_claim};
+ghost use Rattle.printed_lines.specs.Verdicts.{accepted_line, gap_line, labelled, numbered, refused_line};
 
-use cert_checker::{Refusal, Verdict};
+use cert_checker::Refusal;
+use cert_format::Claim;
 use edge_io::{Sink, WriteFault, write_number, write_whole};
 use row_book::ProofFault;
 use text_buffer::TextBuffer;
 
 /// Writes the line of an accepted certificate, as one piece. It takes no memory.
-pub fn write_verdict<K: Sink>(verdict: &Verdict, out: &mut K) -> Result<(), WriteFault>
-    ensures wrote { Wrote result (K.taken out.old) (accepted_line verdict.now) (K.taken out.new) }
+pub fn write_accepted<K: Sink>(claim: &Claim, out: &mut K) -> Result<(), WriteFault>
+    ensures wrote { Wrote result (K.taken out.old) (accepted_line (shown_claim claim.now)) (K.taken out.new) }
     ensures failed { OnErr result (Rose (K.faults out.old) (K.faults out.new)) }
     ensures faults_grow { Grows (K.faults out.old) (K.faults out.new) }
 {
     let mut line = TextBuffer::new();
-    match put_verdict(verdict, &mut line) {
+    match put_accepted(claim, &mut line) {
         Ok(()) => write_whole(out, line.text()),
-        Err(_) => put_verdict(verdict, out),
+        Err(_) => put_accepted(claim, out),
     }
 }
 
 /// Writes the line of an accepted certificate, word by word.
-fn put_verdict<K: Sink>(verdict: &Verdict, out: &mut K) -> Result<(), WriteFault>
-    ensures wrote { Wrote result (K.taken out.old) (accepted_line verdict.now) (K.taken out.new) }
+fn put_accepted<K: Sink>(claim: &Claim, out: &mut K) -> Result<(), WriteFault>
+    ensures wrote { Wrote result (K.taken out.old) (accepted_line (shown_claim claim.now)) (K.taken out.new) }
     ensures failed { OnErr result (Rose (K.faults out.old) (K.faults out.new)) }
     ensures faults_grow { Grows (K.faults out.old) (K.faults out.new) }
 {
-    match verdict {
-        Verdict::Gap {
+    match claim {
+        Claim::Gap {
             cost,
             base,
             bound,
             gap,
+            ..
         } => write_gap(*cost, *base, *bound, *gap, out),
-        Verdict::BoundOnly { bound } => write_numbered(b"accepted bound ", *bound, out),
-        Verdict::NoPlan => write_whole(out, b"accepted none\n"),
+        Claim::Bound { bound } => write_numbered(b"accepted bound ", *bound, out),
+        Claim::NoPlan => write_whole(out, b"accepted none\n"),
     }
 }
 
@@ -51,7 +53,7 @@ fn write_gap<K: Sink>(
     gap: i128,
     out: &mut K,
 ) -> Result<(), WriteFault>
-    ensures wrote { Wrote result (K.taken out.old) (accepted_line (verdicts.Gap cost base bound gap)) (K.taken out.new) }
+    ensures wrote { Wrote result (K.taken out.old) (gap_line cost base bound gap) (K.taken out.new) }
     ensures failed { OnErr result (Rose (K.faults out.old) (K.faults out.new)) }
     ensures faults_grow { Grows (K.faults out.old) (K.faults out.new) }
 {

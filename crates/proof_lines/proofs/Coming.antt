@@ -1,5 +1,5 @@
 -- The item that comes is one that the text may go on with.
-use Rattle.std.proofs.Common.{◌≡◌, ◌≢◌, ℕ, ◌-◌, Bool, true, false, cond, eqb, ◌^◌, [], ◌∷◌, ◌++◌, Result, Ok, Err, IsTrue, refl, sym, ap, subst}
+use Rattle.std.proofs.Common.{◌≡◌, ◌≢◌, ◌⊎◌, ℕ, ◌-◌, inl, Bool, true, false, cond, eqb, ◌^◌, [], ◌∷◌, ◌++◌, Result, Ok, Err, IsTrue, refl, sym, ap, subst}
 use Rattle.std.specs.Prelude.{codes}
 use Rattle.std.specs.Prelude.{IfOk, OnOk}
 use Rattle.edge_io.specs.Counts.{Rose, RoseBy}
@@ -24,7 +24,7 @@ use Rattle.cert_stream.specs.Items.{claim_step_at, next_at}
 use Rattle.cert_stream.specs.Streams.{at_of, GivesItem, GivesFault, IsMore, TookMore}
 use Rattle.proof_lines.specs.Runs.{Moment, Run}
 use Rattle.proof_lines.specs.Grammar.{kind_of, outflows_left, weights_left, MayCome, behind_item, Came}
-use Rattle.cert_stream.proofs.Calls.{ran-one}
+use Rattle.cert_stream.proofs.Calls.{ran-one, told-quiet, fault-quiet}
 use Rattle.proof_lines.proofs.Running.{fault-later}
 
 -- the kind of a number
@@ -158,10 +158,10 @@ next-fits states.Ended a b i t going e = absurd (going refl)
 
 -- what a call gave, as the item that came
 pub item-came : (m k : Moment) (item : Item) → m.reader.state ≢ states.Ended → Keeps m.shelf k.shelf → GivesItem m.reader m.shelf.rest k.reader k.shelf.rest item
-    → RoseBy (m.reader.left - k.reader.left) m.shelf.taken k.shelf.taken → Came m k (Ok item)
-item-came m k item going kept gives counted =
+    → RoseBy (m.reader.left - k.reader.left) m.shelf.taken k.shelf.taken → k.shelf.faults ≡ m.shelf.faults → Came m k (Ok item)
+item-came m k item going kept gives counted quiet =
     let f = next-fits m.reader.state (at_of m.reader (gives.took.taken ++ [])) (at_of k.reader []) (shown_item item) k.reader.state going (gives.reads [] (λ e. refl)) in (
-      record { kept = kept; ran = ran-one item going gives; counted = counted },
+      record { kept = kept; ran = ran-one item going gives; counted = counted; quiet = quiet },
       f.0,
       record { at = f.1; used_up = gives.took.used_up },
       gives.whole,
@@ -171,11 +171,12 @@ item-came m k item going kept gives counted =
 pub call-came : (m k : Moment) (result : Result Item ItemFault) → m.reader.state ≢ states.Ended → (IsTrue m.reader.ended → IsUsedUp m.shelf.rest) → Keeps m.shelf k.shelf
     → IfOk result (GivesItem m.reader m.shelf.rest k.reader k.shelf.rest) → OnOk result (RoseBy (m.reader.left - k.reader.left) m.shelf.taken k.shelf.taken)
     → ((f : TextFault) → result ≡ Err (faults.Text f) → GivesFault m.reader m.shelf.rest k.reader k.shelf.rest f) → (result ≡ Err faults.TooLong → IsMore m.reader.left m.shelf.rest)
-    → (result ≡ Err faults.TooLong → TookMore m.reader.left m.shelf.taken k.shelf.taken) → (result ≡ Err faults.Read → Rose m.shelf.faults k.shelf.faults) → Came m k result
-call-came m k (Ok item) going used kept gives counted text long more read = item-came m k item going kept gives counted
-call-came m k (Err faults.Read) going used kept gives counted text long more read = record { kept = kept; why = read refl }
-call-came m k (Err faults.TooLong) going used kept gives counted text long more read = record { kept = kept; why = (long refl, more refl) }
-call-came m k (Err (faults.Text f)) going used kept gives counted text long more read = record { kept = kept; why = fault-later m k f used (text f refl) }
+    → (result ≡ Err faults.TooLong → TookMore m.reader.left m.shelf.taken k.shelf.taken) → (result ≡ Err faults.Read → Rose m.shelf.faults k.shelf.faults)
+    → (result ≡ Err faults.Read) ⊎ (k.shelf.faults ≡ m.shelf.faults) → Came m k result
+call-came m k (Ok item) going used kept gives counted text long more read quiet = item-came m k item going kept gives counted (told-quiet quiet)
+call-came m k (Err faults.Read) going used kept gives counted text long more read quiet = record { kept = kept; why = read refl; quiet = inl refl }
+call-came m k (Err faults.TooLong) going used kept gives counted text long more read quiet = record { kept = kept; why = (long refl, more refl); quiet = fault-quiet quiet }
+call-came m k (Err (faults.Text f)) going used kept gives counted text long more read quiet = record { kept = kept; why = fault-later m k f used (text f refl); quiet = fault-quiet quiet }
 
 begin-known : (a b : At) (i : ℕ) (t : State) → next_at states.Begin a ≡ Ok ((kind i, t), b) → kind_number (kind_of i) ≡ i
 unfolding next_at begin_at

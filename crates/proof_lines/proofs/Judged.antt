@@ -1,6 +1,6 @@
 -- Lines that are read and judged one after another.
 use Rattle.std.proofs.Common.{◌≡◌, ℕ, suc, ◌+◌, ◌-◌, ◌<◌, ◌≤◌, List, [], ◌∷◌, ◌++◌, length, get_or, Option, ℤ, Vec, Global, Result, Ok, Err, length-append}
-use Rattle.std.proofs.Common.{append_assoc, refl, sym, ap, subst, ◌∙◌, arith}
+use Rattle.std.proofs.Common.{append_assoc, inr, refl, sym, ap, subst, ◌∙◌, arith}
 use Rattle.std.specs.Prelude.{map}
 use Rattle.std.specs.List.{flat_map}
 use Rattle.std.proofs.lemmas.List.{append-nil}
@@ -52,6 +52,7 @@ unproved : (n : Net) (list : List Split) (kind : Kind) (m q : Moment) (count : �
     → ArePlaced list lines → IsProofRefusal n (tree_with list lines) r → Halts (IsWrongLineList n list count) m q (of_refusal r)
 unproved n list kind m q count (ProofOf node fault) lines run ready long placed is = record {
   kept = run.kept;
+  quiet = inr run.quiet;
   cause = record {
     items = flat_map proof_items lines;
     run = run;
@@ -60,7 +61,7 @@ unproved n list kind m q count (ProofOf node fault) lines run ready long placed 
     found = record { lines = lines; items_are = refl; long = long; placed = placed; wrong = is };
   };
 }
-unproved n list kind m q count NoMemory lines run ready long placed is = record { kept = run.kept; cause = tt }
+unproved n list kind m q count NoMemory lines run ready long placed is = record { kept = run.kept; cause = tt; quiet = inr run.quiet }
 unproved n list kind m q count _ lines run ready long placed is = absurd is
 
 -- a line behind some that is not in its place
@@ -120,6 +121,7 @@ module _ (n : Net) (list : List Split) (kind : Kind) (m j h : Moment) (count k l
       let out = place-wrong list are.lines least node are.placed wrong in
       record {
         kept = all.kept;
+        quiet = inr all.quiet;
         cause = record {
           items = flat_map proof_items are.lines ++ head node scale parts ∷ [];
           run = all;

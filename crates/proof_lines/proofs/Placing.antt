@@ -159,6 +159,7 @@ module _ (list : List Split) (kind : Kind) (before : List NodeProof) (m j h : Mo
       let out = place-wrong list (before ++ are.more) least node are.placed wrong in
       record {
         kept = all.kept;
+        quiet = inr all.quiet;
         cause = record {
           items = flat_map proof_items are.more ++ head node scale parts ∷ [];
           run = all;

@@ -1,5 +1,5 @@
 -- Runs of a reader over a shelf, put together.
-use Rattle.std.proofs.Common.{IsTrue, List, [], ◌++◌, inl, arith}
+use Rattle.std.proofs.Common.{◌≡◌, ◌⊎◌, ℕ, IsTrue, List, [], ◌++◌, inl, inr, refl, ◌∙◌, arith}
 use Rattle.shelf_calls.specs.Opened.{IsUsedUp}
 use Rattle.shelf_calls.specs.Told.{Keeps}
 use Rattle.shelf_calls.proofs.Keeping.{keeps-same, keeps-then}
@@ -17,16 +17,27 @@ use Rattle.proof_lines.specs.declared.stream_refusal.StreamRefusal.TheVariants.{
 use Rattle.proof_lines.specs.Runs.{Moment, Run, IsWhy, Failed, Found, IsCause, Halts, of_fault}
 
 pub run-none : (m : Moment) → (IsTrue m.reader.ended → IsUsedUp m.shelf.rest) → Run m m []
-run-none m used = record { kept = keeps-same m.shelf; ran = ran-none m.reader m.shelf.rest used; counted = inl (omega arith) }
+run-none m used = record { kept = keeps-same m.shelf; ran = ran-none m.reader m.shelf.rest used; counted = inl (omega arith); quiet = refl }
 
 pub run-then : (m k l : Moment) (is js : List Field) → Run m k is → Run k l js → Run m l (is ++ js)
 run-then m k l is js a b = record {
   kept = keeps-then a.kept b.kept;
   ran = ran-then is js a.ran b.ran;
   counted = rose-then m.reader.left k.reader.left l.reader.left m.shelf.taken k.shelf.taken l.shelf.taken (omega (arith, a.ran.took.within)) (omega (arith, b.ran.took.within)) a.counted b.counted b.kept.taken_grows;
+  quiet = b.quiet ∙ a.quiet;
 }
 
 -- ---- faults behind a run
+
+-- a count that stays behind one that stayed, unless the shelf failed
+quiet-then : {Failed : Type 0} {before mid after : ℕ} → mid ≡ before → Failed ⊎ (after ≡ mid) → Failed ⊎ (after ≡ before)
+quiet-then same (inl failed) = inl failed
+quiet-then same (inr quiet) = inr (quiet ∙ same)
+
+-- the count of faults is as it was where the shelf did not fail
+pub not-read : {Failed Same : Type 0} → ¬ Failed → Failed ⊎ Same → Same
+not-read other (inl failed) = absurd (other failed)
+not-read other (inr quiet) = quiet
 
 later-then : (m k l : Moment) (is : List Field) (f : TextFault) → Run m k is → FailsLater k.reader k.shelf.rest l.reader l.shelf.rest f → FailsLater m.reader m.shelf.rest l.reader l.shelf.rest f
 later-then m k l is f a b = record {
@@ -43,7 +54,7 @@ long-then m k l is a kept why =
     (more-then a.ran.took why.0, took-more-then m.reader.left k.reader.left m.shelf.taken k.shelf.taken l.shelf.taken (omega (arith, a.ran.took.within)) a.counted why.1 kept.taken_grows)
 
 pub failed-then : (m k l : Moment) (is : List Field) (fault : ItemFault) → Run m k is → Failed k l fault → Failed m l fault
-failed-then m k l is fault a b = record { kept = keeps-then a.kept b.kept; why = cases fault b.why }
+failed-then m k l is fault a b = record { kept = keeps-then a.kept b.kept; why = cases fault b.why; quiet = quiet-then a.quiet b.quiet }
   where
     cases : (fault : ItemFault) → IsWhy k l fault → IsWhy m l fault
     cases faults.Read why = rose-behind m.shelf.faults k.shelf.faults l.shelf.faults a.kept.faults_grow why
@@ -62,7 +73,7 @@ found-then P Q m k l is r more a b = record {
 
 pub halts-then : (P Q : List Field → Refusal → Type 0) (m k l : Moment) (is : List Field) (r : StreamRefusal)
     → ((rest : List Field) (c : Refusal) → P rest c → Q (is ++ rest) c) → Run m k is → Halts P k l r → Halts Q m l r
-halts-then P Q m k l is r more a b = record { kept = keeps-then a.kept b.kept; cause = cases r b.cause }
+halts-then P Q m k l is r more a b = record { kept = keeps-then a.kept b.kept; cause = cases r b.cause; quiet = quiet-then a.quiet b.quiet }
   where
     refused : (c : Refusal) → IsCause P k l (Refused c) → IsCause Q m l (Refused c)
     refused (Text f) why = later-then m k l is f a why
@@ -77,13 +88,13 @@ halts-then P Q m k l is r more a b = record { kept = keeps-then a.kept b.kept; c
 
 -- a reading that failed, as a part that was not taken
 pub failed-halts : (P : List Field → Refusal → Type 0) (m k : Moment) (fault : ItemFault) → Failed m k fault → Halts P m k (of_fault fault)
-failed-halts P m k faults.Read b = record { kept = b.kept; cause = b.why }
-failed-halts P m k faults.TooLong b = record { kept = b.kept; cause = b.why }
-failed-halts P m k (faults.Text f) b = record { kept = b.kept; cause = b.why }
+failed-halts P m k faults.Read b = record { kept = b.kept; cause = b.why; quiet = inl refl }
+failed-halts P m k faults.TooLong b = record { kept = b.kept; cause = b.why; quiet = inr (not-read (λ e. cc) b.quiet) }
+failed-halts P m k (faults.Text f) b = record { kept = b.kept; cause = b.why; quiet = inr (not-read (λ e. cc) b.quiet) }
 
--- want of memory
-pub memory-halts : (P : List Field → Refusal → Type 0) (m k : Moment) → Keeps m.shelf k.shelf → Halts P m k Memory
-memory-halts P m k kept = record { kept = kept; cause = tt }
+-- want of memory behind a run
+pub memory-halts : (P : List Field → Refusal → Type 0) (m k : Moment) (is : List Field) → Run m k is → Halts P m k Memory
+memory-halts P m k is run = record { kept = run.kept; cause = tt; quiet = inr run.quiet }
 
 -- ---- one call
 

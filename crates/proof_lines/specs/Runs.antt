@@ -1,5 +1,5 @@
 -- A run of a reader over the opened file of a shelf: what it took of the file, and which items it read.
-use Rattle.std.specs.Prelude.{◌≡◌, ◌≢◌, ◌-◌, IsTrue, List}
+use Rattle.std.specs.Prelude.{◌≡◌, ◌≢◌, ◌-◌, ◌⊎◌, IsTrue, List}
 use Rattle.edge_io.specs.Counts.{Rose, RoseBy}
 use Rattle.shelf_calls.specs.Opened.{IsUsedUp}
 use Rattle.shelf_calls.specs.Told.{ShelfTold, Keeps}
@@ -23,11 +23,12 @@ pub record Moment : Type 0 where
 abbrev pub moment : Reader → ShelfTold → Moment
 moment reader shelf = record { reader = reader; shelf = shelf }
 
--- The reader read these items, and as many bytes were counted as it took.
+-- The reader read these items, as many bytes were counted as it took, and the count of faults is as it was.
 pub record Run (m k : Moment) (is : List Field) : Type 0 where
   pub kept : Keeps m.shelf k.shelf
   pub ran : Ran m.reader m.shelf.rest k.reader k.shelf.rest is
   pub counted : RoseBy (m.reader.left - k.reader.left) m.shelf.taken k.shelf.taken
+  pub quiet : k.shelf.faults ≡ m.shelf.faults
 
 -- the text goes on with this state, and where the reader is at the end of the file nothing is left
 pub record IsReady (m : Moment) (s : State) : Type 0 where
@@ -40,10 +41,11 @@ IsWhy m k faults.Read = Rose m.shelf.faults k.shelf.faults
 IsWhy m k faults.TooLong = IsMore m.reader.left m.shelf.rest × TookMore m.reader.left m.shelf.taken k.shelf.taken
 IsWhy m k (faults.Text f) = FailsLater m.reader m.shelf.rest k.reader k.shelf.rest f
 
--- a reading that failed
+-- a reading that failed; the count of faults is as it was, unless the shelf failed
 pub record Failed (m k : Moment) (fault : ItemFault) : Type 0 where
   pub kept : Keeps m.shelf k.shelf
   pub why : IsWhy m k fault
+  pub quiet : (fault ≡ faults.Read) ⊎ (k.shelf.faults ≡ m.shelf.faults)
 
 -- some items were read, and for what they are the certificate is refused; the text goes on
 pub record Found (P : List Field → Refusal → Type 0) (m k : Moment) (r : Refusal) : Type 0 where
@@ -62,10 +64,11 @@ IsCause P m k (Refused NoMemory) = ⊥
 IsCause P m k (Refused r) = Found P m k r
 IsCause P m k Memory = Unit {0}
 
--- a part of a certificate that was not taken
+-- a part of a certificate that was not taken; the count of faults is as it was, unless the shelf failed
 pub record Halts (P : List Field → Refusal → Type 0) (m k : Moment) (r : StreamRefusal) : Type 0 where
   pub kept : Keeps m.shelf k.shelf
   pub cause : IsCause P m k r
+  pub quiet : (r ≡ Read) ⊎ (k.shelf.faults ≡ m.shelf.faults)
 
 -- ---- errors that are handed on
 

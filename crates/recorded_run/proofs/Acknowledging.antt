@@ -7,6 +7,7 @@ use Rattle.pool_model.specs.Network.{Net}
 use Rattle.row_model.specs.Entries.{Entry, Searched, AreInOrder}
 use Rattle.node_journal.specs.Journals.{IsBeforeOrAfter}
 use Rattle.node_journal.specs.Settled.{IsQuiet}
+use Rattle.journal_format.specs.Records.{Place}
 use Rattle.journal_format.proofs.OwnFiles.{kept_of}
 use Rattle.search_run.specs.declared.orders.Orders.{Orders}
 use Rattle.recorded_run.specs.Recorded.{BeginsWith, HasFewSplits, IsNetworksOwn, IsBetween, IsRecorded}
@@ -38,11 +39,11 @@ front-wider n text all more least most fewer further file on low high is = recor
 }
 
 -- the only file holds all of the list
-pub recorded-front : (n : Net) (text : List ℕ) (list : List Entry) (gate : ℕ) (s : Searched) (d : DiskTold) → IsRecorded n text list gate s d
+pub recorded-front : (n : Net) (text : List ℕ) (list : List Entry) (place : Place) (s : Searched) (d : DiskTold) → IsRecorded n text list place s d
     → (c : List ℕ) → d.may_leave c → HoldsFront n text list (length list) (length list) c
-recorded-front n text list gate s d is c now = record {
+recorded-front n text list place s d is c now = record {
   list = list;
-  own = subst (IsNetworksOwn n text list) (sym (is.on_disk.only c now)) (kept-own_file n text list is.file (kept_of gate text is.file list is.kept) is.in_order);
+  own = subst (IsNetworksOwn n text list) (sym (is.on_disk.only c now)) (kept-own_file n text list is.file (kept_of place text is.file list is.kept) is.in_order);
   front = begins-same list;
   no_fewer = omega arith;
   no_more = omega arith;
@@ -81,26 +82,26 @@ IsBetweenRuns n text first middle old c = (old.may_leave c × (length middle ≡
 module _ (n : Net) (text : List ℕ) (first middle last : List Entry) (old mid new : DiskTold) (on : BeginsWith last middle)
     (a : KeepsAcknowledged n text first middle old mid) (b : KeepsAcknowledged n text middle last mid new)
     (run : LeavesOnly mid new (λ c. mid.may_leave c ⊎ IsBetween n text middle last c)) (between : (c : List ℕ) → mid.may_leave c → IsBetweenRuns n text first middle old c) where
-  abbrev Place : ℕ → Type 0
-  Place t = (t < mid.moment) ⊎ (mid.moment ≤ t)
+  abbrev Side : ℕ → Type 0
+  Side t = (t < mid.moment) ⊎ (mid.moment ≤ t)
 
   -- how many are acknowledged: as the first run has it, and from the second one on as that has it
-  abbrev count : (t : ℕ) → Place t → ℕ
+  abbrev count : (t : ℕ) → Side t → ℕ
   count t (inl early) = a.acknowledged t
   count t (inr late) = b.acknowledged t
 
   more : length middle ≤ length last
   more = begins-length last middle on
 
-  begins-at : (t : ℕ) (w : Place t) → length first ≤ count t w
+  begins-at : (t : ℕ) (w : Side t) → length first ≤ count t w
   begins-at t (inl early) = a.begins t
   begins-at t (inr late) = omega (arith, a.begins t, a.ends t, b.begins t)
 
-  ends-at : (t : ℕ) (w : Place t) → count t w ≤ length last
+  ends-at : (t : ℕ) (w : Side t) → count t w ≤ length last
   ends-at t (inl early) = omega (arith, a.ends t, more)
   ends-at t (inr late) = b.ends t
 
-  grows-at : (t u : ℕ) (v : Place t) (w : Place u) → t ≤ u → count t v ≤ count u w
+  grows-at : (t u : ℕ) (v : Side t) (w : Side u) → t ≤ u → count t v ≤ count u w
   grows-at t u (inl early) (inl soon) le = a.grows t u le
   grows-at t u (inl early) (inr late) le = omega (arith, a.ends t, b.begins u)
   grows-at t u (inr late) (inl early) le = absurd (omega (arith, le, late, early))
@@ -133,7 +134,7 @@ module _ (n : Net) (text : List ℕ) (first middle last : List Entry) (old mid n
   late-since t c (inl now) = late-between t c now.1 (between c now.0)
   late-since t c (inr holds) = inr holds
 
-  since-at : (t : ℕ) (w : Place t) (c : List ℕ) → old.moment ≤ t → t ≤ new.moment → new.left_since t c → Since t (count t w) c
+  since-at : (t : ℕ) (w : Side t) (c : List ℕ) → old.moment ≤ t → t ≤ new.moment → new.left_since t c → Since t (count t w) c
   since-at t (inl early) c from to left = elim (run.before t c (omega (arith, early)) left) [
     | inl past ↦ early-since t c (a.since t c from (omega (arith, early)) past)
     | inr now ↦ early-run t c now
@@ -153,7 +154,7 @@ module _ (n : Net) (text : List ℕ) (first middle last : List Entry) (old mid n
   until-second t c (inr holds) = inr (front-wider n text last last (length middle) (b.acknowledged t + 1) (length first) (b.acknowledged t + 1) c (begins-same last)
       (omega (arith, a.begins t, a.ends t)) (omega arith) holds)
 
-  until-at : (t : ℕ) (w : Place t) (c : List ℕ) → new.left_until t c → Until (count t w) c
+  until-at : (t : ℕ) (w : Side t) (c : List ℕ) → new.left_until t c → Until (count t w) c
   until-at t (inl early) c left = elim (run.until t c left) [
     | inl past ↦ until-first t (a.acknowledged t) c (omega arith) (a.until t c past)
     | inr now ↦ absurd (omega (arith, early, now.0))
@@ -174,26 +175,26 @@ module _ (n : Net) (text : List ℕ) (first middle last : List Entry) (old mid n
 -- ---- entry after entry
 
 -- an entry more is recorded, or not
-pub keeps-more : (n : Net) (text : List ℕ) (first last : List Entry) (e : Entry) (gate : ℕ) (s : Searched) (old mid new : DiskTold) → IsRecorded n text last gate s mid → AreInOrder n (last ++ e ∷ [])
+pub keeps-more : (n : Net) (text : List ℕ) (first last : List Entry) (e : Entry) (place : Place) (s : Searched) (old mid new : DiskTold) → IsRecorded n text last place s mid → AreInOrder n (last ++ e ∷ [])
     → KeepsAcknowledged n text first last old mid → LeavesOnly mid new (IsBeforeOrAfter text last e) → KeepsAcknowledged n text first (last ++ e ∷ []) old new
-keeps-more n text first last e gate s old mid new held are so_far step =
+keeps-more n text first last e place s old mid new held are so_far step =
     let on = begins-more last last e (begins-same last) in
     let P : List ℕ → Type 0 = λ c. mid.may_leave c ⊎ IsBetween n text last (last ++ e ∷ []) c in
     let run = leaves-weaker mid new (IsBeforeOrAfter text last e) P (λ c is. inr (between-recorded n text last last e c (begins-same last) held.in_order are is)) step in
     keeps-then n text first last (last ++ e ∷ []) old mid new on so_far
-    (keeps-once n text last (last ++ e ∷ []) mid new on (omega (arith, length-append last (e ∷ []))) run) run (λ c now. inr (recorded-front n text last gate s mid held c now))
+    (keeps-once n text last (last ++ e ∷ []) mid new on (omega (arith, length-append last (e ∷ []))) run) run (λ c now. inr (recorded-front n text last place s mid held c now))
 
 -- so far: a crash left a list between the first and the last and lost no acknowledged entry, the last has few splits, and the disk holds it
-pub record SoFar (n : Net) (text : List ℕ) (o : Orders) (first : List Entry) (old now : DiskTold) (gate : ℕ) (s : Searched) : Type 0 where
+pub record SoFar (n : Net) (text : List ℕ) (o : Orders) (first : List Entry) (old now : DiskTold) (place : Place) (s : Searched) : Type 0 where
   pub last : List Entry
   pub begins : BeginsWith last first
   pub any_moment : LeavesOnly old now (IsBetween n text first last)
   pub acknowledged : KeepsAcknowledged n text first last old now
   pub few : HasFewSplits o first last
-  pub held : IsRecorded n text last gate s now
+  pub held : IsRecorded n text last place s now
 
-pub so_far-start : (n : Net) (text : List ℕ) (o : Orders) (first : List Entry) (d : DiskTold) (gate : ℕ) (s : Searched) → IsRecorded n text first gate s d → SoFar n text o first d d gate s
-so_far-start n text o first d gate s is = record {
+pub so_far-start : (n : Net) (text : List ℕ) (o : Orders) (first : List Entry) (d : DiskTold) (place : Place) (s : Searched) → IsRecorded n text first place s d → SoFar n text o first d d place s
+so_far-start n text o first d place s is = record {
   last = first;
   begins = begins-same first;
   any_moment = start;
@@ -206,7 +207,7 @@ so_far-start n text o first d gate s is = record {
     start : LeavesOnly d d (IsBetween n text first first)
     start = started d (IsBetween n text first first) (λ k now. record {
       list = first;
-      own = subst (IsNetworksOwn n text first) (sym (is.on_disk.only k now)) (kept-own_file n text first is.file (kept_of gate text is.file first is.kept) is.in_order);
+      own = subst (IsNetworksOwn n text first) (sym (is.on_disk.only k now)) (kept-own_file n text first is.file (kept_of place text is.file first is.kept) is.in_order);
       begins = begins-same first;
       goes_on = begins-same first;
     })
@@ -219,13 +220,13 @@ pub opening-keeps : (n : Net) (text : List ℕ) (first : List Entry) (old new : 
 opening-keeps n text first old new run = keeps-once n text first first old new (begins-same first) (omega arith) run
 
 -- and what the run behind it leaves
-pub run-keeps : (n : Net) (text : List ℕ) (first last : List Entry) (gate : ℕ) (s : Searched) (old mid new : DiskTold) → BeginsWith last first → IsRecorded n text first gate s mid
+pub run-keeps : (n : Net) (text : List ℕ) (first last : List Entry) (place : Place) (s : Searched) (old mid new : DiskTold) → BeginsWith last first → IsRecorded n text first place s mid
     → LeavesOnly old mid (λ c. old.may_leave c ⊎ IsBetween n text first first c) → LeavesOnly mid new (IsBetween n text first last) → KeepsAcknowledged n text first last mid new
     → KeepsAcknowledged n text first last old new
-run-keeps n text first last gate s old mid new on held opening run keeps =
+run-keeps n text first last place s old mid new on held opening run keeps =
     keeps-then n text first first last old mid new on (opening-keeps n text first old mid opening) keeps
     (leaves-weaker mid new (IsBetween n text first last) (λ c. mid.may_leave c ⊎ IsBetween n text first last c) (λ c is. inr is) run)
-    (λ c now. inr (recorded-front n text first gate s mid held c now))
+    (λ c now. inr (recorded-front n text first place s mid held c now))
 
 -- and what a run leaves behind a call that brings no new image
 pub behind-keeps : (n : Net) (text : List ℕ) (first last : List Entry) (old mid new : DiskTold) → IsQuiet old mid → BeginsWith last first

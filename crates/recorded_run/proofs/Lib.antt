@@ -1,4 +1,5 @@
 pub mod Recording
+pub mod Turning
 pub mod Splitting
 pub mod Acknowledging
 pub mod Causes

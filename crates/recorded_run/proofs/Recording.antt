@@ -1,5 +1,5 @@
 -- Lists that grow entry by entry, and what a crash leaves meanwhile.
-use Rattle.std.proofs.Common.{◌≡◌, ◌≢◌, ◌⊎◌, inl, inr, ℕ, suc, ◌<◌, ◌≤◌, map, get_or, take, drop, List, [], ◌∷◌, ◌++◌, length, refl, sym, ap, subst, ◌∙◌, arith, append_assoc, length-append}
+use Rattle.std.proofs.Common.{◌≡◌, ◌≢◌, ◌⊎◌, inl, inr, ℕ, suc, ◌<◌, ◌≤◌, map, get_or, take, drop, List, [], ◌∷◌, ◌++◌, length, Option, refl, sym, ap, subst, ◌∙◌, arith, append_assoc, length-append}
 use Rattle.std.proofs.lemmas.List.{append-nil, map-id, map-append, take-append-drop}
 use Rattle.std.proofs.Math.Seq.{drop-cons}
 use Rattle.disk_calls.specs.Disks.{DiskTold, LeavesOnly}
@@ -8,9 +8,10 @@ use Rattle.pool_model.specs.Network.{Net}
 use Rattle.row_model.specs.Entries.{Entry, Searched, start, after, made_from, made_by, AreInOrder, AreInOrderFrom, IsEntryInOrder}
 use Rattle.box_tree.specs.declared.entry.EntryFault.{EntryFault}
 use Rattle.box_tree.specs.declared.entry.EntryFault.TheVariants as entry_faults
+use Rattle.journal_format.specs.Histories.{record_of}
 use Rattle.journal_format.specs.Files.{IsKept, IsOwnFor}
 use Rattle.node_journal.specs.Journals.{IsBeforeOrAfter}
-use Rattle.journal_format.specs.Records.{IsKeptAt}
+use Rattle.journal_format.specs.Records.{Place, IsKeptAt}
 use Rattle.node_journal.specs.Settled.{IsOnDisk}
 use Rattle.journal_format.specs.declared.fault.JournalFault.{JournalFault}
 use Rattle.journal_format.specs.declared.fault.JournalFault.TheVariants as journal_faults
@@ -66,10 +67,10 @@ between-recorded n text first last e file begins are more (inr behind) = record 
 
 -- ---- what is recorded
 
-pub recorded-more : (n : Net) (text : List ℕ) (list : List Entry) (e : Entry) (gate : ℕ) (s t : Searched) (file : List ℕ) (d : DiskTold)
-    → AreInOrder n list → s ≡ made_by list → IsEntryInOrder n s e → t ≡ after s e → IsOnDisk file d → IsKeptAt gate text (list ++ e ∷ []) file
-    → IsRecorded n text (list ++ e ∷ []) gate t d
-recorded-more n text list e gate s t file d are made is then on_disk kept = record {
+pub recorded-more : (n : Net) (text : List ℕ) (list : List Entry) (e : Entry) (place : Place) (s t : Searched) (file : List ℕ) (d : DiskTold)
+    → AreInOrder n list → s ≡ made_by list → IsEntryInOrder n s e → t ≡ after s e → IsOnDisk file d → IsKeptAt place text (list ++ e ∷ []) file
+    → IsRecorded n text (list ++ e ∷ []) place t d
+recorded-more n text list e place s t file d are made is then on_disk kept = record {
   file = file;
   on_disk = on_disk;
   kept = kept;
@@ -77,23 +78,23 @@ recorded-more n text list e gate s t file d are made is then on_disk kept = reco
   made = then ∙ ap (λ (x : Searched). after x e) made ∙ sym (made-more start list e);
 }
 
-pub recorded-ends : (n : Net) (text : List ℕ) (list : List Entry) (gate : ℕ) (s : Searched) (d : DiskTold) → IsRecorded n text list gate s d
+pub recorded-ends : (n : Net) (text : List ℕ) (list : List Entry) (place : Place) (s : Searched) (d : DiskTold) → IsRecorded n text list place s d
     → Ends n text list s d
-recorded-ends n text list gate s d is = record {
+recorded-ends n text list place s d is = record {
   file = is.file;
   on_disk = is.on_disk;
-  own = kept-own_file n text list is.file (kept_of gate text is.file list is.kept) is.in_order;
+  own = kept-own_file n text list is.file (kept_of place text is.file list is.kept) is.in_order;
   made = is.made;
 }
 
 -- the file that the disk holds is what a read gives
-pub kept-stands : (n : Net) (text : List ℕ) (list : List Entry) (gate : ℕ) (file : List ℕ) (d : DiskTold) → AreInOrder n list
-    → IsOnDisk file d → IsKeptAt gate text list file → StandsNow n text list d
-kept-stands n text list gate file d are on_disk kept = record { file = file; read = on_disk.read; own = kept-own_file n text list file (kept_of gate text file list kept) are }
+pub kept-stands : (n : Net) (text : List ℕ) (list : List Entry) (place : Place) (file : List ℕ) (d : DiskTold) → AreInOrder n list
+    → IsOnDisk file d → IsKeptAt place text list file → StandsNow n text list d
+kept-stands n text list place file d are on_disk kept = record { file = file; read = on_disk.read; own = kept-own_file n text list file (kept_of place text file list kept) are }
 
-pub recorded-stands : (n : Net) (text : List ℕ) (list : List Entry) (gate : ℕ) (s : Searched) (d : DiskTold) → IsRecorded n text list gate s d
+pub recorded-stands : (n : Net) (text : List ℕ) (list : List Entry) (place : Place) (s : Searched) (d : DiskTold) → IsRecorded n text list place s d
     → StandsNow n text list d
-recorded-stands n text list gate s d is = kept-stands n text list gate is.file d is.in_order is.on_disk is.kept
+recorded-stands n text list place s d is = kept-stands n text list place is.file d is.in_order is.on_disk is.kept
 
 -- the fault of a run for want of memory is that of its journal
 pub memory-of : (fault : JournalFault) → faults.Journal fault ≡ faults.Journal journal_faults.Memory → fault ≡ journal_faults.Memory
@@ -125,16 +126,17 @@ out_of_order n s front e rest list k parts count are made out = record {
 }
 
 -- an entry that is not taken for another cause than memory is not in order
-pub refused-fault : (n : Net) (list : List Entry) (number : ℕ) (fault : EntryFault) → (fault ≢ entry_faults.Memory → IsFirstOutOfOrder n list number) → IsReplayFault n list (refused_as number fault)
-refused-fault n list number entry_faults.Memory first = refl
-refused-fault n list number entry_faults.NotALeaf first = first (λ e. cc)
-refused-fault n list number entry_faults.BadCoord first = first (λ e. cc)
-refused-fault n list number entry_faults.CutOutside first = first (λ e. cc)
-refused-fault n list number entry_faults.TooManySplits first = first (λ e. cc)
-refused-fault n list number (entry_faults.BadProof proof) first = first (λ e. cc)
-refused-fault n list number (entry_faults.BadPlan plan) first = first (λ e. cc)
-refused-fault n list number entry_faults.PlanNotBetter first = first (λ e. cc)
-refused-fault n list number entry_faults.RootLate first = first (λ e. cc)
+pub refused-fault : (n : Net) (list : List Entry) (turn : Option ℕ) (entry number : ℕ) (fault : EntryFault) → number ≡ record_of turn entry
+    → (fault ≢ entry_faults.Memory → IsFirstOutOfOrder n list entry) → IsReplayFault n list turn (refused_as number fault)
+refused-fault n list turn entry number entry_faults.Memory is first = refl
+refused-fault n list turn entry number entry_faults.NotALeaf is first = (entry, first (λ e. cc), is)
+refused-fault n list turn entry number entry_faults.BadCoord is first = (entry, first (λ e. cc), is)
+refused-fault n list turn entry number entry_faults.CutOutside is first = (entry, first (λ e. cc), is)
+refused-fault n list turn entry number entry_faults.TooManySplits is first = (entry, first (λ e. cc), is)
+refused-fault n list turn entry number (entry_faults.BadProof proof) is first = (entry, first (λ e. cc), is)
+refused-fault n list turn entry number (entry_faults.BadPlan plan) is first = (entry, first (λ e. cc), is)
+refused-fault n list turn entry number entry_faults.PlanNotBetter is first = (entry, first (λ e. cc), is)
+refused-fault n list turn entry number entry_faults.RootLate is first = (entry, first (λ e. cc), is)
 
 -- ---- a list, item by item
 
@@ -158,12 +160,12 @@ own-between n text first last file are begins own = record {
 }
 
 -- the disk after the journal was opened, and the tree of what was found
-pub opened-recorded : (n : Net) (text : List ℕ) (first list : List Entry) (gate : ℕ) (s : Searched) (file : List ℕ) (d : DiskTold) → list ≡ first → AreInOrder n first
-    → s ≡ made_by list → IsOnDisk file d → IsKeptAt gate text list file → IsRecorded n text first gate s d
-opened-recorded n text first list gate s file d same are made on_disk kept = record {
+pub opened-recorded : (n : Net) (text : List ℕ) (first list : List Entry) (place : Place) (s : Searched) (file : List ℕ) (d : DiskTold) → list ≡ first → AreInOrder n first
+    → s ≡ made_by list → IsOnDisk file d → IsKeptAt place text list file → IsRecorded n text first place s d
+opened-recorded n text first list place s file d same are made on_disk kept = record {
   file = file;
   on_disk = on_disk;
-  kept = subst (λ (l : List Entry). IsKeptAt gate text l file) same kept;
+  kept = subst (λ (l : List Entry). IsKeptAt place text l file) same kept;
   in_order = are;
   made = made ∙ ap made_by same;
 }

@@ -1,15 +1,15 @@
 -- What is recorded: the list that the disk holds, the tree that is made of it, and the files that a crash leaves.
-use Rattle.std.specs.Prelude.{◌≡◌, ◌⊎◌, ◌≤◌, ℕ, max, List, ◌∷◌, ◌++◌, length, Some}
-use Rattle.std.specs.List.{AllByRecursion}
+use Rattle.std.specs.Prelude.{◌≡◌, ◌⊎◌, ◌≤◌, ℕ, max, List, ◌∷◌, ◌++◌, length, Option, Some}
 use Rattle.disk_calls.specs.Disks.{DiskTold}
 use Rattle.pool_model.specs.Network.{Net}
 use Rattle.row_model.specs.Entries.{Entry, Searched, made_by, AreInOrder, IsEntryInOrder}
 use Rattle.box_tree.specs.declared.entry.EntryFault.{EntryFault}
 use Rattle.box_tree.specs.declared.entry.EntryFault.TheVariants as entry_faults
-use Rattle.journal_format.specs.Files.{Stands, IsOwn}
+use Rattle.journal_format.specs.Histories.{History, entries_of, turn_at, record_of, EachEntry}
+use Rattle.journal_format.specs.Files.{IsHistoryOf, Stands, IsOwn}
 use Rattle.journal_format.specs.Faults.{Has, IsAllowed, IsFree}
 use Rattle.journal_format.specs.Longest.{longest}
-use Rattle.journal_format.specs.Records.{IsKeptAt}
+use Rattle.journal_format.specs.Records.{Place, IsKeptAt}
 use Rattle.node_journal.specs.Settled.{IsOnDisk}
 use Rattle.search_run.specs.declared.orders.Orders.{Orders}
 use Rattle.journal_format.specs.declared.fault.JournalFault.TheVariants.{Memory}
@@ -46,10 +46,10 @@ pub record IsBetween (n : Net) (text : List ℕ) (first last : List Entry) (file
 -- ---- what is recorded
 
 -- A file that is the only image holds the entries of the list, in order, with the gate behind them, and the tree is made of them.
-pub record IsRecorded (n : Net) (text : List ℕ) (list : List Entry) (gate : ℕ) (s : Searched) (d : DiskTold) : Type 0 where
+pub record IsRecorded (n : Net) (text : List ℕ) (list : List Entry) (place : Place) (s : Searched) (d : DiskTold) : Type 0 where
   pub file : List ℕ
   pub on_disk : IsOnDisk file d
-  pub kept : IsKeptAt gate text list file
+  pub kept : IsKeptAt place text list file
   pub in_order : AreInOrder n list
   pub made : s ≡ made_by list
 
@@ -65,15 +65,15 @@ pub record IsFirstOutOfOrder (n : Net) (list : List Entry) (k : ℕ) : Type 0 wh
   pub in_order : AreInOrder n front
   pub out : ¬ IsEntryInOrder n (made_by front) entry
 
--- what is answered where the entry of this number is not taken
+-- what is answered where the entry in the record of this number is not taken
 abbrev pub refused_as : ℕ → EntryFault → RunFault
 refused_as number entry_faults.Memory = Journal Memory
 refused_as number fault = OutOfOrder number
 
--- why entries are not replayed: memory ran out, or one is out of order
-abbrev pub IsReplayFault : Net → List Entry → RunFault → Type 0
-IsReplayFault n list (Journal fault) = fault ≡ Memory
-IsReplayFault n list (OutOfOrder k) = IsFirstOutOfOrder n list k
+-- why entries are not replayed: memory ran out, or the one in this record is out of order, where the Turn stands in its record, if at all
+abbrev pub IsReplayFault : Net → List Entry → Option ℕ → RunFault → Type 0
+IsReplayFault n list turn (Journal fault) = fault ≡ Memory
+IsReplayFault n list turn (OutOfOrder k) = (entry : ℕ) × IsFirstOutOfOrder n list entry × (k ≡ record_of turn entry)
 
 -- disk or memory failed
 abbrev pub IsFreeFault : RunFault → Type 0
@@ -82,12 +82,15 @@ IsFreeFault (OutOfOrder k) = ⊥
 
 -- ---- causes
 
--- the file stands for entries that a journal takes back, and the one of this number is the first that is not in order
+-- The file holds entries that a journal takes back, and the record of this number holds the first that is not in order. Records are
+-- counted with the Turn.
 pub record HasOutOfOrder (n : Net) (text file : List ℕ) (k : ℕ) : Type 0 where
-  pub list : List Entry
-  pub stands : Stands file text list
-  pub allowed : AllByRecursion (IsAllowed (longest n)) list
-  pub first : IsFirstOutOfOrder n list k
+  pub history : History
+  pub of_file : IsHistoryOf file text history
+  pub allowed : EachEntry (IsAllowed (longest n)) history
+  pub entry : ℕ
+  pub first : IsFirstOutOfOrder n (entries_of history) entry
+  pub number : k ≡ record_of (turn_at history) entry
 
 -- the file is a cause of this refusal: its journal has the fault, or an entry that it stands for is not in order
 abbrev pub IsCause : Net → List ℕ → List ℕ → RunFault → Type 0

@@ -35,7 +35,7 @@ pub record IsRecordedRun (n : Net) (text : List ℕ) (o : Orders) (first : List 
   pub acknowledged : KeepsAcknowledged n text first last old new
   pub few : HasFewSplits o first last
   pub held : MatchResult result
-      (λ _. IsRecorded n text last s.journal.gate (searched s.search) new)
+      (λ _. IsRecorded n text last s.journal.next (searched s.search) new)
       (λ fault. fault ≡ Journal Memory → StandsNow n text last new)
 
 -- A run on a file that is the network's own and stands for the first list. A crash at any moment leaves what it might have left before,

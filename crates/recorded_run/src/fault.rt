@@ -14,7 +14,7 @@ use std::alloc::{AllocError, AllocFailed};
 pub enum RunFault {
     /// The journal is not opened; or the disk or memory failed, which may come in place of any other answer.
     Journal(JournalFault),
-    /// The entry of this number, from 0, is not in order after those before it.
+    /// The record of this number, from 0 and with the Turn, holds the first entry that is not in order after those before it.
     OutOfOrder(u64),
 }
 

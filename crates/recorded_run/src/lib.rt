@@ -8,11 +8,13 @@
 //! the most; `specs/Acknowledged.antt`, that no acknowledged entry is lost. What the steps are, is said in `search_run`, and what a journal
 //! is, in `node_journal` and `journal_format`. The layer above attaches the file, and prints what was found.
 //!
-//! Proofs above may cite `proofs/Causes.antt` (a file has one cause to be refused at most, and none where its entries are in order) and
-//! `proofs/Acknowledging.antt` (no acknowledged entry is lost over one run after another).
+//! Proofs above may cite `proofs/Causes.antt` (a file has one cause to be refused at most, and none where its entries are in order),
+//! `proofs/Acknowledging.antt` (no acknowledged entry is lost over one run after another) and `proofs/Turning.antt` (an entry that is put
+//! into a journal, behind a Turn or not).
 #![tactic(auto)]
 
 mod fault;
+mod putting;
 mod replay;
 mod rules;
 mod session;

@@ -73,8 +73,12 @@ pub fn run_recorded<D: Disk>(
 {
     let largest = largest_payload(net);
     let opened = Journal::open(alloc, disk, text, largest)?;
-    let Opened { journal, entries } = opened;
-    let tree = replayed(alloc, net, entries)?;
+    let Opened {
+        journal,
+        entries,
+        turn_at,
+    } = opened;
+    let tree = replayed(alloc, net, entries, turn_at)?;
     let search = Search::start(alloc, net, orders.options(), tree)?;
     let mut session = Session { journal, search };
     let ended = session.drive(alloc, net, orders, disk)?;

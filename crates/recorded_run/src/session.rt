@@ -17,6 +17,7 @@ ghost use Rattle.recorded_run.specs.Recorded.{IsRecorded, IsFreeFault};
 ghost use Rattle.recorded_run.specs.Sessions.{IsSession, IsRecordedRun};
 
 use crate::fault::RunFault;
+use crate::putting::put;
 use blend_network::Network;
 use box_tree::Entry;
 use disk_calls::Disk;
@@ -49,20 +50,20 @@ impl Session {
         ensures repaired { OnOk result (IsRepairedAfter (net_of net.now) (searched self.old.search) (shown_entry entry) self.old.search.repaired self.new.search.repaired) }
         // The entry stands on the disk then.
         ensures recorded { OnOk result ((text file : List ℕ) (list : List entries.Entry) →
-            IsOnDisk file (D.told disk.old) → IsKeptAt self.old.journal.gate text list file →
-            (after : List ℕ) × IsOnDisk after (D.told disk.new) × IsKeptAt self.new.journal.gate text (list ++ shown_entry entry ∷ []) after) }
+            IsOnDisk file (D.told disk.old) → IsKeptAt self.old.journal.next text list file →
+            (after : List ℕ) × IsOnDisk after (D.told disk.new) × IsKeptAt self.new.journal.next text (list ++ shown_entry entry ∷ []) after) }
         // So it does where memory runs out behind it.
         ensures kept { IsErrOf result (RunFault.Journal journal_faults.Memory) → (text file : List ℕ) (list : List entries.Entry) →
-            IsOnDisk file (D.told disk.old) → IsKeptAt self.old.journal.gate text list file →
-            (after : List ℕ) × IsOnDisk after (D.told disk.new) × IsKeptAt self.new.journal.gate text (list ++ shown_entry entry ∷ []) after }
+            IsOnDisk file (D.told disk.old) → IsKeptAt self.old.journal.next text list file →
+            (after : List ℕ) × IsOnDisk after (D.told disk.new) × IsKeptAt self.new.journal.next text (list ++ shown_entry entry ∷ []) after }
         ensures any_moment { (text file : List ℕ) (list : List entries.Entry) →
-            IsOnDisk file (D.told disk.old) → IsKeptAt self.old.journal.gate text list file →
+            IsOnDisk file (D.told disk.old) → IsKeptAt self.old.journal.next text list file →
             LeavesOnly (D.told disk.old) (D.told disk.new) (IsBeforeOrAfter text list (shown_entry entry)) }
         ensures free { IfErr result IsFreeFault }
         ensures failed { IsErrOf result (RunFault.Journal journal_faults.Disk) → Rose (D.told disk.old).faults (D.told disk.new).faults }
         ensures same_disk { IsSameDisk (D.told disk.old) (D.told disk.new) }
     {
-        self.journal.append(disk, &entry)?;
+        put(&mut self.journal, disk, &entry)?;
         match self.search.take(net, entry) {
             Ok(()) => Ok(()),
             Err(_) => Err(RunFault::Journal(JournalFault::Memory)),
@@ -82,7 +83,7 @@ impl Session {
         ensures session { IfOk result (λ _. IsSession (net_of net.now) orders self.new) }
         ensures run { IfOk result (IsRun (net_of net.now) orders (searched self.old.search) (searched self.new.search)) }
         ensures recorded { (text : List ℕ) (first : List entries.Entry) →
-            IsRecorded (net_of net.now) text first self.old.journal.gate (searched self.old.search) (D.told disk.old) →
+            IsRecorded (net_of net.now) text first self.old.journal.next (searched self.old.search) (D.told disk.old) →
             IsRecordedRun (net_of net.now) text orders first (D.told disk.old) (D.told disk.new) self.new result }
         ensures free { IfErr result IsFreeFault }
         ensures failed { IsErrOf result (RunFault.Journal journal_faults.Disk) → Rose (D.told disk.old).faults (D.told disk.new).faults }

@@ -1,10 +1,11 @@
 //! The network in a file.
 
-ghost use Rattle.std.specs.Prelude.{◌≡◌, IsTrue, IfOk, IfErr};
+ghost use Rattle.std.specs.Prelude.{◌≡◌, ◌⊎◌, Err, IsTrue, IfOk, IfErr};
 ghost use Rattle.shelf_calls.specs.Told.{Keeps};
 ghost use Rattle.run_status.specs.Reads.{ReadsUnder};
 ghost use Rattle.run_status.specs.Took.{unread_status};
 ghost use Rattle.run_status.specs.Unreads.{IsCauseOf, IsUnread, unread_by};
+ghost use Rattle.run_status.specs.declared.reading.Unread.TheVariants as unread;
 
 use crate::status::Status;
 use blend_network::{NetFault, Network};
@@ -53,6 +54,9 @@ pub fn network_under<S: Shelf>(alloc: Global, name: &str, shelf: &mut S) -> Resu
     requires { IsTrue ((S.told shelf.old).admits name.now) }
     ensures reads { IfOk result (ReadsUnder (S.told shelf.old).files name.now) }
     ensures unread { IfErr result (IsUnread name.now (S.told shelf.old) (S.told shelf.new)) }
+    // Promise: Under every status but 20 the count of faults of the shelf is as it was: a call of the shelf that failed is never told as want of
+    //   memory (23) or as anything else
+    ensures quiet { (result ≡ Err unread.Failed) ⊎ ((S.told shelf.new).faults ≡ (S.told shelf.old).faults) }
     ensures kept { Keeps (S.told shelf.old) (S.told shelf.new) }
 {
     match shelf.read_all(alloc, name, MAX_TEXT) {

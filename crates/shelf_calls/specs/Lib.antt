@@ -1,4 +1,5 @@
 pub mod Files
+pub mod Calls
 pub mod Opened
 pub mod Told
 pub mod MemFiles

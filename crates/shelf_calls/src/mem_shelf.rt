@@ -98,6 +98,7 @@ impl Shelf for MemShelf {
         ensures failed { result ≡ Err ShelfFault.Failed → Rose (faults_of self.old) (faults_of self.new) }
         ensures too_long { result ≡ Err ShelfFault.TooLong →
             HasMore (contents_of self.old) name.now most }
+        ensures quiet { (result ≡ Err ShelfFault.Failed) ⊎ (faults_of self.new ≡ faults_of self.old) }
         ensures kept { Keeps (told_of self.old) (told_of self.new) }
         ensures same_rest { rest_of self.new ≡ rest_of self.old }
         ensures same_piece { piece_of self.new ≡ piece_of self.old }
@@ -134,6 +135,7 @@ impl Shelf for MemShelf {
         // What every shelf does.
         ensures opened { OnOk result (IsAllOf (contents_of self.old) name.now (Some (rest_of self.new))) }
         ensures failed { result ≡ Err OpenFault.Failed → Rose (faults_of self.old) (faults_of self.new) }
+        ensures quiet { (result ≡ Err OpenFault.Failed) ⊎ (faults_of self.new ≡ faults_of self.old) }
         ensures kept { Keeps (told_of self.old) (told_of self.new) }
 
         // When this one fails, and what it leaves as it was.
@@ -166,6 +168,7 @@ impl Shelf for MemShelf {
         ensures handed { IfOk result (λ n. rest_of self.old ≡ take n into.new ++ rest_of self.new) }
         ensures some { IfOk result (λ n. n ≡ 0 → (length into.new ≡ 0) ⊎ IsUsedUp (Some (rest_of self.old))) }
         ensures failed { OnErr result (Rose (faults_of self.old) (faults_of self.new)) }
+        ensures quiet { OnOk result (faults_of self.new ≡ faults_of self.old) }
         ensures kept { Keeps (told_of self.old) (told_of self.new) }
 
         // How much it hands out, when this one fails, and what it leaves as it was.
@@ -193,7 +196,7 @@ impl Shelf for MemShelf {
 }
 
 /// The bytes of the first file of that name.
-fn find_file<'a>(files: &'a [(String, Vec<u8>)], name: &str) -> Option<&'a [u8]>
+pub(crate) fn find_file<'a>(files: &'a [(String, Vec<u8>)], name: &str) -> Option<&'a [u8]>
     ensures { option_copied result ≡ file_of (files_of files.now) name.now }
 {
     for (held, bytes) in files {

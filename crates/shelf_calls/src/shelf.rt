@@ -33,6 +33,8 @@ pub trait Shelf {
         ensures failed { result ≡ Err ShelfFault.Failed → Rose (told self.old).faults (told self.new).faults }
         ensures too_long { result ≡ Err ShelfFault.TooLong →
             IsTooLong (told self.old).files name.now most (told self.old).taken (told self.new).taken }
+        // Promise: A call of a shelf that does not say that it failed leaves the count of faults as it was
+        ensures quiet { (result ≡ Err ShelfFault.Failed) ⊎ ((told self.new).faults ≡ (told self.old).faults) }
 
         ensures kept { Keeps (told self.old) (told self.new) }
         ensures same_rest { (told self.new).rest ≡ (told self.old).rest };
@@ -46,6 +48,8 @@ pub trait Shelf {
         ensures opened { OnOk result (IsOpened (told self.old).files name.now (told self.new).rest) }
 
         ensures failed { result ≡ Err OpenFault.Failed → Rose (told self.old).faults (told self.new).faults }
+        // Promise: A call of a shelf that does not say that it failed leaves the count of faults as it was
+        ensures quiet { (result ≡ Err OpenFault.Failed) ⊎ ((told self.new).faults ≡ (told self.old).faults) }
 
         ensures kept { Keeps (told self.old) (told self.new) };
 
@@ -62,6 +66,8 @@ pub trait Shelf {
         ensures counted { IfOk result (λ n. RoseBy n (told self.old).taken (told self.new).taken) }
 
         ensures failed { OnErr result (Rose (told self.old).faults (told self.new).faults) }
+        // Promise: A call of a shelf that does not say that it failed leaves the count of faults as it was
+        ensures quiet { OnOk result ((told self.new).faults ≡ (told self.old).faults) }
 
         ensures kept { Keeps (told self.old) (told self.new) };
 }

@@ -1,6 +1,6 @@
 //! A shelf of one file, which lies in memory and is open.
 
-ghost use Rattle.std.specs.Prelude.{◌≡◌, ◌+◌, ◌-◌, ◌^◌, ◌≤◌, [], ◌∷◌, ◌++◌, Some, Err, length, vec_len, take, min, bytes_eq, IfOk, OnOk, OnErr, IsOk, IsTrue};
+ghost use Rattle.std.specs.Prelude.{◌≡◌, ◌+◌, ◌-◌, ◌^◌, ◌≤◌, [], ◌∷◌, ◌++◌, Some, Err, ◌⊎◌, length, vec_len, take, min, bytes_eq, IfOk, OnOk, OnErr, IsOk, IsTrue};
 ghost use Rattle.edge_io.specs.Counts.{Grows, Rose};
 ghost use Rattle.shelf_calls.specs.Files.{HasFile, IsTooLong, file_of, HasMore};
 ghost use Rattle.shelf_calls.specs.Opened.{IsAllOf};
@@ -46,6 +46,7 @@ impl<'a> Shelf for SliceShelf<'a> {
         ensures failed { result ≡ Err ShelfFault.Failed → Rose 0 0 }
         ensures too_long { result ≡ Err ShelfFault.TooLong →
             IsTooLong (told_of self.old).files _name.now most (taken_of self.old) (taken_of self.new) }
+        ensures quiet { (result ≡ Err ShelfFault.Failed) ⊎ ((told_of self.new).faults ≡ (told_of self.old).faults) }
         ensures kept { Keeps (told_of self.old) (told_of self.new) }
         ensures same_rest { rest_of self.new ≡ rest_of self.old }
 

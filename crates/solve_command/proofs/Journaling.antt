@@ -17,7 +17,7 @@ use Rattle.tree_certificate.specs.Certificates.{cert_of}
 use Rattle.journal_format.specs.Files.{Stands}
 use Rattle.journal_format.specs.declared.fault.JournalFault.{JournalFault}
 use Rattle.journal_format.specs.declared.fault.JournalFault.TheVariants as journal_faults
-use Rattle.journal_format.proofs.Decided.{one_standing}
+use Rattle.journal_format.proofs.OwnFiles.{one_standing}
 use Rattle.node_journal.specs.Settled.{IsQuiet}
 use Rattle.node_journal.proofs.Runs.{quiet-then}
 use Rattle.search_run.specs.Runs.{IsRun}

@@ -83,6 +83,9 @@ pub fn solve<S: Shelf, K: Sink, D: Disk>(
         (solve_status result) (λ c. K.taken out.new ≡ behind (K.taken out.old) (text_of c)) }
     ensures apart { (shown_solving words.now).journal ≡ None → disk.new ≡ disk.old }
     ensures read_fault { solve_status result ≡ Status.ReadFault → Rose (S.told shelf.old).faults (S.told shelf.new).faults }
+    // Promise: Under every status but 20 the count of faults of the shelf is as it was: a call of the shelf that failed is never told as want of
+    //   memory (23) or as anything else
+    ensures quiet { (solve_status result ≡ Status.ReadFault) ⊎ ((S.told shelf.new).faults ≡ (S.told shelf.old).faults) }
     ensures write_fault { solve_status result ≡ Status.WriteFault → Rose (K.faults out.old) (K.faults out.new) }
     ensures disk_fault { solve_status result ≡ Status.DiskFault → Rose (D.told disk.old).faults (D.told disk.new).faults }
     // Promise: 23 of `solve` comes where the network is to be read, or of the search of one that was read, with its journal, within the

@@ -1,4 +1,5 @@
 -- Lemmas behind the contracts.
 pub mod Innermost
 pub mod Spans
+pub mod Finding
 pub mod Pushed

@@ -24,7 +24,7 @@ pub record IsSameTo (n : Net) (splits : List Split) (coord node at : ℕ) : Type
 
 module _ (n : Net) (tree : Tree) (is : IsTree n tree) (coord node at t : ℕ) (lt : t < length tree.splits) (same : IsSameTo n tree.splits coord node at) where
   -- one step up, past a split on another coordinate
-  beside_left : at ≡ left_node t → (split_at tree.splits t).coord ≢ coord → IsSameTo n tree.splits coord node (split_at tree.splits t).leaf
+  pub beside_left : at ≡ left_node t → (split_at tree.splits t).coord ≢ coord → IsSameTo n tree.splits coord node (split_at tree.splits t).leaf
   beside_left e other =
       let s = split_at tree.splits t in
       let above = box_of n tree.splits s.leaf in
@@ -35,7 +35,7 @@ module _ (n : Net) (tree : Tree) (is : IsTree n tree) (coord node at t : ℕ) (l
         high = same.high ∙ ap (λ (b : Box). b.high coord) box ∙ passed coord s.coord s.cut (above.high coord) (λ f. other (sym f));
       }
 
-  beside_right : at ≡ right_node t → (split_at tree.splits t).coord ≢ coord → IsSameTo n tree.splits coord node (split_at tree.splits t).leaf
+  pub beside_right : at ≡ right_node t → (split_at tree.splits t).coord ≢ coord → IsSameTo n tree.splits coord node (split_at tree.splits t).leaf
   beside_right e other =
       let s = split_at tree.splits t in
       let above = box_of n tree.splits s.leaf in

@@ -1,3 +1,4 @@
 pub mod Splits
 pub mod Spans
+pub mod Cuts
 pub mod Faults

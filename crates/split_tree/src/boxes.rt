@@ -1,10 +1,12 @@
 //! The box of a node, and its ends at one coordinate.
 
-ghost use Rattle.std.specs.Prelude.{◌≡◌, ◌<◌, IfOk, get_or, pos, length};
+ghost use Rattle.std.specs.Prelude.{◌≡◌, ◌-◌, ◌/◌, ◌<◌, IfOk, get_or, pos, length};
 ghost use Rattle.std.specs.Int.{int_min, int_max};
-ghost use Rattle.pool_model.specs.Network.{IsLimited, net_of};
+ghost use Rattle.map_versions.specs.Versions.{most_keys};
+ghost use Rattle.pool_model.specs.Network.{Net, IsLimited, net_of};
 ghost use Rattle.row_model.specs.Boxes.{coords};
 ghost use Rattle.row_model.specs.Trees as trees;
+ghost use Rattle.split_tree.specs.Cuts.{HaveKeys, IsInnermost};
 ghost use Rattle.split_tree.specs.Splits.{IsOf, MayCome};
 ghost use Rattle.split_tree.specs.Spans.{IsSpanOf, half_at};
 ghost use Rattle.box_space.specs.Views.{shown_split, AreEndsOf, AreRoot};
@@ -12,11 +14,11 @@ ghost use Rattle.box_space.specs.Views.{shown_split, AreEndsOf, AreRoot};
 use crate::span::{Side, Span};
 use crate::splits::SplitTree;
 use blend_network::Network;
-use box_space::{BoxEnds, Split, coord_at, root_box, root_ends};
+use box_space::{BoxEnds, Split, coord_at, coords, root_box, root_ends};
 use edge_io::Memory;
 
 impl SplitTree {
-    /// The box of a node. It goes from the node up to the root, and keeps the innermost cut on each side.
+    /// The box of a node.
     pub fn box_of(&self, net: &Network, node: u32) -> Result<BoxEnds, Memory>
         requires tree { IsOf (net_of net.now) self.now }
         requires there { node < trees.nodes self.now.list }
@@ -28,8 +30,24 @@ impl SplitTree {
         Ok(ends)
     }
 
-    /// The same where the ends are held already: those of the root box become those of the node's. It takes no memory.
+    /// The same where the ends are held already: those of the root box become those of the node's. It takes no memory. For a node of
+    /// few splits above it goes up to the root, and for another it looks up the innermost cut of each coordinate.
     pub fn narrow(&self, net: &Network, node: u32, ends: &mut BoxEnds)
+        requires limited { IsLimited (net_of net.now) }
+        requires tree { IsOf (net_of net.now) self.now }
+        requires there { node < trees.nodes self.now.list }
+        requires root { AreRoot (net_of net.now) ends.old }
+        ensures { AreEndsOf (net_of net.now) (trees.box_of (net_of net.now) self.now.list node) ends.new }
+    {
+        if self.depth_of(node) <= 2 * coords(net) {
+            self.climb(net, node, ends);
+        } else {
+            self.look_up(net, node, ends);
+        }
+    }
+
+    /// From the node up to the root each cut narrows the ends.
+    fn climb(&self, net: &Network, node: u32, ends: &mut BoxEnds)
         requires limited { IsLimited (net_of net.now) }
         requires tree { IsOf (net_of net.now) self.now }
         requires there { node < trees.nodes self.now.list }
@@ -47,6 +65,25 @@ impl SplitTree {
                 ends.low[coord] = ends.low.as_slice()[coord].max(split.cut);
             }
             at = split.leaf;
+        }
+    }
+
+    /// For each coordinate that is cut above the node, the ends that the innermost cut leaves.
+    fn look_up(&self, net: &Network, node: u32, ends: &mut BoxEnds)
+        requires limited { IsLimited (net_of net.now) }
+        requires tree { IsOf (net_of net.now) self.now }
+        requires there { node < trees.nodes self.now.list }
+        requires root { AreRoot (net_of net.now) ends.old }
+        ensures { AreEndsOf (net_of net.now) (trees.box_of (net_of net.now) self.now.list node) ends.new }
+    {
+        for coord in 0..coords(net) {
+            let at = self.innermost(node, coord);
+            if at == 0 {
+                continue;
+            }
+            let span = self.half_span(at);
+            ends.low[coord as usize] = span.low;
+            ends.high[coord as usize] = span.high;
         }
     }
 
@@ -69,37 +106,67 @@ impl SplitTree {
         }
     }
 
-    /// The ends of a node's box at a coordinate: those that the innermost split above the node on this coordinate leaves, or the
-    /// root's. It goes from the node up to that split, and takes no memory.
+    /// The ends of a node's box at a coordinate: those that the innermost cut above the node on this coordinate leaves, or the
+    /// root's. It takes a few steps and no memory, however many splits are above the node.
     pub(crate) fn span_of(&self, net: &Network, node: u32, coord: u32) -> Span
+        requires limited { IsLimited (net_of net.now) }
         requires tree { IsOf (net_of net.now) self.now }
         requires there { node < trees.nodes self.now.list }
         requires known { coord < coords (net_of net.now) }
         ensures { IsSpanOf (trees.box_of (net_of net.now) self.now.list node) coord result }
     {
-        let splits = self.splits();
-        let spans = self.spans.as_slice();
-        let mut at = node;
-        while at > 0 {
-            let above = (at as usize - 1) / 2;
-            let split = splits[above];
-            if split.coord == coord {
-                let Span { low, high } = spans[above];
-                return if at % 2 == 1 {
-                    Span {
-                        low,
-                        high: split.cut,
-                    }
-                } else {
-                    Span {
-                        low: split.cut,
-                        high,
-                    }
-                };
-            }
-            at = split.leaf;
+        let at = self.innermost(node, coord);
+        if at > 0 {
+            self.half_span(at)
+        } else {
+            let (low, high) = root_ends(net, coord_at(net, coord));
+            Span { low, high }
         }
-        let (low, high) = root_ends(net, coord_at(net, coord));
-        Span { low, high }
+    }
+
+    /// From a node up to the root the first node that a split on the coordinate made; the root where there is none.
+    fn innermost(&self, node: u32, coord: u32) -> u32
+        requires there { node < trees.nodes self.now.list }
+        requires keys { HaveKeys self.now.list }
+        requires key { coord < most_keys }
+        ensures { IsInnermost self.now.list coord result node }
+    {
+        if node == 0 {
+            return 0;
+        }
+        let above = (node as usize - 1) / 2;
+        if self.splits()[above].coord == coord {
+            node
+        } else {
+            self.maps.number(above as u32 + 1, coord)
+        }
+    }
+
+    /// The ends of a half's box at the coordinate of the split that made it.
+    fn half_span(&self, node: u32) -> Span
+        requires some { 0 < node }
+        requires there { node < trees.nodes self.now.list }
+        requires tree { (n : Net) × IsOf n self.now }
+        ensures { (n : Net) → IsOf n self.now → IsSpanOf (trees.box_of n self.now.list node) (trees.split_at self.now.list ((node - 1) / 2)).coord result }
+    {
+        let above = (node as usize - 1) / 2;
+        let cut = self.splits()[above].cut;
+        let Span { low, high } = self.spans.as_slice()[above];
+        if node % 2 == 1 {
+            Span { low, high: cut }
+        } else {
+            Span { low: cut, high }
+        }
+    }
+
+    /// How many splits are above a node, as they were counted when it was cut. It only chooses a way to find the node's box.
+    pub(crate) fn depth_of(&self, node: u32) -> u32 {
+        if node == 0 {
+            return 0;
+        }
+        match self.depths.get((node as usize - 1) / 2) {
+            Some(depth) => depth.saturating_add(1),
+            None => 0,
+        }
     }
 }

@@ -5,9 +5,9 @@
 //! box of any node, [`SplitTree::half_box`] that of a half before the split is added. Trees of splits are defined in `row_model`;
 //! `specs/Splits.antt` says when one is a network's, `specs/Faults.antt` when a split is refused.
 //!
-//! A step up goes from a node to the one that was cut. To judge a split takes the steps up to the innermost split on its coordinate,
-//! or to the root: one in a chain on one coordinate, and in a deep tree on many coordinates as many as its depth. The box of a
-//! node takes all the steps up to the root, and memory for the box. Nothing here recurses.
+//! To judge a split takes a few steps, however deep the tree is, since each leaf that was cut keeps the innermost cut above it of every
+//! coordinate. The box of a node takes memory for the box and steps for its ends: from the node up to the root where at most
+//! two splits a coordinate are above it, and else a few for each coordinate. Nothing here recurses.
 //!
 //! Bounds, proofs and plans are left to the crates above.
 //! Their proofs may cite `proofs/Innermost.antt`: the box of a node by its innermost cuts.

@@ -1,6 +1,7 @@
 //! The list of splits, with the ends and the marks that make its answers quick.
 
-ghost use Rattle.std.specs.Prelude.{◌≡◌, ◌<◌, ◌↔◌, [], length, map, IfOk, IfErr, IsTrue};
+ghost use Rattle.std.specs.Prelude.{◌≡◌, ◌<◌, ◌+◌, ◌-◌, ◌/◌, ◌↔◌, [], length, map, IfOk, IfErr, IsTrue};
+ghost use Rattle.map_versions.specs.Versions.{IsChanged, count};
 ghost use Rattle.pool_model.specs.Network.{Net};
 ghost use Rattle.row_model.specs.Trees as trees;
 ghost use Rattle.box_space.specs.Views.{shown_split};
@@ -10,20 +11,26 @@ ghost use Rattle.split_tree.specs.Splits.{IsOf, MayCome, with_split};
 use crate::span::Span;
 use box_space::Split;
 use edge_io::Memory;
+use map_versions::MapVersions;
 use std::alloc::{AllocError, Global};
 use std::marker::Model;
 
 /// The greatest number of splits.
 pub const MAX_SPLITS: usize = 20_000;
 
-/// Splits, each of a leaf of the tree of those before it. It keeps the ends that each split cuts between, and for each node
-/// whether it is cut.
+/// Splits, each of a leaf of the tree of those before it. It keeps the ends that each split cuts between, for each node whether
+/// it is cut, and for each leaf that was cut the innermost cut above it of every coordinate.
 #[derive(Drop)]
 pub struct SplitTree {
     pub(crate) splits: Vec<Split>,
     /// Of each split: the ends of its leaf at its coordinate.
     pub(crate) spans: Vec<Span>,
     pub(crate) cuts: Vec<bool>,
+    /// Version 0 is the map of the root, and version t + 1 that of the leaf of split t: from a coordinate to the innermost node at or
+    /// above it that a split on the coordinate made, which is 0 where there is none.
+    pub(crate) maps: MapVersions,
+    /// Of each split: how many splits are above its leaf.
+    pub(crate) depths: Vec<u32>,
     pub(crate) alloc: Global,
 }
 
@@ -31,12 +38,13 @@ impl Model for SplitTree {
     ghost use Rattle.std.specs.Prelude.{map};
     ghost use Rattle.box_space.specs.Views.{shown_split};
     ghost use Rattle.split_tree.specs.Splits.{Splits, AreKept};
+    ghost use Rattle.split_tree.specs.Cuts.{AreMapped};
 
     ghost Value = { Splits };
 
     ghost view = { λ t. record { list = map shown_split t.splits.items; spans = t.spans.items } };
 
-    ghost invariant = { λ t. AreKept (map shown_split t.splits.items) t.spans.items t.cuts.items };
+    ghost invariant = { λ t. AreKept (map shown_split t.splits.items) t.spans.items t.cuts.items × AreMapped (map shown_split t.splits.items) t.maps };
 }
 
 impl SplitTree {
@@ -49,6 +57,8 @@ impl SplitTree {
             splits: Vec::new(alloc),
             spans: Vec::new(alloc),
             cuts: vec![in alloc; false]?,
+            maps: MapVersions::new(alloc)?,
+            depths: Vec::new(alloc),
             alloc,
         })
     }
@@ -110,11 +120,32 @@ impl SplitTree {
         self.splits.reserve(1)?;
         self.spans.reserve(1)?;
         self.cuts.reserve(2)?;
+        self.depths.reserve(1)?;
+        let depth = self.depth_of(split.leaf);
+        add_map(&mut self.maps, self.splits.as_slice(), split.leaf)?;
         self.splits.push_reserved(split);
         self.spans.push_reserved(span);
         self.cuts[split.leaf as usize] = true;
         self.cuts.push_reserved(false);
         self.cuts.push_reserved(false);
+        self.depths.push_reserved(depth);
         Ok(())
     }
+}
+
+/// Adds the map of a leaf: that of the leaf above, whose split made it, with this leaf at the coordinate of that split.
+fn add_map(maps: &mut MapVersions, splits: &[Split], leaf: u32) -> Result<(), AllocError>
+    requires there { leaf < trees.nodes (map shown_split splits.now) }
+    requires few { length splits.now < trees.most_splits }
+    requires counted { count maps.old ≡ length splits.now + 1 }
+    ensures root { leaf ≡ 0 → IfOk result (λ _. IsChanged maps.old maps.new 0 0 0) }
+    ensures half { 0 < leaf → IfOk result (λ _. IsChanged maps.old maps.new ((leaf - 1) / 2 + 1)
+        (trees.split_at (map shown_split splits.now) ((leaf - 1) / 2)).coord leaf) }
+    ensures unchanged { IfErr result (λ _. maps.new ≡ maps.old) }
+{
+    if leaf == 0 {
+        return maps.change(0, 0, 0);
+    }
+    let above = (leaf as usize - 1) / 2;
+    maps.change(above as u32 + 1, splits[above].coord, leaf)
 }

@@ -9,7 +9,7 @@ use std::alloc::Global;
 use std::test::Fail;
 
 /// Opens the file.
-fn open<D: Disk>(disk: &mut D) -> Result<(), DiskFailed>
+pub(crate) fn open<D: Disk>(disk: &mut D) -> Result<(), DiskFailed>
     requires { (name : _) → IsTrue ((D.told disk.old).admits name) }
     ensures known { OnOk result (Reaches (D.told disk.new) 0) }
 {
@@ -39,7 +39,7 @@ fn trim<D: Disk>(disk: &mut D, to: u64) -> Result<(), DiskFailed>
 }
 
 /// Seven calls: attach, len, write, sync, len, cut, sync.
-fn script<D: Disk>(disk: &mut D) -> Result<(), DiskFailed>
+pub(crate) fn script<D: Disk>(disk: &mut D) -> Result<(), DiskFailed>
     requires { (name : _) → IsTrue ((D.told disk.old).admits name) }
 {
     open(disk)?;
@@ -56,7 +56,7 @@ fn failing(alloc: Global, call: u64) -> Result<MemDisk, Fail> {
 }
 
 /// The image of one moment by each of the first choices.
-fn shows(disk: &MemDisk, moment: u64, images: [&[u8]; 8]) -> bool {
+pub(crate) fn shows(disk: &MemDisk, moment: u64, images: [&[u8]; 8]) -> bool {
     for (choice, bytes) in images.iter().enumerate() {
         match disk.image(moment, choice as u64) {
             Ok(image) if image.as_slice() == *bytes => {}

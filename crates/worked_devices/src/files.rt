@@ -1,10 +1,13 @@
 //! Files of the system: read whole, by pieces, and where there are none; a disk's file.
 
+ghost use Rattle.std.specs.Prelude.{false, []};
+
 use super::shelves::rest_of;
-use disk_calls::{Disk, DiskFailed, FileDisk, MAX_LENGTH};
-use shelf_calls::{FileShelf, Shelf, read_once};
+use disk_calls::{Disk, DiskFailed, FileDisk, MAX_LENGTH, SystemFile};
+use edge_io::CallFault;
+use shelf_calls::{FileShelf, ReadCalls, Shelf, SystemFiles, read_once};
 use std::test::Fail;
-use std::{fs, io, process};
+use std::{fs, process};
 
 /// The path of a file of this test alone.
 fn path_of(rt: &HostRuntime, name: &str) -> Result<String, Fail> {
@@ -18,7 +21,7 @@ fn a_file_is_read_whole_and_by_pieces(rt: HostRuntime) -> Result<(), Fail> {
     let alloc = rt.alloc();
     let path = path_of(&rt, "whole")?;
     fs::write(&rt, path.as_str(), "four")?;
-    let mut shelf = FileShelf::new(&rt);
+    let mut shelf = FileShelf::new(SystemFiles::new(&rt));
     let whole = shelf.read_all(alloc, path.as_str(), 4);
     let short = shelf.read_all(alloc, path.as_str(), 3);
     let endless = shelf.read_all(alloc, "/dev/zero", 9);
@@ -37,7 +40,7 @@ fn a_file_is_read_whole_and_by_pieces(rt: HostRuntime) -> Result<(), Fail> {
 #[test]
 fn a_read_fails_where_no_file_is(rt: HostRuntime) -> Result<(), Fail> {
     let alloc = rt.alloc();
-    let mut shelf = FileShelf::new(&rt);
+    let mut shelf = FileShelf::new(SystemFiles::new(&rt));
     let mut room = [0; 4];
     let unopened = shelf.read_some(&mut room);
     let none = shelf.open_read(alloc, "/tmp/worked_devices/none");
@@ -53,13 +56,17 @@ fn a_read_fails_where_no_file_is(rt: HostRuntime) -> Result<(), Fail> {
 #[derive(Drop)]
 struct BrokenOff(u8);
 
-impl io::Read for BrokenOff {
-    fn read(&mut self, buf: &mut [u8]) -> io::Result<usize> {
+impl ReadCalls for BrokenOff {
+    ghost tells = { false };
+
+    ghost rest = { λ _. [] };
+
+    fn read(&mut self, into: &mut [u8]) -> Result<usize, CallFault> {
         if self.0 > 0 {
             self.0 -= 1;
-            return Err(io::Error::from(io::ErrorKind::Interrupted));
+            return Err(CallFault::Interrupted);
         }
-        Ok(buf.len().min(2))
+        Ok(into.len().min(2))
     }
 }
 
@@ -80,7 +87,7 @@ struct Found {
 
 /// What a new disk finds of a file.
 fn found_at(rt: &HostRuntime, path: &str) -> Found {
-    let mut disk = FileDisk::new(rt);
+    let mut disk = FileDisk::new(SystemFile::new(rt));
     let attached = disk.attach(path);
     let length = disk.len();
     let mut bytes = [0; 3];
@@ -96,7 +103,7 @@ fn found_at(rt: &HostRuntime, path: &str) -> Found {
 #[test]
 fn a_disk_keeps_its_file(rt: HostRuntime) -> Result<(), Fail> {
     let path = path_of(&rt, "disk")?;
-    let mut disk = FileDisk::new(&rt);
+    let mut disk = FileDisk::new(SystemFile::new(&rt));
     let done = [
         disk.attach(path.as_str()),
         disk.write_at(0, b"pooling"),
@@ -122,7 +129,7 @@ fn a_disk_keeps_its_file(rt: HostRuntime) -> Result<(), Fail> {
 #[test]
 fn a_disk_fails_where_nothing_is(rt: HostRuntime) -> Result<(), Fail> {
     let path = path_of(&rt, "none")?;
-    let mut disk = FileDisk::new(&rt);
+    let mut disk = FileDisk::new(SystemFile::new(&rt));
     let unattached = disk.len().is_err();
     let attached = disk.attach(path.as_str());
     let empty = disk.len();

@@ -1,6 +1,9 @@
 //! Sinks in memory and streams, and what is written where one fails.
 
-use edge_io::{MemSink, Sink, SinkFailed, StdSink, WriteFault, write_number, write_whole};
+use edge_io::{
+    Breaks, MemSink, MemStream, Sink, SinkFailed, StdSink, SystemStream, WriteFault, write_number,
+    write_whole,
+};
 use std::fmt::Display;
 use std::io;
 use std::test::Fail;
@@ -70,14 +73,14 @@ fn a_stream_that_takes_nothing_has_failed(rt: HostRuntime) {
         (None, Err(SinkFailed)),
     ] {
         let stream = Stuck(took);
-        let mut sink = StdSink::new(&stream);
+        let mut sink = StdSink::new(SystemStream::new(&stream));
         assert_eq!(rt; sink.write(b"abc"), wrote);
     }
 }
 
 #[test]
 fn standard_output_is_written(rt: HostRuntime) {
-    let mut shown = StdSink::new(rt.stdout());
+    let mut shown = StdSink::new(SystemStream::new(rt.stdout()));
     let wrote = write_whole(&mut shown, b"written to standard output\n");
     assert_eq!(rt; wrote, Ok(()));
 }

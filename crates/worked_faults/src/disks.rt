@@ -3,17 +3,21 @@
 ghost use Rattle.std.specs.Prelude.{IsTrue};
 
 use disk_calls::Disk;
-use disk_model::{MemDisk, WildDisk};
+use disk_model::WildDisk;
 use edge_io::MemSink;
 use std::alloc::{AllocError, Global};
 use std::test::Fail;
 use worked_certificates::FULL;
-use worked_devices::disk_of;
+use worked_devices::{TestDisk, disk_of, file_of, short_disk_of};
 use worked_networks::ONE_DIRECT;
 use worked_runs::{answered, ended_on, explained};
 
-/// How many calls of the disk a run makes on an empty file: attach, sync, len, eight of a birth and four of an entry.
-const CALLS: u64 = 15;
+/// How many calls reach the file in a run on an empty file: three of an attach, sync, len, nine of a birth and four of an entry. One write of a
+/// birth comes in two pieces.
+const CALLS: u64 = 18;
+
+/// How many bytes a call takes at the most there.
+const PIECE: usize = 120;
 
 /// The code of `solve net --journal j` and, behind a space, what it prints.
 fn solved<D: Disk>(alloc: Global, disk: &mut D) -> Result<String, AllocError>
@@ -31,10 +35,12 @@ fn goes_on<D: Disk>(alloc: Global, disk: &mut D) -> Result<bool, AllocError>
 }
 
 /// Whether a run over each image of each moment prints the certificate.
-fn images_go_on(alloc: Global, disk: &MemDisk) -> Result<bool, Fail> {
-    for moment in 0..=disk.moment() {
+fn images_go_on(alloc: Global, disk: &TestDisk) -> Result<bool, Fail> {
+    let file = file_of(disk);
+    for moment in 0..=file.moment() {
         for choice in 0..8 {
-            let mut crashed = MemDisk::new(alloc, disk.image(moment, choice)?);
+            let image = file.image(moment, choice)?;
+            let mut crashed = disk_of(alloc, &[image.as_slice()], 1_000)?;
             if !goes_on(alloc, &mut crashed)? {
                 return Ok(false);
             }
@@ -47,7 +53,7 @@ fn images_go_on(alloc: Global, disk: &MemDisk) -> Result<bool, Fail> {
 fn each_call_that_fails_is_told_and_the_next_run_goes_on(rt: HostRuntime) -> Result<(), Fail> {
     let alloc = rt.alloc();
     for call in 0..CALLS {
-        let mut disk = disk_of(alloc, &[], call)?;
+        let mut disk = short_disk_of(alloc, &[], call, PIECE)?;
         let told = solved(alloc, &mut disk)?;
         assert_eq!(rt; told.as_str(), "22 ", "of {call}");
         assert!(rt; images_go_on(alloc, &disk)?, "of {call}");
@@ -59,10 +65,10 @@ fn each_call_that_fails_is_told_and_the_next_run_goes_on(rt: HostRuntime) -> Res
 #[test]
 fn a_crash_at_any_moment_loses_nothing(rt: HostRuntime) -> Result<(), Fail> {
     let alloc = rt.alloc();
-    let mut disk = disk_of(alloc, &[], CALLS)?;
+    let mut disk = short_disk_of(alloc, &[], CALLS, PIECE)?;
     assert!(rt; goes_on(alloc, &mut disk)?);
-    // Four steps of a birth and two of an entry, a sync behind each, and the sync at the start.
-    assert_eq!(rt; disk.moment(), 13);
+    // Four steps of a birth, one of them in two pieces, and two of an entry, a sync behind each, and the sync at the start.
+    assert_eq!(rt; file_of(&disk).moment(), 14);
     assert!(rt; images_go_on(alloc, &disk)?);
     Ok(())
 }
@@ -102,7 +108,8 @@ const UNBORN: [&[u8]; 6] = [
 fn file_after(alloc: Global, bytes: &[u8]) -> Result<Vec<u8>, Fail> {
     let mut disk = disk_of(alloc, &[bytes], 1_000)?;
     if goes_on(alloc, &mut disk)? {
-        Ok(disk.image(disk.moment(), 0)?)
+        let file = file_of(&disk);
+        Ok(file.image(file.moment(), 0)?)
     } else {
         Ok(Vec::new(alloc))
     }

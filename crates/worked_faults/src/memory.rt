@@ -2,10 +2,10 @@
 //! `tests/refused_memory.py` says more. Where none is refused every run has to end as the first.
 
 use super::sinks::LINE;
-use disk_model::MemDisk;
 use edge_io::MemSink;
 use std::alloc::{AllocError, Global};
 use worked_certificates::{FULL, TREE};
+use worked_devices::{TestDisk, empty_disk};
 use worked_networks::{HAVERLY_1, ONE_DIRECT, TWO_FEEDS};
 use worked_runs::ended_on;
 
@@ -18,7 +18,7 @@ fn code_of(
     asked: &str,
     files: [&str; 2],
     sink: &mut MemSink,
-    disk: &mut MemDisk,
+    disk: &mut TestDisk,
 ) -> Result<u8, AllocError> {
     Ok(ended_on(alloc, asked, files, sink, disk)?.code())
 }
@@ -36,7 +36,7 @@ fn is_told(code: u8, taken: &[u8], text: &[u8]) -> bool {
 
 /// How many of three runs of these words over one disk do not print the text and end with 0; None where one ends as it may not.
 fn refused(alloc: Global, asked: &str, files: [&str; 2], text: &str) -> Option<u32> {
-    let mut disk = MemDisk::new(alloc, Vec::new(alloc));
+    let mut disk = empty_disk(alloc);
     let mut refused: u32 = 0;
     for _ in 0..3 {
         let mut sink = MemSink::new(alloc, Vec::new(alloc));
@@ -67,7 +67,7 @@ fn a_refused_request_is_told_and_the_next_run_goes_on(rt: HostRuntime) {
 /// Whether the check accepts a certificate of the network; true where it finds no memory.
 fn is_accepted(alloc: Global, network: &str, certificate: &str) -> bool {
     let mut line = MemSink::new(alloc, Vec::new(alloc));
-    let mut disk = MemDisk::new(alloc, Vec::new(alloc));
+    let mut disk = empty_disk(alloc);
     let files = [network, certificate];
     match code_of(alloc, "check net cert", files, &mut line, &mut disk) {
         Ok(code) => code == 0 || is_told(code, line.taken(), line.taken()),
@@ -76,7 +76,7 @@ fn is_accepted(alloc: Global, network: &str, certificate: &str) -> bool {
 }
 
 /// Whether a search over this disk prints an accepted certificate; None where it ends as it may not.
-fn goes_on(alloc: Global, disk: &mut MemDisk) -> Option<bool> {
+fn goes_on(alloc: Global, disk: &mut TestDisk) -> Option<bool> {
     let asked = "solve net --journal j --nodes 3";
     let mut sink = MemSink::new(alloc, Vec::new(alloc));
     match code_of(alloc, asked, [HAVERLY_1, ""], &mut sink, disk) {
@@ -93,7 +93,7 @@ fn goes_on(alloc: Global, disk: &mut MemDisk) -> Option<bool> {
 #[test]
 fn a_search_goes_on_where_memory_was_refused(rt: HostRuntime) {
     let alloc = rt.alloc();
-    let mut disk = MemDisk::new(alloc, Vec::new(alloc));
+    let mut disk = empty_disk(alloc);
     let runs = [
         goes_on(alloc, &mut disk),
         goes_on(alloc, &mut disk),

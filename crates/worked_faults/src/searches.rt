@@ -5,7 +5,7 @@ use disk_model::MemDisk;
 use node_journal::{Journal, JournalFault};
 use std::alloc::{AllocError, Global};
 use std::test::Fail;
-use worked_devices::disk_of;
+use worked_devices::{TestDisk, disk_of, file_of};
 use worked_networks::HAVERLY_1;
 use worked_runs::answered;
 
@@ -21,7 +21,7 @@ const TEXT: &[u8] =
 const NEVER: u64 = 1_000;
 
 /// The code of a run of these words over the disk and, behind a space, what it prints.
-fn solved(alloc: Global, asked: &str, disk: &mut MemDisk) -> Result<String, AllocError> {
+fn solved(alloc: Global, asked: &str, disk: &mut TestDisk) -> Result<String, AllocError> {
     answered(alloc, asked, [HAVERLY_1, ""], disk)
 }
 
@@ -47,7 +47,8 @@ struct Unbroken {
 fn whole_run(alloc: Global, asked: &str) -> Result<Unbroken, Fail> {
     let mut disk = disk_of(alloc, &[], NEVER)?;
     let answer = solved(alloc, asked, &mut disk)?;
-    let file = disk.image(disk.moment(), 0)?;
+    let file = file_of(&disk);
+    let file = file.image(file.moment(), 0)?;
     let entries = entries_of(alloc, &file)?;
     Ok(Unbroken { answer, entries })
 }
@@ -63,7 +64,7 @@ fn goes_on(
     let found = entries_of(alloc, &image)?;
     let more = found.lines().count().wrapping_sub(least);
     let held = whole.entries.as_str().starts_with(found.as_str()) && more <= 1;
-    let mut disk = MemDisk::new(alloc, image);
+    let mut disk = disk_of(alloc, &[image.as_slice()], NEVER)?;
     let answer = solved(alloc, asked, &mut disk)?;
     Ok(held && answer.as_str() == whole.answer.as_str())
 }
@@ -85,10 +86,11 @@ fn images(disk: &MemDisk) -> Result<u64, Fail> {
 fn goes_on_after(alloc: Global, asked: &str, whole: &Unbroken, call: u64) -> Result<bool, Fail> {
     let mut disk = disk_of(alloc, &[], call)?;
     let stopped = solved(alloc, asked, &mut disk)?.as_str() == "22 ";
-    // Eleven calls come before the first entry, and each entry takes four.
-    let least = (call.saturating_sub(11) / 4) as usize;
-    for choice in 0..images(&disk)? {
-        let image = disk.image(disk.moment(), choice)?;
+    // Thirteen calls come before the first entry, and each entry takes four.
+    let least = (call.saturating_sub(13) / 4) as usize;
+    let file = file_of(&disk);
+    for choice in 0..images(file)? {
+        let image = file.image(file.moment(), choice)?;
         if !goes_on(alloc, asked, whole, image, least)? {
             return Ok(false);
         }
@@ -110,6 +112,6 @@ fn goes_on_from_each(alloc: Global, asked: &str, calls: u64) -> Result<bool, Fai
 #[test]
 fn a_search_goes_on_from_every_image_of_every_call(rt: HostRuntime) -> Result<(), Fail> {
     let asked = "solve net --nodes 3 --gap 0 --journal j";
-    assert!(rt; goes_on_from_each(rt.alloc(), asked, 27)?);
+    assert!(rt; goes_on_from_each(rt.alloc(), asked, 29)?);
     Ok(())
 }

@@ -1,10 +1,10 @@
 //! Runs over a sink that takes so many bytes and no more, for every number of bytes below the text's length.
 
-use disk_model::MemDisk;
 use edge_io::MemSink;
 use std::alloc::Global;
 use std::test::Fail;
 use worked_certificates::FULL;
+use worked_devices::empty_disk;
 use worked_networks::ONE_DIRECT;
 use worked_runs::{ended_on, told};
 
@@ -23,7 +23,7 @@ const PROGRAM: &str =
 /// How a run ends over a sink with room for so many bytes: its code and, behind a space, what the sink has then.
 fn cut(alloc: Global, asked: &str, room: u64) -> Result<String, Fail> {
     let mut sink = MemSink::limit(alloc, room)?;
-    let mut disk = MemDisk::new(alloc, Vec::new(alloc));
+    let mut disk = empty_disk(alloc);
     let status = ended_on(alloc, asked, [ONE_DIRECT, FULL], &mut sink, &mut disk)?;
     Ok(told(alloc, status.code(), &sink)?)
 }

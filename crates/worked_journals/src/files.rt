@@ -6,12 +6,11 @@ ghost use Rattle.journal_format.specs.Payload.{IsNarrow};
 
 use box_tree::Entry;
 use disk_calls::Disk;
-use disk_model::MemDisk;
 use node_journal::{Journal, JournalFault, payload_len};
 use plan_core::WrittenPlan;
 use std::alloc::{AllocError, Global};
 use std::test::Fail;
-use worked_devices::disk_of;
+use worked_devices::{TestDisk, disk_of, file_of};
 use worked_networks::CANONICAL_ONE_DIRECT as TEXT;
 
 /// How long a payload may be here.
@@ -46,7 +45,7 @@ fn record<D: Disk>(alloc: Global, disk: &mut D) -> Result<(), JournalFault>
     let entry = ships_all(alloc)?;
     disk.attach("journal")?;
     let mut opened = Journal::open(alloc, disk, TEXT, LARGEST)?;
-    if payload_len(&entry) > u64::from(LARGEST) {
+    if payload_len(&entry) > u64::from(LARGEST) || opened.journal.needs_turn() {
         return Err(JournalFault::Memory);
     }
     opened.journal.append(disk, &entry)?;
@@ -54,7 +53,7 @@ fn record<D: Disk>(alloc: Global, disk: &mut D) -> Result<(), JournalFault>
 }
 
 /// Whether each image of a moment opens as a journal of at least so many entries, and of one at the most.
-fn holds(alloc: Global, disk: &MemDisk, moment: u64, least: usize) -> bool {
+fn holds(alloc: Global, disk: &TestDisk, moment: u64, least: usize) -> bool {
     for choice in 0..32 {
         match entries_of(alloc, disk, moment, choice) {
             Ok(count) if least <= count && count <= 1 => {}
@@ -67,11 +66,11 @@ fn holds(alloc: Global, disk: &MemDisk, moment: u64, least: usize) -> bool {
 /// How many entries the journal has that is on an image.
 fn entries_of(
     alloc: Global,
-    disk: &MemDisk,
+    disk: &TestDisk,
     moment: u64,
     choice: u64,
 ) -> Result<usize, JournalFault> {
-    let Ok(image) = disk.image(moment, choice) else {
+    let Ok(image) = file_of(disk).image(moment, choice) else {
         return Err(JournalFault::Memory);
     };
     let mut disk = disk_of(alloc, &[image.as_slice()], 100)?;
@@ -79,23 +78,23 @@ fn entries_of(
 }
 
 /// Whether a run that is stopped in this call leaves no part of an entry: at each moment there is one or none, and one at the end of a
-/// run that is not stopped, which makes 15 calls.
+/// run that is not stopped, which makes 17 calls.
 fn is_whole(alloc: Global, call: u64) -> Result<bool, Fail> {
     let mut disk = disk_of(alloc, &[], call)?;
     let recorded = record(alloc, &mut disk).is_ok();
-    let last = disk.moment();
+    let last = file_of(&disk).moment();
     for moment in 0..last {
         if !holds(alloc, &disk, moment, 0) {
             return Ok(false);
         }
     }
     let least = if recorded { 1 } else { 0 };
-    Ok(recorded == (call == 15) && holds(alloc, &disk, last, least))
+    Ok(recorded == (call == 17) && holds(alloc, &disk, last, least))
 }
 
 #[test]
 fn a_stop_in_any_call_leaves_no_part_of_an_entry(rt: HostRuntime) -> Result<(), Fail> {
-    for call in 0..16 {
+    for call in 0..18 {
         assert!(rt; is_whole(rt.alloc(), call)?, "in call {call}");
     }
     Ok(())

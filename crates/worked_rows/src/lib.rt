@@ -1,5 +1,5 @@
-//! Every row of worked networks, the halves of a box, and what multipliers on rows show, against figures and rows that were written by
-//! hand.
+//! Every row of worked networks, the halves of a box, what multipliers on rows show, and which points are witnesses for a bound,
+//! against figures and rows that were written by hand.
 //!
 //! The texts of exact programs are tried in `tests/worked_cases.py`.
 #![tactic(auto)]
@@ -12,3 +12,5 @@ mod halves;
 mod rows;
 #[cfg(test)]
 mod values;
+#[cfg(test)]
+mod witnesses;

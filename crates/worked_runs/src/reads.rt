@@ -1,11 +1,11 @@
 //! `check` over a shelf that fails.
 
 use super::runs::{ended, shelf_of, told};
-use disk_model::MemDisk;
 use edge_io::MemSink;
 use std::alloc::{AllocError, Global};
 use std::test::Fail;
 use worked_certificates::FULL;
+use worked_devices::empty_disk;
 use worked_networks::ONE_DIRECT;
 
 /// What `check` answers on a certificate of 160 bytes in pieces of 7, where each call of the shelf fails in its turn: the network, the
@@ -16,7 +16,7 @@ fn failing_calls(alloc: Global, certificate: &str) -> Result<String, AllocError>
         let mut shelf = shelf_of(alloc, [ONE_DIRECT, certificate], failing)?;
         shelf.pieces(7);
         let mut sink = MemSink::new(alloc, Vec::new(alloc));
-        let mut disk = MemDisk::new(alloc, Vec::new(alloc));
+        let mut disk = empty_disk(alloc);
         let status = ended(alloc, "check net cert", &mut shelf, &mut sink, &mut disk)?;
         answers.push_str(&told(alloc, status.code(), &sink)?)?;
     }

@@ -3,14 +3,14 @@
 ghost use Rattle.std.specs.Prelude.{IsTrue};
 
 use disk_calls::Disk;
-use disk_model::MemDisk;
 use edge_io::MemSink;
 use pool_cli::{Status, run, write_message};
 use shelf_calls::MemShelf;
 use std::alloc::{AllocError, Global};
+use worked_devices::empty_disk;
 
 /// Words, parted at each space.
-fn words_of(alloc: Global, line: &str) -> Result<Vec<String>, AllocError> {
+pub(crate) fn words_of(alloc: Global, line: &str) -> Result<Vec<String>, AllocError> {
     let mut words = Vec::new(alloc);
     for word in line.trim_end().split(' ') {
         words.push(String::from_str(alloc, word)?)?;
@@ -72,7 +72,7 @@ pub fn answered<D: Disk>(
 
 /// The same over an empty disk.
 pub fn answer(alloc: Global, line: &str, files: [&str; 2]) -> Result<String, AllocError> {
-    let mut disk = MemDisk::new(alloc, Vec::new(alloc));
+    let mut disk = empty_disk(alloc);
     answered(alloc, line, files, &mut disk)
 }
 

@@ -9,12 +9,12 @@ use Rattle.cert_checker.proofs.checking.check.Goals as goal
 pub returns-in-Ok-clause-accepted : goal.returns-in-Ok-clause-accepted
 returns-in-Ok-clause-accepted c =
     let told : Some c.new-shelf.result.rest.now ≡ Some c.args.bytes.now = ap (λ (x : List ℕ). Some x) c.new-shelf.ensures.rest in
-    (text-answer (net_of c.args.net.now) c.args.bytes.now (Some c.new-shelf.result.rest.now) (length c.args.bytes.now) (Ok c.in-Ok.verdict) told c.in-Ok.ensures.checked).0
+    (text-answer (net_of c.args.net.now) c.args.bytes.now (Some c.new-shelf.result.rest.now) (length c.args.bytes.now) (Ok c.in-Ok.claim) told c.in-Ok.ensures.checked).0
 
 pub returns-in-Ok-clause-follows : goal.returns-in-Ok-clause-follows
 returns-in-Ok-clause-follows c =
     let told : Some c.new-shelf.result.rest.now ≡ Some c.args.bytes.now = ap (λ (x : List ℕ). Some x) c.new-shelf.ensures.rest in
-    (text-answer (net_of c.args.net.now) c.args.bytes.now (Some c.new-shelf.result.rest.now) (length c.args.bytes.now) (Ok c.in-Ok.verdict) told c.in-Ok.ensures.checked).1
+    (text-answer (net_of c.args.net.now) c.args.bytes.now (Some c.new-shelf.result.rest.now) (length c.args.bytes.now) (Ok c.in-Ok.claim) told c.in-Ok.ensures.checked).1
 
 pub returns-in-Ok-clause-valid : goal.returns-in-Ok-clause-valid
 returns-in-Ok-clause-valid c = λ cert spelled valid.

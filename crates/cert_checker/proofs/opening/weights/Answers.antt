@@ -47,7 +47,7 @@ returns-in_err-push g c =
     let k : Moment = moment c.loop.reader (g.S.Shelf.told c.loop.shelf) in
     let l : Moment = moment c.weight.new.reader (g.S.Shelf.told c.weight.new.shelf) in
     let p = err_from_is_err_and c.from_residual-in_err-push.result c.from_residual-in_err-push.ensures.1 in
-    rw (p.1, p.2) (memory-halts Never m l (run-then m k l _ _ c.loop.invariant.2.run c.in_ok-weight.ensures.0).kept)
+    rw (p.1, p.2) (memory-halts Never m l _ (run-then m k l _ _ c.loop.invariant.2.run c.in_ok-weight.ensures.0))
 
 pub loop-preserved : goal.loop-preserved
 loop-preserved g c =

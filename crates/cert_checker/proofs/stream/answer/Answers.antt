@@ -31,7 +31,7 @@ returns-in_ok-check_claim-in-Ok g c =
     let n : Net = net_of c.args.net.now in
     let m : Moment = moment c.args.reader.now (g.S.Shelf.told c.args.shelf.now) in
     let q : Moment = moment c.walk.new.reader (g.S.Shelf.told c.walk.new.shelf) in
-    λ most new. valid-answered n most m q c.in-Ok.found new c.in-Ok.ensures.walked _ c.in-Ok.ensures.limited c.in_ok-check_claim-in-Ok.ensures.verdict c.in_ok-check_claim-in-Ok.ensures.claimed
+    λ most new. valid-answered n most m q c.in-Ok.found new c.in-Ok.ensures.walked c.in-Ok.ensures.limited c.in_ok-check_claim-in-Ok.ensures.claimed
 
 pub returns-in-Err : goal.returns-in-Err
 returns-in-Err g c =

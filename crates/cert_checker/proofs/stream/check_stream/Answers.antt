@@ -25,6 +25,9 @@ returns-in_err-reader-clause-read g c =
     let r = err_from_is_err_and c.from_residual.result c.from_residual.ensures.1 in
     rw (r.1, r.2) (λ e. absurd cc)
 
+pub returns-in_err-reader-clause-quiet : goal.returns-in_err-reader-clause-quiet
+returns-in_err-reader-clause-quiet g c = inr refl
+
 pub returns-in_err-reader-clause-no_memory_refusal : goal.returns-in_err-reader-clause-no_memory_refusal
 returns-in_err-reader-clause-no_memory_refusal g c =
     let r = err_from_is_err_and c.from_residual.result c.from_residual.ensures.1 in
@@ -45,6 +48,9 @@ returns-clause-too_long g c = let is = c.answer.ensures c.args.most c.in_ok-read
 
 pub returns-clause-read : goal.returns-clause-read
 returns-clause-read g c = let is = c.answer.ensures c.args.most c.in_ok-reader.ensures in is.read
+
+pub returns-clause-quiet : goal.returns-clause-quiet
+returns-clause-quiet g c = let is = c.answer.ensures c.args.most c.in_ok-reader.ensures in is.quiet
 
 pub returns-clause-no_memory_refusal : goal.returns-clause-no_memory_refusal
 returns-clause-no_memory_refusal g c = let is = c.answer.ensures c.args.most c.in_ok-reader.ensures in is.no_memory_refusal

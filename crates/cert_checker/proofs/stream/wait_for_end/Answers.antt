@@ -23,7 +23,7 @@ returns-in-Ok g c =
     let k : Moment = moment c.args.reader.now (g.S.Shelf.told c.args.shelf.now) in
     let q : Moment = moment c.finish.new.self (g.S.Shelf.told c.finish.new.shelf) in
     λ n m most new halts. finish-answered n most m k q c.args.cause (Ok tt) new halts c.in_default.not-Text c.finish.ensures.kept c.in-Ok.ensures.finished (λ f x. absurd cc) (λ x. absurd cc)
-    (λ x. absurd cc) (λ x. absurd cc)
+    (λ x. absurd cc) (λ x. absurd cc) c.in-Ok.ensures.quiet
 
 pub returns-in-Err : goal.returns-in-Err
 returns-in-Err g c =
@@ -31,4 +31,4 @@ returns-in-Err g c =
     let q : Moment = moment c.finish.new.self (g.S.Shelf.told c.finish.new.shelf) in
     let fails = c.in-Err.ensures in
     rw c.from.ensures (λ n m most new halts. finish-answered n most m k q c.args.cause
-    (Err c.in-Err.fault) new halts c.in_default.not-Text c.finish.ensures.kept tt fails.text fails.too_long fails.took_more fails.read)
+    (Err c.in-Err.fault) new halts c.in_default.not-Text c.finish.ensures.kept tt fails.text fails.too_long fails.took_more fails.read fails.quiet)

@@ -43,7 +43,7 @@ returns-in_err-push-in-Ok g c =
     let n : Net = net_of c.args.net.now in
     let count = c.in_ok-count.count in
     let p = err_from_is_err_and c.from_residual-in_err-push-in-Ok.result c.from_residual-in_err-push-in-Ok.ensures.1 in
-    rw (p.1, p.2) (λ kind at. memory-halts (IsWrongSplitList n) m l (run-then m j l _ _ (c.loop-t.invariant kind at).run c.in_ok-split.ensures.0).kept)
+    rw (p.1, p.2) (λ kind at. memory-halts (IsWrongSplitList n) m l _ (run-then m j l _ _ (c.loop-t.invariant kind at).run c.in_ok-split.ensures.0))
 
 pub returns-in-Err : goal.returns-in-Err
 returns-in-Err g c =

@@ -1,11 +1,21 @@
-use Rattle.std.proofs.Common.{Option, subst, sym}
-use Rattle.run_status.specs.Reads.{Files, ReadsUnder}
-use Rattle.certificate_commands.specs.ReportEnds.{ReportEnds, report_status}
+use Rattle.std.proofs.Common.{inl, inr, refl, sym, ap, subst}
+use Rattle.run_status.specs.declared.status.Status.{Status}
+use Rattle.run_status.specs.declared.status.Status.TheVariants.{ReadFault, WriteFault}
+use Rattle.certificate_commands.specs.CheckEnds.{CheckEnds, JudgesAs, check_status}
+use Rattle.certificate_commands.specs.declared.judging.Telling.TheVariants.{Report}
+use Rattle.certificate_commands.specs.ReportEnds.{as_check}
+use Rattle.certificate_commands.proofs.Reported.{as_check-twice, same-status, took-report}
 use Rattle.certificate_commands.proofs.reporting.report.Goals as goal
 
-pub returns-in-Ok-clause-ends : goal.returns-in-Ok-clause-ends
-returns-in-Ok-clause-ends g c =
-    let reads = subst (λ (f : Option Files). ReadsUnder f c.args.net.now c.in-Ok.network) (sym c.network_under.ensures.kept.same_files) c.in-Ok.ensures.reads in
-    subst (λ (f : Option Files). ReportEnds f c.args.net.now c.args.cert.now (g.S.Shelf.told c.args.shelf.now).taken
-    (g.S.Shelf.told c.report_file.new.shelf).taken (report_status c.report_file.result)) c.network_under.ensures.kept.same_files
-    (c.report_file.ensures.ends c.args.net.now (g.S.Shelf.told c.args.shelf.now).taken reads c.network_under.ensures.kept.taken_grows)
+pub returns : goal.returns
+returns g c =
+    let files = (g.S.Shelf.told c.args.shelf.now).files in
+    let status = check_status c.judge.result in
+    record {
+      took = took-report (JudgesAs Report files c.args.net.now c.args.cert.now) c.judge.result (g.K.Sink.taken c.args.out.now) (g.K.Sink.taken c.judge.new.out) c.judge.ensures.took;
+      ends = subst (λ (s : Status). CheckEnds files c.args.net.now c.args.cert.now (g.S.Shelf.told c.args.shelf.now).taken (g.S.Shelf.told c.judge.new.shelf).taken s)
+          (sym (as_check-twice status)) c.judge.ensures.ends;
+      read_fault = λ e. c.judge.ensures.read_fault (same-status status ReadFault refl e);
+      quiet = elim c.judge.ensures.quiet [ inl e ↦ inl (ap as_check e) | inr same ↦ inr same ];
+      write_fault = λ e. c.judge.ensures.write_fault (same-status status WriteFault refl e);
+    }

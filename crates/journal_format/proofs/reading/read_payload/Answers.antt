@@ -4,4 +4,4 @@ use Rattle.journal_format.proofs.RecordLaws.{read_spells}
 use Rattle.journal_format.proofs.reading.read_payload.Goals as goal
 
 pub returns-clause-spelled : goal.returns-clause-spelled
-returns-clause-spelled c = read_spells shown_entry c.args.bytes.now c.whole.result (λ i. omega (arith, c.type_inv.bytes i)) c.whole.ensures
+returns-clause-spelled c = read_spells c.args.version shown_entry c.args.bytes.now c.whole.result (λ i. omega (arith, c.type_inv.bytes i)) c.whole.ensures

@@ -15,6 +15,11 @@ write_synced-requires-2 g c = λ tells.
     let d = c.in_ok-write_synced.ensures.on_disk (0 ∷ []) was.read in
     reaches-known (g.D.Disk.told c.write_synced.new.disk).reads (written (0 ∷ []) 1 c.args.behind.now) 0 d.read (omega arith)
 
+pub returns-in_err-write_synced-clause-any_moment : goal.returns-in_err-write_synced-clause-any_moment
+returns-in_err-write_synced-clause-any_moment g c = λ text d is.
+    leaves-weaker (g.D.Disk.told c.args.disk.now) (g.D.Disk.told c.write_synced.new.disk) (Torn 1 (length c.args.behind.now) (0 ∷ [])) (IsOwnFor text [])
+    (λ k torn. torn_tail text (length c.args.behind.now) k torn) (c.write_synced.ensures.any_moment (0 ∷ []) d.only)
+
 pub returns-clause-on_disk : goal.returns-clause-on_disk
 returns-clause-on_disk g c =
     on_ok_weaker c.write_synced-2.result

@@ -1,7 +1,8 @@
-use Rattle.std.proofs.Common.{[], List, ℕ, subst}
+use Rattle.std.proofs.Common.{[], List, ℕ, sym, subst}
 use Rattle.disk_calls.specs.Disks.{Torn}
-use Rattle.disk_calls.proofs.Moments.{leaves-weaker}
+use Rattle.disk_calls.proofs.Moments.{started, leaves-weaker}
 use Rattle.journal_format.specs.Files.{IsOwnFor, SaysZeroed}
+use Rattle.journal_format.proofs.OwnFiles.{unborn-stands}
 use Rattle.node_journal.specs.Settled.{IsOnDisk}
 use Rattle.node_journal.proofs.Births.{torn_first, zeroed_first}
 use Rattle.node_journal.proofs.birth.unmark.Goals as goal
@@ -16,3 +17,7 @@ returns-clause-any_moment g c = λ text file d unborn own.
     let says = subst (λ b. SaysZeroed b file) c.if-zeroed.false (c.requires.zeroed file d.read) in
     leaves-weaker (g.D.Disk.told c.args.disk.now) (g.D.Disk.told c.write_synced.new.disk) (Torn 0 1 file) (IsOwnFor text [])
     (λ k torn. torn_first text file k unborn own says torn) (c.write_synced.ensures.any_moment file d.only)
+
+pub returns-then-zeroed-clause-any_moment : goal.returns-then-zeroed-clause-any_moment
+returns-then-zeroed-clause-any_moment g c = λ text file d unborn own.
+    started (g.D.Disk.told c.args.disk.now) (IsOwnFor text []) (λ k now. subst (IsOwnFor text []) (sym (d.only k now)) (own, unborn-stands text file unborn))

@@ -5,5 +5,5 @@ use Rattle.node_journal.proofs.records.next_record.Goals as goal
 
 pub returns-in-CutShort-clause-read : goal.returns-in-CutShort-clause-read
 returns-in-CutShort-clause-read g c = λ file is size.
-    let opens = subst (Opens (drop c.args.at file)) c.in-CutShort.is (c.in_ok-opening_at.ensures.opens file is size) in
-    inr (refl, bad_cut (length c.args.room.now) (drop c.args.at file) opens)
+    let opens = subst (Opens (drop c.args.spot.at file)) c.in-CutShort.is (c.in_ok-opening_at.ensures.opens file is size) in
+    inr (refl, bad_cut c.args.spot.version (length c.args.room.now) (drop c.args.spot.at file) opens)

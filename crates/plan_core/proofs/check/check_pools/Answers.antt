@@ -1,4 +1,4 @@
-use Rattle.std.proofs.Common.{ℕ, ◌<◌, List, get_or, refl, subst, rules, FitsSigned, below_more}
+use Rattle.std.proofs.Common.{get_or, refl, rules, FitsSigned, below_more, arith}
 use mir.Syntax.{w64}
 use Rattle.pool_model.specs.Network.{net_of}
 use Rattle.plan_core.specs.Views.{shown_plan}
@@ -9,13 +9,12 @@ pub returns-then-room-through-clause-first : goal.returns-then-room-through-clau
 returns-then-room-through-clause-first c =
     let n = net_of c.args.net.now in
     let l = c.loop-pool.pool in
-    let among : l < n.pools = subst (λ (xs : List ℕ). l < get_or xs 1 0) c.counts.ensures.counts c.loop-pool-test.true in
     let fits : FitsSigned w64 c.pool_max.result = search rules in
     let room = room_is c.room.result c.from.result c.args.plan.now.flow_base (n.pool_max l) c.pool_max.result c.room.ensures c.from.ensures c.pool_max.ensures fits in
     record {
       at = l;
       is = refl;
-      has = (among, pool_over n (shown_plan c.args.plan.now) l c.room.result (get_or c.args.through.now l 0) room (c.requires.through l among) c.requires.shaped.base.0 c.if-room-through.true);
+      has = (omega arith, pool_over n (shown_plan c.args.plan.now) l c.room.result (get_or c.args.through.now l 0) room (c.requires.through l (omega arith)) c.requires.shaped.base.0 c.if-room-through.true);
       first = c.loop-pool.invariant;
     }
 
@@ -23,8 +22,7 @@ pub loop-pool-preserved : goal.loop-pool-preserved
 loop-pool-preserved c =
     let n = net_of c.args.net.now in
     let l = c.loop-pool.pool in
-    let among : l < n.pools = subst (λ (xs : List ℕ). l < get_or xs 1 0) c.counts.ensures.counts c.loop-pool-test.true in
     let fits : FitsSigned w64 c.pool_max.result = search rules in
     let room = room_is c.room.result c.from.result c.args.plan.now.flow_base (n.pool_max l) c.pool_max.result c.room.ensures c.from.ensures c.pool_max.ensures fits in
     below_more _ _ c.loop-pool.invariant
-    (λ broken. pool_within n (shown_plan c.args.plan.now) l c.room.result (get_or c.args.through.now l 0) room (c.requires.through l among) c.if-room-through.false broken.1)
+    (λ broken. pool_within n (shown_plan c.args.plan.now) l c.room.result (get_or c.args.through.now l 0) room (c.requires.through l (omega arith)) c.if-room-through.false broken.1)

@@ -1,27 +1,13 @@
-use Rattle.std.proofs.Common.{◌≡◌, ℕ, List, ◌<◌, ◌^◌, ◌+◌, ◌*◌, get_or, length, arith, ap, ◌∙◌, length-set, subst}
+use Rattle.std.proofs.Common.{◌^◌, ◌+◌, ◌*◌, arith, ◌∙◌}
 use Rattle.pool_model.specs.Network.{net_of}
 use Rattle.pool_model.specs.Plan.{weight}
 use Rattle.plan_core.specs.Views.{shown_plan}
-use Rattle.plan_core.proofs.Tables.{added_first, added_size}
+use Rattle.plan_core.proofs.Tables.{first_more}
 use Rattle.plan_core.proofs.sums.weight_sums.Goals as goal
 
 pub loop-feed-preserved : goal.loop-feed-preserved
 loop-feed-preserved c =
     let n = net_of c.args.net.now in
-    let w = shown_plan c.args.plan.now in
-    let arc = c.loop-feed.feed in
-    let at = c.feed-pool.result.1 in
-    let table = c.loop-feed.sums in
-    let limited = c.counts.ensures.limited in
-    let among : arc < n.feeds = subst (λ (xs : List ℕ). arc < get_or xs 4 0) c.counts.ensures.counts c.loop-feed-test.true in
-    let within : at < length table = omega (arith, c.feed-pool.ensures.pool, limited.feed_pools arc among, limited.pools, c.loop-feed.invariant.long) in
-    let flow : c.from.result ≡ weight w arc = c.from.ensures ∙ c.weight.ensures in
-    record {
-      long = length-set table at _ ∙ c.loop-feed.invariant.long;
-      exact = added_first n.feed_pool (weight w) arc at _ n.pools table within c.feed-pool.ensures.pool c.loop-feed.invariant.exact (ap (λ z. get_or table at 0 + z) flow);
-      size = λ i. omega (
-        arith,
-        added_size at (get_or table at 0 + c.from.result) (2 ^ 32 * arc) (2 ^ 32) c.from.result table within c.loop-feed.invariant.size
-            (omega arith) (omega (arith, c.from.ensures, c.weight.type_inv)) i,
-      );
-    }
+    let feed = c.loop-feed.feed in
+    first_more n.feed_pool (weight (shown_plan c.args.plan.now)) feed c.feed-pool.result.1 n.pools 16 (2 ^ 32 * feed) (2 ^ 32 * (feed + 1)) c.from.result (2 ^ 32) c.loop-feed.sums c.loop-feed.invariant
+    c.feed-pool.ensures.pool c.feed-pool.ensures.known_pool c.sizes-counts.ensures.limited.pools (c.from.ensures ∙ c.weight.ensures) (omega (arith, c.from.ensures, c.weight.type_inv)) (omega arith)

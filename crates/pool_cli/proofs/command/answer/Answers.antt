@@ -12,7 +12,7 @@ use Rattle.certificate_commands.specs.ReportEnds.{report_status}
 use Rattle.pool_cli.specs.FormulateEnds.{formulate_status}
 use Rattle.pool_cli.specs.MakeEnds.{make_status}
 use Rattle.pool_cli.specs.TrialEnds.{trial_status}
-use Rattle.pool_cli.proofs.Commands.{ends_as, journals_as, took_as}
+use Rattle.pool_cli.proofs.Commands.{ends_as, journals_as, quiet_as, took_as}
 use Rattle.pool_cli.proofs.command.answer.Goals as goal
 
 -- ---- what the commands may ask for
@@ -61,6 +61,9 @@ returns-in-Solve-clause-journal g c = λ tells.
     (λ status s. Journaled (g.S.Shelf.told c.args.shelf.now).files s old new status (λ k. g.K.Sink.taken c.solve.new.out ≡ behind (g.K.Sink.taken c.args.out.now) (text_of k)))
     (λ file named. c.solve.ensures.journal file named tells)
 
+pub returns-in-Solve-clause-quiet : goal.returns-in-Solve-clause-quiet
+returns-in-Solve-clause-quiet g c = quiet_as c.from.ensures c.solve.ensures.quiet
+
 -- ---- check
 
 pub returns-in-Check-clause-took : goal.returns-in-Check-clause-took
@@ -74,6 +77,9 @@ returns-in-Check-clause-ends g c =
     ends_as (shown_request c.args.request) (check c.as_str.result.now c.as_str-in-Check.result.now) c.from-in-Check.result (check_status c.check.result)
     (ap shown_request c.in-Check.is ∙ ap₂ check (sym c.as_str.ensures.value) (sym c.as_str-in-Check.ensures.value)) c.from-in-Check.ensures
     (g.S.Shelf.told c.args.shelf.now).files (g.S.Shelf.told c.args.shelf.now).taken (g.S.Shelf.told c.check.new.shelf).taken c.check.ensures.ends
+
+pub returns-in-Check-clause-quiet : goal.returns-in-Check-clause-quiet
+returns-in-Check-clause-quiet g c = quiet_as c.from-in-Check.ensures c.check.ensures.quiet
 
 -- ---- report
 
@@ -89,6 +95,9 @@ returns-in-Report-clause-ends g c =
     (ap shown_request c.in-Report.is ∙ ap₂ report (sym c.as_str-in-Report.ensures.value) (sym c.as_str-in-Report-2.ensures.value)) c.from-in-Report.ensures
     (g.S.Shelf.told c.args.shelf.now).files (g.S.Shelf.told c.args.shelf.now).taken (g.S.Shelf.told c.report.new.shelf).taken c.report.ensures.ends
 
+pub returns-in-Report-clause-quiet : goal.returns-in-Report-clause-quiet
+returns-in-Report-clause-quiet g c = quiet_as c.from-in-Report.ensures c.report.ensures.quiet
+
 -- ---- formulate
 
 pub returns-in-Formulate-clause-took : goal.returns-in-Formulate-clause-took
@@ -102,6 +111,9 @@ returns-in-Formulate-clause-ends g c =
     ends_as (shown_request c.args.request) (formulate c.as_str-in-Formulate.result.now c.in-Formulate.form) c.from-in-Formulate.result (formulate_status c.formulate.result)
     (ap shown_request c.in-Formulate.is ∙ ap (λ n. formulate n c.in-Formulate.form) (sym c.as_str-in-Formulate.ensures.value)) c.from-in-Formulate.ensures
     (g.S.Shelf.told c.args.shelf.now).files (g.S.Shelf.told c.args.shelf.now).taken (g.S.Shelf.told c.formulate.new.shelf).taken c.formulate.ensures.ends
+
+pub returns-in-Formulate-clause-quiet : goal.returns-in-Formulate-clause-quiet
+returns-in-Formulate-clause-quiet g c = quiet_as c.from-in-Formulate.ensures c.formulate.ensures.quiet
 
 -- ---- make
 

@@ -1,5 +1,5 @@
 -- The lines, one after another, and the nodes behind the last.
-use Rattle.std.proofs.Common.{◌≡◌, ◌≤◌, ℕ, List, length, sym, ap, subst, ◌∙◌, arith, rules, FitsSigned, to_z-of_z}
+use Rattle.std.proofs.Common.{◌≡◌, ◌≤◌, ℕ, List, [], length, sym, ap, subst, ◌∙◌, arith, rules, FitsSigned, to_z-of_z}
 use mir.Syntax.{w128}
 use Rattle.std.proofs.lemmas.Result.{err_from_is_err_and}
 use Rattle.pool_model.specs.Network.{Net, net_of}
@@ -11,8 +11,7 @@ use Rattle.proof_lines.specs.Lines.{AreLinesTaken}
 use Rattle.proof_lines.specs.Parts.{IsWrongLineList}
 use Rattle.proof_lines.specs.Runs.{Moment, moment}
 use Rattle.proof_lines.proofs.Judged.{lines-none, lines-all}
-use Rattle.shelf_calls.proofs.Keeping.{keeps-same}
-use Rattle.proof_lines.proofs.Running.{memory-halts}
+use Rattle.proof_lines.proofs.Running.{memory-halts, run-none}
 use Rattle.proof_lines.proofs.line_judge.node_bounds.Goals as goal
 
 pub loop-k-init : goal.loop-k-init
@@ -38,7 +37,7 @@ returns-in_err-judge g c =
     let n : Net = net_of c.args.net.now in
     let m : Moment = moment c.args.reader.now (g.S.Shelf.told c.args.shelf.now) in
     let p = err_from_is_err_and c.from_residual.result c.from_residual.ensures.1 in
-    rw (p.1, p.2, c.in_err-judge.ensures.memory) (λ kind at. memory-halts (IsWrongLineList n c.args.tree.now.list c.args.count) m m (keeps-same m.shelf))
+    rw (p.1, p.2, c.in_err-judge.ensures.memory) (λ kind at. memory-halts (IsWrongLineList n c.args.tree.now.list c.args.count) m m [] (run-none m c.requires.asks.1.used_up))
 
 pub returns-in_err-least : goal.returns-in_err-least
 returns-in_err-least g c =
@@ -66,7 +65,7 @@ returns-in_err-go_on g c =
     let m : Moment = moment c.args.reader.now (g.S.Shelf.told c.args.shelf.now) in
     let q : Moment = moment c.loop-k.reader (g.S.Shelf.told c.loop-k.shelf) in
     let p = err_from_is_err_and c.from_residual-in_err-go_on.result c.from_residual-in_err-go_on.ensures.1 in
-    rw (p.1, p.2) (λ kind at. memory-halts (IsWrongLineList n c.args.tree.now.list c.args.count) m q (c.loop-k.invariant.6 kind at).run.kept)
+    rw (p.1, p.2) (λ kind at. memory-halts (IsWrongLineList n c.args.tree.now.list c.args.count) m q _ (c.loop-k.invariant.6 kind at).run)
 
 pub returns : goal.returns
 returns g c =

@@ -9,4 +9,4 @@ returns g c =
     let k : Moment = moment c.next_item.new.self (g.S.Shelf.told c.next_item.new.shelf) in
     let e = c.next_item.ensures in
     call-came m k c.next_item.result c.requires.going c.requires.used_up e.kept
-    e.item e.counted e.text e.too_long e.took_more e.read
+    e.item e.counted e.text e.too_long e.took_more e.read e.quiet

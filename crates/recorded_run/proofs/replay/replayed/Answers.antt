@@ -38,7 +38,7 @@ returns-in-Err-clause-fault c =
     let turn = YieldsList-turn road c.loop-entry.yielded _ c.loop-entry.yielded_by _ c.next.new.self c.in-Some.entry c.in-Some.is c.next.ensures.steps in
     let parts = split_here shown_entry items c.loop-entry.yielded c.in-Some.entry so_far turn.0 turn.1 in
     rw c.refusal_at.ensures
-    (refused-fault n (map shown_entry items) c.loop-entry.number c.in-Err.fault
+    (refused-fault n (map shown_entry items) c.args.turn_at c.loop-entry.number c.record_of.result c.in-Err.fault c.record_of.ensures
     (λ other. out_of_order n (searched_of c.loop-entry.tree.kept) (map shown_entry c.loop-entry.yielded) (shown_entry c.in-Some.entry)
     (map shown_entry (drop (suc (length c.loop-entry.yielded)) items)) (map shown_entry items)
     c.loop-entry.number parts (omega (

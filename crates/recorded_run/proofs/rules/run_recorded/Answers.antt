@@ -1,7 +1,6 @@
 -- From the file that is attached to the end of the run.
 use Rattle.std.proofs.Common.{◌≡◌, ◌⊎◌, ℕ, List, Err, map, refl, inl, inr, ap, subst, sym, ◌∙◌}
 use Rattle.std.specs.Prelude.{IsTrue}
-use Rattle.std.specs.List.{AllByRecursion}
 use Rattle.std.proofs.lemmas.Result.{err_from_is_err_and}
 use Rattle.disk_calls.proofs.Calling.{reaches-file}
 use Rattle.disk_calls.proofs.Moments.{same_disk-then}
@@ -9,10 +8,9 @@ use Rattle.pool_model.specs.Network.{net_of}
 use Rattle.row_model.specs.Entries.{Entry, Searched, made_by, AreInOrder, IsSearched}
 use Rattle.box_tree.specs.Kept.{Held, searched_of}
 use Rattle.box_tree.specs.Views.{shown_entry}
-use Rattle.journal_format.specs.Faults.{IsAllowed, IsFree, Has}
+use Rattle.journal_format.specs.Faults.{HoldsAllowed, IsFree, Has}
 use Rattle.journal_format.specs.Records.{IsKeptAt}
-use Rattle.journal_format.proofs.Decided.{one_standing}
-use Rattle.journal_format.proofs.ShortPayloads.{allowed_in_order}
+use Rattle.journal_format.proofs.OwnFiles.{one_standing}
 use Rattle.search_core.specs.Searches.{searched}
 use Rattle.search_run.specs.Runs.{IsRun}
 use Rattle.search_run.proofs.Ending.{found-by}
@@ -21,7 +19,7 @@ use Rattle.recorded_run.specs.declared.fault.RunFault.TheVariants.{Journal}
 use Rattle.recorded_run.proofs.Recording.{begins-same, opened-recorded, opening-moments, run-moments, recorded-ends, kept-stands, memory-of}
 use Rattle.recorded_run.proofs.Splitting.{few-front, few-same}
 use Rattle.recorded_run.proofs.Acknowledging.{opening-keeps, run-keeps}
-use Rattle.recorded_run.proofs.Causes.{no_cause, decided-by, replay-cause, replay-free, replay-alone, free-alone}
+use Rattle.recorded_run.proofs.Causes.{no_cause, in_order-allowed, decided-by, replay-cause, replay-free, replay-alone, free-alone}
 use Rattle.recorded_run.proofs.rules.run_recorded.Goals as goal
 
 -- the session that is driven
@@ -66,10 +64,10 @@ returns-clause-any_moment g c = λ file first is own.
     let same = one_standing file text list first (c.in_ok-opened.ensures.entries file is) own.stands in
     let left = c.in_ok-opened.ensures.left file is in
     let made = ap (λ (h : Held). searched_of h.kept) c.in_ok-search.ensures.tree ∙ c.in_ok-tree.ensures.made in
-    let held = opened-recorded n text first list c.in_ok-opened.opened.journal.gate (searched c.in_ok-search.search) left.0 (g.D.Disk.told c.open.new.disk)
+    let held = opened-recorded n text first list c.in_ok-opened.opened.journal.next (searched c.in_ok-search.search) left.0 (g.D.Disk.told c.open.new.disk)
     same own.in_order made left.1 left.2 in
     let run = c.in_ok-ended.ensures.recorded text first held in
-    let ends = recorded-ends n text run.last c.drive.new.self.journal.gate (searched c.drive.new.self.search)
+    let ends = recorded-ends n text run.last c.drive.new.self.journal.next (searched c.drive.new.self.search)
     (g.D.Disk.told c.drive.new.disk) run.held in
     let opening = c.open.ensures.any_moment file first is own.own own.stands in
     record {
@@ -77,7 +75,7 @@ returns-clause-any_moment g c = λ file first is own.
       begins = run.begins;
       any_moment = run-moments n text first run.last (g.D.Disk.told c.args.disk.now) (g.D.Disk.told c.open.new.disk) (g.D.Disk.told c.drive.new.disk)
           own.in_order run.begins opening run.any_moment;
-      acknowledged = run-keeps n text first run.last c.in_ok-opened.opened.journal.gate (searched c.in_ok-search.search) (g.D.Disk.told c.args.disk.now) (g.D.Disk.told c.open.new.disk)
+      acknowledged = run-keeps n text first run.last c.in_ok-opened.opened.journal.next (searched c.in_ok-search.search) (g.D.Disk.told c.args.disk.now) (g.D.Disk.told c.open.new.disk)
           (g.D.Disk.told c.drive.new.disk) run.begins held
           (opening-moments n text first (g.D.Disk.told c.args.disk.now) (g.D.Disk.told c.open.new.disk) own.in_order opening) run.any_moment run.acknowledged;
       few = λ l begins. few-front c.args.orders first run.last l run.few begins;
@@ -95,7 +93,7 @@ returns-in_err-ended-clause-any_moment g c =
     let same = one_standing file text list first (c.in_ok-opened.ensures.entries file is) own.stands in
     let left = c.in_ok-opened.ensures.left file is in
     let made = ap (λ (h : Held). searched_of h.kept) c.in_ok-search.ensures.tree ∙ c.in_ok-tree.ensures.made in
-    let held = opened-recorded n text first list c.in_ok-opened.opened.journal.gate (searched c.in_ok-search.search) left.0 (g.D.Disk.told c.open.new.disk)
+    let held = opened-recorded n text first list c.in_ok-opened.opened.journal.next (searched c.in_ok-search.search) left.0 (g.D.Disk.told c.open.new.disk)
     same own.in_order made left.1 left.2 in
     let run = c.in_err-ended.ensures.recorded text first held in
     let opening = c.open.ensures.any_moment file first is own.own own.stands in
@@ -104,7 +102,7 @@ returns-in_err-ended-clause-any_moment g c =
       begins = run.begins;
       any_moment = run-moments n text first run.last (g.D.Disk.told c.args.disk.now) (g.D.Disk.told c.open.new.disk) (g.D.Disk.told c.drive.new.disk)
           own.in_order run.begins opening run.any_moment;
-      acknowledged = run-keeps n text first run.last c.in_ok-opened.opened.journal.gate (searched c.in_ok-search.search) (g.D.Disk.told c.args.disk.now) (g.D.Disk.told c.open.new.disk)
+      acknowledged = run-keeps n text first run.last c.in_ok-opened.opened.journal.next (searched c.in_ok-search.search) (g.D.Disk.told c.args.disk.now) (g.D.Disk.told c.open.new.disk)
           (g.D.Disk.told c.drive.new.disk) run.begins held
           (opening-moments n text first (g.D.Disk.told c.args.disk.now) (g.D.Disk.told c.open.new.disk) own.in_order opening) run.any_moment run.acknowledged;
       few = λ l begins. few-front c.args.orders first run.last l run.few begins;
@@ -147,8 +145,8 @@ returns-in_err-tree-clause-any_moment g c =
       any_moment = opening;
       acknowledged = opening-keeps (net_of c.args.net.now) c.args.text.now first (g.D.Disk.told c.args.disk.now) (g.D.Disk.told c.open.new.disk) opening;
       few = λ l begins. few-front c.args.orders first first l (few-same c.args.orders first) begins;
-      known = λ memory. kept-stands (net_of c.args.net.now) c.args.text.now first c.in_ok-opened.opened.journal.gate left.0 (g.D.Disk.told c.open.new.disk)
-          own.in_order left.1 (subst (λ (l : List Entry). IsKeptAt c.in_ok-opened.opened.journal.gate c.args.text.now l left.0) same left.2);
+      known = λ memory. kept-stands (net_of c.args.net.now) c.args.text.now first c.in_ok-opened.opened.journal.next left.0 (g.D.Disk.told c.open.new.disk)
+          own.in_order left.1 (subst (λ (l : List Entry). IsKeptAt c.in_ok-opened.opened.journal.next c.args.text.now l left.0) same left.2);
     })
 
 pub returns-in_err-search-clause-any_moment : goal.returns-in_err-search-clause-any_moment
@@ -167,8 +165,8 @@ returns-in_err-search-clause-any_moment g c =
       any_moment = opening;
       acknowledged = opening-keeps (net_of c.args.net.now) c.args.text.now first (g.D.Disk.told c.args.disk.now) (g.D.Disk.told c.open.new.disk) opening;
       few = λ l begins. few-front c.args.orders first first l (few-same c.args.orders first) begins;
-      known = λ memory. kept-stands (net_of c.args.net.now) c.args.text.now first c.in_ok-opened.opened.journal.gate left.0 (g.D.Disk.told c.open.new.disk)
-          own.in_order left.1 (subst (λ (l : List Entry). IsKeptAt c.in_ok-opened.opened.journal.gate c.args.text.now l left.0) same left.2);
+      known = λ memory. kept-stands (net_of c.args.net.now) c.args.text.now first c.in_ok-opened.opened.journal.next left.0 (g.D.Disk.told c.open.new.disk)
+          own.in_order left.1 (subst (λ (l : List Entry). IsKeptAt c.in_ok-opened.opened.journal.next c.args.text.now l left.0) same left.2);
     })
 
 -- ---- causes
@@ -186,8 +184,8 @@ returns-in_err-tree-clause-refused g c =
     let list = map shown_entry c.in_ok-opened.opened.entries.items in
     rw (p.1, p.2)
     (λ file is.
-    replay-cause (net_of c.args.net.now) c.args.text.now file list c.in_err-tree.field-0.0 (c.in_ok-opened.ensures.entries file is)
-    (subst (λ (k : ℕ). AllByRecursion (IsAllowed k) list) c.largest_payload-largest.ensures.value (c.in_ok-opened.ensures.allowed file is)) c.in_err-tree.ensures.fault)
+    replay-cause (net_of c.args.net.now) c.args.text.now file list c.in_ok-opened.opened.turn_at c.in_err-tree.field-0.0 (c.in_ok-opened.ensures.entries file is) (c.in_ok-opened.ensures.turn_at file is)
+    (subst (λ (k : ℕ). HoldsAllowed c.args.text.now k file) c.largest_payload-largest.ensures.value (c.in_ok-opened.ensures.allowed file is)) c.in_err-tree.ensures.fault)
 
 pub returns-in_err-ended-clause-refused : goal.returns-in_err-ended-clause-refused
 returns-in_err-ended-clause-refused g c =
@@ -216,8 +214,8 @@ returns-in_err-tree-clause-decided g c =
     rw (p.1, p.2)
     (λ file cause is has.
     decided-by n c.args.text.now file c.in_err-tree.field-0.0 cause
-    (replay-cause n c.args.text.now file list c.in_err-tree.field-0.0 (c.in_ok-opened.ensures.entries file is)
-    (subst (λ (k : ℕ). AllByRecursion (IsAllowed k) list) c.largest_payload-largest.ensures.value (c.in_ok-opened.ensures.allowed file is)) c.in_err-tree.ensures.fault) has)
+    (replay-cause n c.args.text.now file list c.in_ok-opened.opened.turn_at c.in_err-tree.field-0.0 (c.in_ok-opened.ensures.entries file is) (c.in_ok-opened.ensures.turn_at file is)
+    (subst (λ (k : ℕ). HoldsAllowed c.args.text.now k file) c.largest_payload-largest.ensures.value (c.in_ok-opened.ensures.allowed file is)) c.in_err-tree.ensures.fault) has)
 
 pub returns-in_err-search-clause-decided : goal.returns-in_err-search-clause-decided
 returns-in_err-search-clause-decided g c =
@@ -234,8 +232,8 @@ returns-in_err-opened-clause-taken g c =
     let p = err_from_is_err_and c.from_residual.result c.from_residual.ensures.1 in
     rw (p.1, p.2)
     (λ file first is own.
-    c.in_err-opened.ensures.taken file first is own.stands
-    (subst (λ (k : ℕ). AllByRecursion (IsAllowed k) first) (sym c.largest_payload-largest.ensures.value) (allowed_in_order (net_of c.args.net.now) c.args.text.now file first own.in_order own.stands)))
+    c.in_err-opened.ensures.taken file is
+    (subst (λ (k : ℕ). HoldsAllowed c.args.text.now k file) (sym c.largest_payload-largest.ensures.value) (in_order-allowed (net_of c.args.net.now) c.args.text.now file first own.stands own.in_order)))
 
 pub returns-in_err-tree-clause-taken : goal.returns-in_err-tree-clause-taken
 returns-in_err-tree-clause-taken g c =
@@ -244,7 +242,7 @@ returns-in_err-tree-clause-taken g c =
     (λ file first is own.
     let list = map shown_entry c.in_ok-opened.opened.entries.items in
     let same = one_standing file c.args.text.now list first (c.in_ok-opened.ensures.entries file is) own.stands in
-    replay-free (net_of c.args.net.now) list c.in_err-tree.field-0.0 (subst (AreInOrder (net_of c.args.net.now)) (sym same) own.in_order) c.in_err-tree.ensures.fault)
+    replay-free (net_of c.args.net.now) list c.in_ok-opened.opened.turn_at c.in_err-tree.field-0.0 (subst (AreInOrder (net_of c.args.net.now)) (sym same) own.in_order) c.in_err-tree.ensures.fault)
 
 pub returns-in_err-ended-clause-taken : goal.returns-in_err-ended-clause-taken
 returns-in_err-ended-clause-taken g c =
@@ -259,7 +257,7 @@ returns-in_err-opened-clause-untouched g c =
 pub returns-in_err-tree-clause-untouched : goal.returns-in_err-tree-clause-untouched
 returns-in_err-tree-clause-untouched g c =
     let p = err_from_is_err_and c.from_residual-in_err-tree.result c.from_residual-in_err-tree.ensures.1 in
-    rw (p.1, p.2) (replay-alone (net_of c.args.net.now) (map shown_entry c.in_ok-opened.opened.entries.items) c.in_err-tree.field-0.0 _ c.in_err-tree.ensures.fault)
+    rw (p.1, p.2) (replay-alone (net_of c.args.net.now) (map shown_entry c.in_ok-opened.opened.entries.items) c.in_ok-opened.opened.turn_at c.in_err-tree.field-0.0 _ c.in_err-tree.ensures.fault)
 
 pub returns-in_err-ended-clause-untouched : goal.returns-in_err-ended-clause-untouched
 returns-in_err-ended-clause-untouched g c =

@@ -1,6 +1,8 @@
 use Rattle.std.proofs.Common.{inl, inr, ℕ, List, ap, refl, subst}
 use Rattle.node_journal.proofs.Runs.{quiet-start}
 use Rattle.run_status.specs.Reads.{ReadsUnder}
+use Rattle.run_status.specs.Took.{unread_status}
+use Rattle.run_status.proofs.Quiet.{failed_told, quiet_behind}
 use Rattle.solve_command.specs.declared.solving.SolveOutcome.TheVariants.{Unread}
 use Rattle.solve_command.proofs.Outcomes.{no_unread_disk, unread_memory_is, unread_unopened}
 use Rattle.solve_command.proofs.solving.solve.Goals as goal
@@ -34,3 +36,9 @@ returns-in-Ok-clause-memory g c = λ e.
 
 pub returns-in-Err-clause-memory : goal.returns-in-Err-clause-memory
 returns-in-Err-clause-memory g c = λ e. inl (ap (λ why. Unread why) (unread_memory_is c.in-Err.why e))
+
+pub returns-in-Ok-clause-quiet : goal.returns-in-Ok-clause-quiet
+returns-in-Ok-clause-quiet g c = quiet_behind c.in-Ok.ensures.quiet (inr refl)
+
+pub returns-in-Err-clause-quiet : goal.returns-in-Err-clause-quiet
+returns-in-Err-clause-quiet g c = failed_told (λ e. ap unread_status e) c.in-Err.ensures.quiet

@@ -2,7 +2,7 @@ use Rattle.std.proofs.Common.{[], ◌∷◌, List, ℕ, replicate, Option, Some,
 use mir.Syntax.{w128}
 use Rattle.pool_model.specs.Network.{net_of}
 use Rattle.split_tree.specs.Splits.{Splits, IsOf as AreCut}
-use Rattle.box_tree.proofs.Started.{first-held}
+use Rattle.box_tree.proofs.Started.{first-held, searched-first}
 use Rattle.box_tree.proofs.tree.Tree.start.Goals as goal
 
 pub returns-clause-tree : goal.returns-clause-tree
@@ -17,3 +17,8 @@ returns-clause-tree c =
           (c.in_ok-vec-2.ensures.items ∙ ap one (to_z-of_z fits) ∙ ap one c.reach_bound.ensures.bound);
       scratch = c.in_ok-new.ensures;
     }
+
+pub returns-clause-searched : goal.returns-clause-searched
+returns-clause-searched c =
+    searched-first _ _ c.in_ok-cuts.cuts.items c.in_ok-vec.field-0.items c.in_ok-vec-2.field-0.items c.splits.view_is c.in_ok-splits.ensures.none
+    c.in_ok-vec.ensures.items

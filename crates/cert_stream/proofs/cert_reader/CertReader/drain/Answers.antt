@@ -1,7 +1,7 @@
-use Rattle.std.proofs.Common.{◌≡◌, ap, subst, arith}
+use Rattle.std.proofs.Common.{◌≡◌, ap, subst, ◌∙◌, arith}
 use Rattle.cert_stream.specs.Streams.{Reader, ReaderTook}
 use Rattle.shelf_calls.proofs.Keeping.{keeps-then}
-use Rattle.cert_stream.proofs.Calls.{took-then, rose-then}
+use Rattle.cert_stream.proofs.Calls.{took-then, rose-then, told-quiet}
 use Rattle.cert_stream.proofs.NextItem.{let-go}
 use Rattle.cert_stream.proofs.cert_reader.CertReader.drain.Goals as goal
 
@@ -18,4 +18,5 @@ loop-self-preserved g c =
       rose-then c.args.self.now.left c.loop-self.self.left c.take_some.new.self.left (g.S.Shelf.told c.args.shelf.now).taken (g.S.Shelf.told c.loop-self.shelf).taken (g.S.Shelf.told c.take_some.new.shelf).taken
           (omega (arith, inv.0.within)) (omega (arith, took.within)) inv.1 (rw left at e.counted) e.kept.taken_grows,
       keeps-then inv.2 e.kept,
+      told-quiet e.quiet ∙ inv.3,
     )

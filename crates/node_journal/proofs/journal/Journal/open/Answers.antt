@@ -1,12 +1,10 @@
-use Rattle.std.proofs.Common.{◌≡◌, ◌⊎◌, ℕ, ◌+◌, ◌-◌, ◌≤◌, ◌^◌, List, length, map, inl, inr, ap, subst, sym, ◌∙◌, arith}
+use Rattle.std.proofs.Common.{◌≡◌, ◌⊎◌, ℕ, ◌+◌, ◌-◌, ◌≤◌, ◌^◌, List, length, inl, inr, ap, subst, sym, ◌∙◌, arith}
 use Rattle.std.specs.Prelude.{IsTrue, IfSome}
-use Rattle.std.specs.List.{AllByRecursion}
 use Rattle.std.proofs.lemmas.Result.{MatchResult-weaker}
 use Rattle.disk_calls.proofs.Calling.{reaches-file}
 use Rattle.disk_calls.proofs.Moments.{goes_further, leaves-weaker, now-has}
-use Rattle.box_tree.specs.Views.{shown_entry}
 use Rattle.journal_format.specs.Files.{IsOwnFor}
-use Rattle.journal_format.specs.Faults.{IsAllowed, IsFree, Has}
+use Rattle.journal_format.specs.Faults.{HoldsAllowed, IsFree, Has}
 use Rattle.node_journal.specs.Journals.{Ready}
 use Rattle.node_journal.proofs.Runs.{quiet-start, quiet-then}
 use Rattle.journal_format.proofs.Decided.{decided_of, taken_of}
@@ -34,14 +32,23 @@ open_measured-requires-clause-room g c =
 
 pub returns-clause-entries : goal.returns-clause-entries
 returns-clause-entries g c = MatchResult-weaker c.open_measured.result c.open_measured.ensures.opened
-    (λ o h file is. (h c.args.text.now file (c.in_ok-end.ensures.on_disk file is) (c.deref.ensures.value ∙ c.in_ok-whole.ensures)).stands) (λ e free. free)
+    (λ o h file is.
+    let opened = h c.args.text.now file (c.in_ok-end.ensures.on_disk file is) (c.deref.ensures.value ∙ c.in_ok-whole.ensures) in
+    (opened.history, opened.of_file, opened.entries)) (λ e free. free)
+
+pub returns-clause-turn_at : goal.returns-clause-turn_at
+returns-clause-turn_at g c = MatchResult-weaker c.open_measured.result c.open_measured.ensures.opened
+    (λ o h file is.
+    let opened = h c.args.text.now file (c.in_ok-end.ensures.on_disk file is) (c.deref.ensures.value ∙ c.in_ok-whole.ensures) in
+    (opened.history, opened.of_file, opened.turned)) (λ e free. free)
 
 pub returns-clause-allowed : goal.returns-clause-allowed
 returns-clause-allowed g c =
     let size : length c.in_ok-room.room.items - 5 ≡ c.args.largest = omega (arith, c.in_ok-room.ensures.len, c.in_ok-room.room.ok.0) in
     MatchResult-weaker c.open_measured.result c.open_measured.ensures.opened
-    (λ o h file is. subst (λ (n : ℕ). AllByRecursion (IsAllowed n) (map shown_entry o.entries.items)) size
-    (h c.args.text.now file (c.in_ok-end.ensures.on_disk file is) (c.deref.ensures.value ∙ c.in_ok-whole.ensures)).allowed) (λ e free. free)
+    (λ o h file is. subst (λ (n : ℕ). HoldsAllowed c.args.text.now n file) size
+    (let opened = h c.args.text.now file (c.in_ok-end.ensures.on_disk file is) (c.deref.ensures.value ∙ c.in_ok-whole.ensures) in
+    (opened.history, opened.of_file, opened.allowed))) (λ e free. free)
 
 pub returns-clause-left : goal.returns-clause-left
 returns-clause-left g c =
@@ -97,19 +104,19 @@ returns-clause-decided g c = λ file is.
     let d = c.in_ok-end.ensures.on_disk file is in
     let whole = c.deref.ensures.value ∙ c.in_ok-whole.ensures in
     λ fault has.
-    decided_of (λ o. map shown_entry o.entries.items) c.open_measured.result c.args.text.now (length c.in_ok-room.room.items - 5) file fault
-    (MatchResult-weaker c.open_measured.result c.open_measured.ensures.opened (λ o h. (h c.args.text.now file d whole).stands) (λ e free. free))
-    (MatchResult-weaker c.open_measured.result c.open_measured.ensures.opened (λ o h. (h c.args.text.now file d whole).allowed) (λ e free. free))
+    decided_of c.open_measured.result c.args.text.now (length c.in_ok-room.room.items - 5) file fault
+    (MatchResult-weaker c.open_measured.result c.open_measured.ensures.opened
+    (λ o h. let opened = h c.args.text.now file d whole in (opened.history, opened.of_file, opened.allowed)) (λ e free. free))
     (MatchResult-weaker c.open_measured.result c.open_measured.ensures.refused (λ o free. free) (λ e h. h c.args.text.now file d whole))
     (subst (λ (n : ℕ). Has c.args.text.now n file fault) (sym size) has)
 
 pub returns-clause-taken : goal.returns-clause-taken
-returns-clause-taken g c = λ file list is stands allowed.
+returns-clause-taken g c = λ file is allowed.
     let size : length c.in_ok-room.room.items - 5 ≡ c.args.largest = omega (arith, c.in_ok-room.ensures.len, c.in_ok-room.room.ok.0) in
-    taken_of c.open_measured.result c.args.text.now (length c.in_ok-room.room.items - 5) file list
+    taken_of c.open_measured.result c.args.text.now (length c.in_ok-room.room.items - 5) file
     (MatchResult-weaker c.open_measured.result c.open_measured.ensures.refused (λ o free. free)
     (λ e h. h c.args.text.now file (c.in_ok-end.ensures.on_disk file is) (c.deref.ensures.value ∙ c.in_ok-whole.ensures)))
-    stands (subst (λ (n : ℕ). AllByRecursion (IsAllowed n) list) (sym size) allowed)
+    (subst (λ (n : ℕ). HoldsAllowed c.args.text.now n file) (sym size) allowed)
 
 pub returns-clause-untouched : goal.returns-clause-untouched
 returns-clause-untouched g c =

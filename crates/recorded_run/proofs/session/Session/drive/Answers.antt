@@ -20,7 +20,7 @@ steps-init g c = record {
   way = way-start (net_of c.args.net.now) c.args.orders (searched c.args.self.now.search);
   left = c.requires.left;
   so_far = λ text first is.
-      so_far-start (net_of c.args.net.now) text c.args.orders first (g.D.Disk.told c.args.disk.now) c.args.self.now.journal.gate (searched c.args.self.now.search) is;
+      so_far-start (net_of c.args.net.now) text c.args.orders first (g.D.Disk.told c.args.disk.now) c.args.self.now.journal.next (searched c.args.self.now.search) is;
   same_disk = same_disk-same (g.D.Disk.told c.args.disk.now);
 }
 
@@ -51,11 +51,11 @@ steps-preserved g c =
             begins = begins-more so.last first e so.begins;
             any_moment = so_far-moments n text first so.last e (g.D.Disk.told c.args.disk.now) (g.D.Disk.told c.steps.disk) (g.D.Disk.told c.record.new.disk) so.begins so.held.in_order (in_order-more n start so.last e so.held.in_order order) so.any_moment
                 (c.record.ensures.any_moment text so.held.file so.last so.held.on_disk so.held.kept);
-            acknowledged = keeps-more n text first so.last e c.steps.self.journal.gate (searched c.steps.self.search) (g.D.Disk.told c.args.disk.now) (g.D.Disk.told c.steps.disk) (g.D.Disk.told c.record.new.disk) so.held
+            acknowledged = keeps-more n text first so.last e c.steps.self.journal.next (searched c.steps.self.search) (g.D.Disk.told c.args.disk.now) (g.D.Disk.told c.steps.disk) (g.D.Disk.told c.record.new.disk) so.held
                 (in_order-more n start so.last e so.held.in_order order) so.acknowledged (c.record.ensures.any_moment text so.held.file so.last so.held.on_disk so.held.kept);
             few = few-more n c.args.orders first so.last (searched s) s.options s.repaired _ s.tree.kept.cuts c.in-Do.entry c.steps.invariant.session.options
                 c.steps.invariant.session.search.tree.kept.counted due so.held.made so.few;
-            held = recorded-more n text so.last e then.journal.gate (searched s) (searched then.search) put.0 (g.D.Disk.told c.record.new.disk)
+            held = recorded-more n text so.last e then.journal.next (searched s) (searched then.search) put.0 (g.D.Disk.told c.record.new.disk)
                 so.held.in_order so.held.made in_order done.taken put.1 put.2;
           };
       same_disk = same_disk-then (g.D.Disk.told c.args.disk.now) (g.D.Disk.told c.steps.disk) (g.D.Disk.told c.record.new.disk) c.steps.invariant.same_disk c.record.ensures.same_disk;
@@ -87,7 +87,7 @@ returns-in_err-due-clause-recorded g c =
       any_moment = so.any_moment;
       acknowledged = so.acknowledged;
       few = so.few;
-      held = λ memory. recorded-stands (net_of c.args.net.now) text so.last c.steps.self.journal.gate (searched c.steps.self.search) (g.D.Disk.told c.steps.disk) so.held;
+      held = λ memory. recorded-stands (net_of c.args.net.now) text so.last c.steps.self.journal.next (searched c.steps.self.search) (g.D.Disk.told c.steps.disk) so.held;
     })
 
 pub returns-in_err-record-in-Do-clause-recorded : goal.returns-in_err-record-in-Do-clause-recorded
@@ -107,13 +107,13 @@ returns-in_err-record-in-Do-clause-recorded g c =
       begins = begins-more so.last first e so.begins;
       any_moment = so_far-moments n text first so.last e (g.D.Disk.told c.args.disk.now) (g.D.Disk.told c.steps.disk) (g.D.Disk.told c.record.new.disk) so.begins so.held.in_order (in_order-more n start so.last e so.held.in_order order) so.any_moment
           (c.record.ensures.any_moment text so.held.file so.last so.held.on_disk so.held.kept);
-      acknowledged = keeps-more n text first so.last e c.steps.self.journal.gate (searched c.steps.self.search) (g.D.Disk.told c.args.disk.now) (g.D.Disk.told c.steps.disk) (g.D.Disk.told c.record.new.disk) so.held
+      acknowledged = keeps-more n text first so.last e c.steps.self.journal.next (searched c.steps.self.search) (g.D.Disk.told c.args.disk.now) (g.D.Disk.told c.steps.disk) (g.D.Disk.told c.record.new.disk) so.held
           (in_order-more n start so.last e so.held.in_order order) so.acknowledged (c.record.ensures.any_moment text so.held.file so.last so.held.on_disk so.held.kept);
       few = few-more n c.args.orders first so.last (searched s) s.options s.repaired _ s.tree.kept.cuts c.in-Do.entry c.steps.invariant.session.options
           c.steps.invariant.session.search.tree.kept.counted due so.held.made so.few;
       held = λ memory.
           let put = c.in_err-record-in-Do.ensures.kept (ap Err memory) text so.held.file so.last so.held.on_disk so.held.kept in
-          kept-stands n text (so.last ++ e ∷ []) c.record.new.self.journal.gate put.0 (g.D.Disk.told c.record.new.disk)
+          kept-stands n text (so.last ++ e ∷ []) c.record.new.self.journal.next put.0 (g.D.Disk.told c.record.new.disk)
           (in_order-more n start so.last e so.held.in_order order) put.1 put.2;
     })
 

@@ -17,8 +17,8 @@ invariant-steps g l = record {
   session : IsSession (net_of l.net) l.orders l.self;
   way : IsWay (net_of l.net) l.orders (searched l.fn.self.search) (searched l.self.search);
   left : IsTrue (g.D.Disk.told l.disk).tells → IsLeft l.self.journal (g.D.Disk.told l.disk);
-  so_far : (text : List ℕ) (first : List Entry) → IsRecorded (net_of l.net) text first l.fn.self.journal.gate (searched l.fn.self.search) (g.D.Disk.told l.fn.disk)
-      → SoFar (net_of l.net) text l.orders first (g.D.Disk.told l.fn.disk) (g.D.Disk.told l.disk) l.self.journal.gate (searched l.self.search);
+  so_far : (text : List ℕ) (first : List Entry) → IsRecorded (net_of l.net) text first l.fn.self.journal.next (searched l.fn.self.search) (g.D.Disk.told l.fn.disk)
+      → SoFar (net_of l.net) text l.orders first (g.D.Disk.told l.fn.disk) (g.D.Disk.told l.disk) l.self.journal.next (searched l.self.search);
   same_disk : IsSameDisk (g.D.Disk.told l.fn.disk) (g.D.Disk.told l.disk);
 }
 

@@ -1,0 +1,3 @@
+-- Lemmas behind the proofs.
+pub mod Ranges
+pub mod OnePivot
