@@ -132,9 +132,9 @@ STATUSES = """
 row1 solve net = 0
 row1 solve --nodes=1000 net --form pq --rule widest --gap 0.01 = 0
 row1 solve net --form p --rule violated --nodes 0 --gap 0 = 0
-row1 solve net --nodes 200000 --rule first = 0
-row1 solve net --nodes=200001 = 4
-row1 solve other --nodes 200001 = 20
+row1 solve net --nodes 20000 --rule first = 0
+row1 solve net --nodes=20001 = 4
+row1 solve other --nodes 20001 = 20
 row1 solve net --journal j = 0
 row1 report net other = 20
 row1 report other net = 20

@@ -15,8 +15,8 @@ use edge_io::Memory;
 use lp_simplex::{Advice, start_of_proof};
 use std::alloc::Global;
 
-/// How many splits there have to be before a leaf's program starts from a proof where a plan is looked for. Those before start from
-/// nothing: they end at other points of the same cost, and other plans come of these.
+/// How many splits there have to be before a leaf's program starts from a proof. Those before start from nothing: they end at other
+/// points of the same cost, and other plans come of these.
 const COLD_SPLITS: usize = 10;
 
 /// The least leaf, with advice on its program.
@@ -29,8 +29,7 @@ pub struct Leaf {
     pub advice: Advice,
 }
 
-/// The least leaf of a tree, solved, with the bench on which its program of the form stands; whether a plan is looked for from its point
-/// is advice.
+/// The least leaf of a tree, solved, with the bench on which its program of the form stands.
 pub fn solve_leaf(
     alloc: Global,
     net: &Network,
@@ -38,7 +37,6 @@ pub fn solve_leaf(
     form: Form,
     pivots: u32,
     bound: i128,
-    repairs: bool,
 ) -> Result<(Leaf, Bench), Memory>
     requires tree { IsOf (net_of net.now) tree.now }
     requires bound { tree_bound (net_of net.now) (searched_of tree.now.kept).tree ≡ Some bound }
@@ -52,7 +50,7 @@ pub fn solve_leaf(
     };
     let ends = tree.box_of(net, node)?;
     let bench = Bench::new(alloc, net, form, pivots, &ends)?;
-    let advice = advice_at(alloc, tree, node, &bench, repairs)?;
+    let advice = advice_at(alloc, tree, node, &bench)?;
     let leaf = Leaf {
         node,
         bound,
@@ -64,16 +62,10 @@ pub fn solve_leaf(
 
 /// Advice on the program of a node, which stands on the bench: from the proof of the nearest node that has one, among the node
 /// and those above it.
-fn advice_at(
-    alloc: Global,
-    tree: &Tree,
-    node: u32,
-    bench: &Bench,
-    repairs: bool,
-) -> Result<Advice, Memory>
+fn advice_at(alloc: Global, tree: &Tree, node: u32, bench: &Bench) -> Result<Advice, Memory>
     ensures { IfOk result (λ a. vec_len a.point ≡ vec_len bench.now.relaxation.low) }
 {
-    if repairs && tree.splits().len() < COLD_SPLITS {
+    if tree.splits().len() < COLD_SPLITS {
         return bench.advise(alloc);
     }
     match nearest_proof(tree, node) {

@@ -135,15 +135,7 @@ impl Search {
         ensures form { IfOk result (λ l. l.1.form ≡ self.now.options.form) }
     {
         let options = self.options;
-        solve_leaf(
-            alloc,
-            net,
-            &self.tree,
-            options.form,
-            options.pivots,
-            bound,
-            !self.repaired,
-        )
+        solve_leaf(alloc, net, &self.tree, options.form, options.pivots, bound)
     }
 
     /// What comes next at the least leaf, whose program stands on the bench: a repaired plan, or a split.

@@ -16,7 +16,7 @@ use std::alloc::{AllocError, Global};
 use std::marker::Model;
 
 /// The greatest number of splits.
-pub const MAX_SPLITS: usize = 200_000;
+pub const MAX_SPLITS: usize = 20_000;
 
 /// Splits, each of a leaf of the tree of those before it. It keeps the ends that each split cuts between, for each node whether
 /// it is cut, and for each leaf that was cut the innermost cut above it of every coordinate.

@@ -22,7 +22,7 @@ fn root_look(alloc: Global, net: &Network, cut: &Tree, looks: u32) -> Result<Loo
     let Some(bound) = tree.bound() else {
         return Err(Memory);
     };
-    let (leaf, mut bench) = solve_leaf(alloc, net, &tree, Form::Pq, 10_000, bound, true)?;
+    let (leaf, mut bench) = solve_leaf(alloc, net, &tree, Form::Pq, 10_000, bound)?;
     bench.look(alloc, net, cut, &leaf, looks, 0)
 }
 

@@ -1,4 +1,0 @@
-pub mod EmptyProofs
-pub mod PieceEnds
-pub mod Closings
-pub mod Cutting
