@@ -10,7 +10,7 @@ use worked_networks::{ONE_DIRECT, network};
 
 /// Changes of `FULL`, which leave it 160 bytes, and the answers. The first changes nothing.
 const OF_160_BYTES: &str = "\
-end to end = Ok(Gap { cost: -300000000000000, base: 1, bound: -300000000000000, gap: 0 })
+end to end = Ok(Gap { plan: WrittenPlan { base: 1, flow_base: 1, weights: [], outflows: [], direct: [100000000] }, cost: -300000000000000, base: 1, bound: -300000000000000, gap: 0 })
 poolcert 1 to poolcert 2 = Err(Refused(Text(TextFault { line: 1 })))
 gap 0 1 to gap 0 2 = Err(Refused(Text(TextFault { line: 12 })))
 shape 1 to shape 2 = Err(Refused(Shape))
