@@ -118,7 +118,7 @@ def small_stack(trial, cases):
     """On a stack of 128 KB every command ends as ever, also on what is deep."""
     deep, long = trial.folder / "deep.json", trial.folder / "long.cert"
     deep.write_text("[" * 127 + "]" * 127)
-    long.write_text(chain(20000))
+    long.write_text(chain(200_000))
     feeds = EXAMPLES / "two_feeds.json"
     for words in [*commands(trial), ["solve", deep], ["check", feeds, long], ["report", feeds, long], []]:
         wanted = run(trial, words)
@@ -133,13 +133,13 @@ def small_stack(trial, cases):
 
 
 def long_texts(trial):
-    """A certificate of 20,000 splits, which a journal holds, is printed on a stack of 128 KB."""
+    """A certificate of 200,000 splits, which a journal holds, is printed on a stack of 128 KB."""
     net = EXAMPLES / "two_feeds.json"
-    trial.file(made.journal(made.canonical(net.read_bytes()), *(made.split(2 * t, 3, t + 1) for t in range(20000))))
+    trial.file(made.journal(made.canonical(net.read_bytes()), *(made.split(2 * t, 3, t + 1) for t in range(200_000))))
     words = ["solve", net, "--nodes", "0", "--journal", trial.journal]
     wanted = run(trial, words)
-    yield from differs("20,000 splits: printed", (wanted.status, wanted.out.count("\nsplit ")), (0, 20000))
-    yield from differs("20,000 splits on a small stack", run(trial, words, **limits((resource.RLIMIT_STACK, SMALL_STACK))), wanted)
+    yield from differs("200,000 splits: printed", (wanted.status, wanted.out.count("\nsplit ")), (0, 200_000))
+    yield from differs("200,000 splits on a small stack", run(trial, words, **limits((resource.RLIMIT_STACK, SMALL_STACK))), wanted)
 
 
 def chain(count):

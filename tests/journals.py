@@ -337,8 +337,8 @@ def stages(trial, case):
     cases = [
         (["solve", "missing.json", *journal_words], 20, "pool: read fault\n"),
         (["solve", "text.json", *journal_words], 3, "pool: network refused: 2\n"),
-        (["solve", "text.json", "--nodes", "20001", *journal_words], 3, "pool: network refused: 2\n"),
-        (["solve", str(case.net), "--nodes", "20001", *journal_words], 4, "pool: too many nodes for this network\n"),
+        (["solve", "text.json", "--nodes", "200001", *journal_words], 3, "pool: network refused: 2\n"),
+        (["solve", str(case.net), "--nodes", "200001", *journal_words], 4, "pool: too many nodes for this network\n"),
         (["solve", str(case.net), *journal_words, *journal_words], 2, usage),
         (["solve", str(case.net), "--journal"], 2, usage),
         (["check", str(case.net), str(EXAMPLES / "row1.cert"), *journal_words], 2, usage),

@@ -2,7 +2,7 @@
 """Writes a valid certificate of any size to standard output: `large_certificate.py NET BYTES [PARTS]`
 
 It is for the network in the file NET, of the kind `bound`, and has at least BYTES bytes, and not many more: a proof on each node of a
-tree of splits, and some PARTS parts in each proof (600, or as many as the network has rows). A tree has at most 20,000 splits;
+tree of splits, and some PARTS parts in each proof (600, or as many as the network has rows). A tree has at most 200,000 splits;
 where they are too few for so many bytes it says so and ends with 1. What `check` says of it is written to standard error.
 
 The splits halve the proportions of feeds, level by level. A scale of 2^40 outweighs the parts, so each proof shows what
@@ -20,7 +20,7 @@ sys.dont_write_bytecode = True
 TOP = Path(__file__).resolve().parent.parent
 SCALE = 2**40
 LISTS = 64  # different lists of parts
-MOST_SPLITS = 20_000
+MOST_SPLITS = 200_000
 
 
 def load_checker():

@@ -151,7 +151,7 @@ def solved(_):
     if found.tables() != {"flows": ("a table", 6), "qualities": ("a table", 1)}:
         yield f"Haverly 1 as tables: {found.tables()}"
     del sys.modules["pandas"]
-    for words, status in (({"nodes": 20001}, 4), ({"rule": "wide"}, 2), ({"journal": str(EXAMPLES / "row1.json")}, 33)):
+    for words, status in (({"nodes": 200001}, 4), ({"rule": "wide"}, 2), ({"journal": str(EXAMPLES / "row1.json")}, 33)):
         try:
             pooling.solve(str(EXAMPLES / "row1.json"), **words)
             yield f"{words} is answered"

@@ -1,7 +1,7 @@
 #!/usr/bin/env python3
 """What a reader must read to believe the program: `trust.py [--write | --why NAME]`
 
-Goes from the contract of `run` to each definition, declared type and trait that it reaches, in this repository, and lists them in
+Goes from the contract of `serve` to each definition, declared type and trait that it reaches, in this repository, and lists them in
 docs/TRUST.md between two marks: crate, file, names, lines (comments and empty lines don't count), and a total. Looks that the list
 there is the sources' own; with --write it writes it. With --why it prints the way on which a name is reached, the contract last. Its
 last line is `N faults`.
@@ -16,7 +16,7 @@ TOP = Path(__file__).resolve().parent.parent
 CRATES = TOP / "crates"
 PAGE = TOP / "docs" / "TRUST.md"
 MARKS = "<!-- made by tests/trust.py -->", "<!-- end -->"
-START = "pool_cli", "command.rt", "run"
+START = "pool_edge", "serving.rt", "serve"
 
 IMPORT = re.compile(r"^\s*(?:ghost )?use Rattle\.([\w.]+?)(?:\.\{([^}]*)\}| as (\w+))?;?$", re.M)
 HEAD = re.compile(r"^(?:(?:unfoldable|abbrev|instance) )*(?:pub )?(?:(?:unfoldable|abbrev|instance|record|data) )*(?:pub )?([^\s:()]+)(?= |$)")
@@ -271,7 +271,7 @@ def main():
         page = page[:begin] + wanted + page[end:]
         PAGE.write_text(page)
     elif page[begin:end] != wanted:
-        reader.faults.append("docs/TRUST.md is not what the contract of run reaches: tests/trust.py --write")
+        reader.faults.append("docs/TRUST.md is not what the contract of serve reaches: tests/trust.py --write")
     for fault in reader.faults:
         print(fault)
     print(f"{len(reader.faults)} faults")

@@ -132,9 +132,9 @@ STATUSES = """
 row1 solve net = 0
 row1 solve --nodes=1000 net --form pq --rule widest --gap 0.01 = 0
 row1 solve net --form p --rule violated --nodes 0 --gap 0 = 0
-row1 solve net --nodes 20000 --rule first = 0
-row1 solve net --nodes=20001 = 4
-row1 solve other --nodes 20001 = 20
+row1 solve net --nodes 200000 --rule first = 0
+row1 solve net --nodes=200001 = 4
+row1 solve other --nodes 200001 = 20
 row1 solve net --journal j = 0
 row1 report net other = 20
 row1 report other net = 20
@@ -734,16 +734,16 @@ def longest_trees(pool):
     """A journal of as many splits as there may be, and of one more. Split number t, from 0, cuts node 2t at t + 1 millionths of what
     flows from P to X."""
     net = text("two_feeds.json")
-    entries = [made.split(2 * t, 3, t + 1) for t in range(20001)]
+    entries = [made.split(2 * t, 3, t + 1) for t in range(200_001)]
     journal = pool.file("run.journal", made.journal(made.canonical(net.encode()), *entries[:-1]))
-    status, certificate, _ = pool.solve(net, "--nodes", 20000, "--journal", journal)
+    status, certificate, _ = pool.solve(net, "--nodes", 200_000, "--journal", journal)
     found = status, numbers(certificate, "splits"), numbers(certificate, "bound")
-    yield "a tree of 20,000 splits", found, (0, [20000], [-300 * MONEY])
+    yield "a tree of 200,000 splits", found, (0, [200_000], [-300 * MONEY])
     yield "its certificate", pool.on("check", net, certificate)[:2], (
         0, "accepted gap cost -300000000000000 base 1 bound -300000000000000 gap 0\n")
     pool.file("run.journal", made.journal(made.canonical(net.encode()), *entries))
-    done = pool.solve(net, "--nodes", 20000, "--journal", journal)
-    yield "one split more", done, (31, "", "pool: journal record 20000 is bad\n")
+    done = pool.solve(net, "--nodes", 200_000, "--journal", journal)
+    yield "one split more", done, (31, "", "pool: journal record 200000 is bad\n")
 
 
 # ---- the whole

@@ -5,7 +5,7 @@ import collections
 from array import array
 from dataclasses import dataclass, field
 
-GRAIN, MAX_SPLITS, MAX_WEIGHT = 2**20, 20_000, 2**126
+GRAIN, MAX_SPLITS, MAX_WEIGHT = 2**20, 200_000, 2**126
 
 
 class Fault(Exception):

@@ -8,7 +8,7 @@
 //! each node and a part for each row, and no more. From both [`length_law`] says that the text of a valid certificate is short enough for a
 //! file that is checked, where the nodes of its tree times the rows of the network stay within the limit.
 //!
-//! With 32,000,000 such rows the parts take at most 1,024,000,000 bytes, and 20,000 splits with all else fewer than 3,000,000, of
+//! With 32,000,000 such rows the parts take at most 1,024,000,000 bytes, and 200,000 splits with all else fewer than 30,000,000, of
 //! 1,073,741,824 that there may be.
 //!
 //! [`few_rows_law`] is for whoever grows a tree: where as many splits as are asked for stay within the limit, and as many as there

@@ -14,8 +14,8 @@
 //! `specs/Answers.antt` what the answer is. How a program is solved is left to `lp_simplex`, which boxes are looked at to the
 //! layer above.
 //!
-//! Proofs above may cite, of `proofs/`: `FormRows` (the rows of a form, by rising number) and `Priced` (a bound that rounding raised
-//! is at least what the price proof shows).
+//! Proofs above may cite, of `proofs/`: `FormRows` (the rows of a form, by rising number), `PriceInOrder` (the price proof is in order in
+//! each proper box) and `Priced` (a bound that rounding raised is at least what the price proof shows).
 #![tactic(auto)]
 
 mod laws;

@@ -8,20 +8,24 @@ ghost use Rattle.file_numbers.specs.Numbers.{TakesLowest};
 use crate::numbers::NumberCalls;
 use edge_io::CallFault;
 
-/// Numbers of files that tell which of them are in use. The null device can be opened so many times, and then no more.
+/// Numbers of files that tell which of them are in use. The null device can be opened so many times, and then no more; why not is told
+/// beforehand.
 #[derive(Drop)]
 pub struct MemNumbers {
     used: Vec<bool>,
     room: u64,
+    fault: CallFault,
     faults: u64,
 }
 
 impl MemNumbers {
-    /// The first numbers, and whether each is in use; those behind them are free. The null device can be opened `room` times.
-    pub fn new(used: Vec<bool>, room: u64) -> MemNumbers {
+    /// The first numbers, and whether each is in use; those behind them are free. The null device can be opened `room` times, and fails
+    /// by `fault` from then on.
+    pub fn new(used: Vec<bool>, room: u64, fault: CallFault) -> MemNumbers {
         MemNumbers {
             used,
             room,
+            fault,
             faults: 0,
         }
     }
@@ -79,7 +83,8 @@ impl NumberCalls for MemNumbers {
 
     fn open_null(&mut self) -> Result<(), CallFault> {
         if self.room == 0 {
-            return Err(self.fail(CallFault::Failed));
+            let fault = self.fault;
+            return Err(self.fail(fault));
         }
         self.room -= 1;
         match self.take() {

@@ -20,8 +20,9 @@
 //!
 //! When a leaf is looked at or cut, and what else a search does, is left to the crates above.
 //!
-//! Proofs above may cite, of `proofs/`: `FormCoords` (the rows of a view, one coordinate of the form after another) and `Middles` (the
-//! middle of ends that are at least 2 apart lies strictly inside).
+//! Proofs above may cite, of `proofs/`: `FormCoords` (the rows of a view, one coordinate of the form after another), `Giving` (what
+//! rounding answers of a view of ends, said of any box whose ends they are), `Middles` (the middle of ends that are at least 2 apart lies
+//! strictly inside) and `RootEnds` (no end of a proper box is above 10^12 in size).
 #![tactic(auto)]
 
 mod bench;

@@ -40,7 +40,7 @@ nodes splits = 2 * length splits + 1
 
 -- the greatest number of splits
 abbrev pub most_splits : ℕ
-most_splits = 20000
+most_splits = 200000
 
 -- a split cuts the node
 abbrev pub is_cut : List Split → ℕ → Bool

@@ -50,9 +50,10 @@ pub enum Status {
     OutOfMemory,
     /// The journal is of another network.
     OtherNetwork,
-    /// The record of this number, from 0, holds no entry, or one that is not in order after those before it.
+    /// The record of this number, from 0 and with a Turn counted, is no Turn that its file may have and holds no entry, or one that is
+    /// not in order after those before it.
     BadJournal(u64),
-    /// The journal is of this version, and not of the one that is known.
+    /// The journal is of this version, which is neither 1 nor 2.
     UnknownVersion(u8),
     /// The file is no journal.
     NotAJournal,

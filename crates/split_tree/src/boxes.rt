@@ -39,7 +39,7 @@ impl SplitTree {
         requires root { AreRoot (net_of net.now) ends.old }
         ensures { AreEndsOf (net_of net.now) (trees.box_of (net_of net.now) self.now.list node) ends.new }
     {
-        if self.depth_of(node) <= 2 * coords(net) {
+        if self.is_near_root(node, 2 * coords(net)) {
             self.climb(net, node, ends);
         } else {
             self.look_up(net, node, ends);
@@ -159,14 +159,18 @@ impl SplitTree {
         }
     }
 
-    /// How many splits are above a node, as they were counted when it was cut. It only chooses a way to find the node's box.
-    pub(crate) fn depth_of(&self, node: u32) -> u32 {
-        if node == 0 {
-            return 0;
+    /// Whether at most so many splits are above a node. It only chooses a way to find the node's box.
+    fn is_near_root(&self, node: u32, most: u32) -> bool {
+        let mut at = node;
+        for _ in 0..most {
+            if at == 0 {
+                return true;
+            }
+            match self.splits.get((at as usize - 1) / 2) {
+                Some(split) => at = split.leaf,
+                None => return false,
+            }
         }
-        match self.depths.get((node as usize - 1) / 2) {
-            Some(depth) => depth.saturating_add(1),
-            None => 0,
-        }
+        at == 0
     }
 }

@@ -16,7 +16,7 @@ use std::alloc::{AllocError, Global};
 use std::marker::Model;
 
 /// The greatest number of splits.
-pub const MAX_SPLITS: usize = 20_000;
+pub const MAX_SPLITS: usize = 200_000;
 
 /// Splits, each of a leaf of the tree of those before it. It keeps the ends that each split cuts between, for each node whether
 /// it is cut, and for each leaf that was cut the innermost cut above it of every coordinate.
@@ -28,9 +28,7 @@ pub struct SplitTree {
     pub(crate) cuts: Vec<bool>,
     /// Version 0 is the map of the root, and version t + 1 that of the leaf of split t: from a coordinate to the innermost node at or
     /// above it that a split on the coordinate made, which is 0 where there is none.
-    pub(crate) maps: MapVersions,
-    /// Of each split: how many splits are above its leaf.
-    pub(crate) depths: Vec<u32>,
+    pub(crate) maps: Box<MapVersions>,
     pub(crate) alloc: Global,
 }
 
@@ -44,7 +42,7 @@ impl Model for SplitTree {
 
     ghost view = { λ t. record { list = map shown_split t.splits.items; spans = t.spans.items } };
 
-    ghost invariant = { λ t. AreKept (map shown_split t.splits.items) t.spans.items t.cuts.items × AreMapped (map shown_split t.splits.items) t.maps };
+    ghost invariant = { λ t. AreKept (map shown_split t.splits.items) t.spans.items t.cuts.items × AreMapped (map shown_split t.splits.items) t.maps.value };
 }
 
 impl SplitTree {
@@ -57,8 +55,7 @@ impl SplitTree {
             splits: Vec::new(alloc),
             spans: Vec::new(alloc),
             cuts: vec![in alloc; false]?,
-            maps: MapVersions::new(alloc)?,
-            depths: Vec::new(alloc),
+            maps: Box::new(alloc, MapVersions::new(alloc)?)?,
             alloc,
         })
     }
@@ -120,15 +117,12 @@ impl SplitTree {
         self.splits.reserve(1)?;
         self.spans.reserve(1)?;
         self.cuts.reserve(2)?;
-        self.depths.reserve(1)?;
-        let depth = self.depth_of(split.leaf);
         add_map(&mut self.maps, self.splits.as_slice(), split.leaf)?;
         self.splits.push_reserved(split);
         self.spans.push_reserved(span);
         self.cuts[split.leaf as usize] = true;
         self.cuts.push_reserved(false);
         self.cuts.push_reserved(false);
-        self.depths.push_reserved(depth);
         Ok(())
     }
 }

@@ -55,57 +55,94 @@ fn failing(alloc: Global, call: u64) -> Result<MemDisk, Fail> {
     Ok(MemDisk::failing(alloc, bytes, [call].to_vec(alloc)?))
 }
 
+/// Whether a choice of a moment has these bytes as its image.
+pub(crate) fn is_image(disk: &MemDisk, moment: u64, choice: u64, bytes: &[u8]) -> bool {
+    match disk.image(moment, choice) {
+        Ok(image) => image.as_slice() == bytes,
+        Err(_) => false,
+    }
+}
+
 /// The image of one moment by each of the first choices.
 pub(crate) fn shows(disk: &MemDisk, moment: u64, images: [&[u8]; 8]) -> bool {
     for (choice, bytes) in images.iter().enumerate() {
-        match disk.image(moment, choice as u64) {
-            Ok(image) if image.as_slice() == *bytes => {}
-            _ => return false,
+        if !is_image(disk, moment, choice as u64, bytes) {
+            return false;
         }
     }
     true
 }
 
+/// What a disk answers of which a call fails: on the calls, on an attach behind them, and on the length that it finds.
+type Failed = (
+    Result<(), DiskFailed>,
+    Result<(), DiskFailed>,
+    Result<u64, DiskFailed>,
+);
+
+/// What a disk in memory answers on the seven calls, of which one fails, and behind them.
+fn failed(alloc: Global, call: u64) -> Result<Failed, Fail> {
+    let mut disk = failing(alloc, call)?;
+    Ok((script(&mut disk), open(&mut disk), disk.len()))
+}
+
 #[test]
 fn fails_where_told(rt: HostRuntime) -> Result<(), Fail> {
-    let alloc = rt.alloc();
     for (call, length) in [(0, 2), (1, 2), (2, 4), (3, 4), (4, 4), (5, 1), (6, 1)] {
-        let mut disk = failing(alloc, call)?;
-        let told = (script(&mut disk), open(&mut disk), disk.len());
+        let told = failed(rt.alloc(), call)?;
         assert_eq!(rt; told, (Err(DiskFailed), Ok(()), Ok(length)));
     }
     Ok(())
 }
 
-#[test]
-fn leaves_images(rt: HostRuntime) -> Result<(), Fail> {
-    let mut disk = failing(rt.alloc(), 7)?;
-    let done = script(&mut disk);
+/// How many moments a disk has, and whether its images are those that the seven calls leave.
+fn script_images(disk: &MemDisk) -> (u64, [bool; 5]) {
     let (short, whole) = (b"ab".as_slice(), b"abcd".as_slice());
     let (cut, part) = (b"a".as_slice(), b"abc".as_slice());
     let (torn, half) = (b"ab\x9c\x9b".as_slice(), b"abc\x9b".as_slice());
     let written = [short, whole, short, torn, part, half, whole, whole];
     let shortened = [whole, cut, short, part, whole, whole, cut, short];
     let shown = [
-        shows(&disk, 0, [short; 8]),
-        shows(&disk, 1, written),
-        shows(&disk, 2, [whole; 8]),
-        shows(&disk, 3, shortened),
-        shows(&disk, 4, [cut; 8]),
+        shows(disk, 0, [short; 8]),
+        shows(disk, 1, written),
+        shows(disk, 2, [whole; 8]),
+        shows(disk, 3, shortened),
+        shows(disk, 4, [cut; 8]),
     ];
-    assert_eq!(rt; (done, disk.moment(), shown), (Ok(()), 4, [true; 5]));
+    (disk.moment(), shown)
+}
+
+/// How the seven calls end where none fails, and what they leave.
+fn left(alloc: Global) -> Result<(Result<(), DiskFailed>, (u64, [bool; 5])), Fail> {
+    let mut disk = failing(alloc, 7)?;
+    let done = script(&mut disk);
+    Ok((done, script_images(&disk)))
+}
+
+#[test]
+fn leaves_images(rt: HostRuntime) -> Result<(), Fail> {
+    assert_eq!(rt; left(rt.alloc())?, (Ok(()), (4, [true; 5])));
     Ok(())
+}
+
+/// Opens the file and appends a byte.
+fn append<D: Disk>(disk: &mut D, byte: u8) -> Result<(), DiskFailed>
+    requires { (name : _) → IsTrue ((D.told disk.old).admits name) }
+{
+    open(disk)?;
+    append_byte(disk, byte)
+}
+
+/// How a byte is appended, how many moments there are then, and whether the last image has it.
+fn appended(alloc: Global) -> Result<(Result<(), DiskFailed>, u64, bool), Fail> {
+    let mut disk = MemDisk::new(alloc, Vec::from_slice(alloc, b"ab")?);
+    let done = append(&mut disk, b'c');
+    Ok((done, disk.moment(), is_image(&disk, 2, 0, b"abc")))
 }
 
 #[test]
 fn appends(rt: HostRuntime) -> Result<(), Fail> {
-    let alloc = rt.alloc();
-    let mut disk = MemDisk::new(alloc, Vec::from_slice(alloc, b"ab")?);
-    open(&mut disk)?;
-    let appended = append_byte(&mut disk, b'c');
-    let image = disk.image(2, 0)?;
-    assert_eq!(rt; (appended, disk.moment()), (Ok(()), 2));
-    assert_eq!(rt; image.as_slice(), b"abc".as_slice());
+    assert_eq!(rt; appended(rt.alloc())?, (Ok(()), 2, true));
     Ok(())
 }
 

@@ -2,10 +2,12 @@
 
 ghost use Rattle.std.specs.Prelude.{false, []};
 
-use super::shelves::rest_of;
+use super::shelves::{has_left, whole};
 use disk_calls::{Disk, DiskFailed, FileDisk, MAX_LENGTH, SystemFile};
 use edge_io::CallFault;
 use shelf_calls::{FileShelf, ReadCalls, Shelf, SystemFiles, read_once};
+use std::alloc::{AllocError, Global};
+use std::rt::Files;
 use std::test::Fail;
 use std::{fs, process};
 
@@ -15,40 +17,60 @@ fn path_of(rt: &HostRuntime, name: &str) -> Result<String, Fail> {
     Ok(format!(in rt.alloc(); "/tmp/worked_devices-{name}-{number}")?)
 }
 
+/// What a shelf answers on a file: read whole with room for it and with too little, and on one that has no end.
+fn reads<R: Files>(
+    alloc: Global,
+    shelf: &mut FileShelf<SystemFiles<R>>,
+    path: &str,
+) -> Result<String, AllocError> {
+    let mut told = whole(alloc, shelf, path, 4)?;
+    told.push_str(whole(alloc, shelf, path, 3)?.as_str())?;
+    told.push_str(whole(alloc, shelf, "/dev/zero", 9)?.as_str())?;
+    Ok(told)
+}
+
+/// What a shelf answers on a file with the text "four", whether it hands that out once the name is gone, and what it answers then.
+fn read_and_gone(rt: &HostRuntime, path: &str) -> Result<String, Fail> {
+    let alloc = rt.alloc();
+    let mut shelf = FileShelf::new(SystemFiles::new(rt));
+    let mut told = reads(alloc, &mut shelf, path)?;
+    let opened = shelf.open_read(alloc, path).is_ok() && fs::remove_file(rt, path).is_ok();
+    let left = opened && has_left(alloc, &mut shelf, 3, b"four");
+    told.push_str(if left { "left\n" } else { "lost\n" })?;
+    told.push_str(whole(alloc, &mut shelf, path, 4)?.as_str())?;
+    Ok(told)
+}
+
 /// An opened file can be read when its name is gone.
 #[test]
 fn a_file_is_read_whole_and_by_pieces(rt: HostRuntime) -> Result<(), Fail> {
-    let alloc = rt.alloc();
     let path = path_of(&rt, "whole")?;
     fs::write(&rt, path.as_str(), "four")?;
-    let mut shelf = FileShelf::new(SystemFiles::new(&rt));
-    let whole = shelf.read_all(alloc, path.as_str(), 4);
-    let short = shelf.read_all(alloc, path.as_str(), 3);
-    let endless = shelf.read_all(alloc, "/dev/zero", 9);
-    let opened = shelf.open_read(alloc, path.as_str()).is_ok();
-    fs::remove_file(&rt, path.as_str())?;
-    let rest = rest_of(alloc, &mut shelf, 3)?;
-    let gone = shelf.read_all(alloc, path.as_str(), 4);
-    let told = format!(in alloc; "{whole:?} {short:?} {endless:?} {opened:?} {rest:?} {gone:?}")?;
-    let expected =
-        "Ok([102, 111, 117, 114]) Err(TooLong) Err(TooLong) true [102, 111, 117, 114] Err(Failed)";
+    let told = read_and_gone(&rt, path.as_str())?;
+    let expected = "Ok([102, 111, 117, 114])\nErr(TooLong)\nErr(TooLong)\nleft\nErr(Failed)\n";
     assert_eq!(rt; told.as_str(), expected);
     Ok(())
 }
 
-/// Before a file is opened, and where none can be; a folder opens, and can't be read.
-#[test]
-fn a_read_fails_where_no_file_is(rt: HostRuntime) -> Result<(), Fail> {
+/// What a shelf answers before a file is opened, on a name that is none, and on a folder, which opens and can't be read.
+fn unread(rt: &HostRuntime) -> Result<String, AllocError> {
     let alloc = rt.alloc();
-    let mut shelf = FileShelf::new(SystemFiles::new(&rt));
+    let mut shelf = FileShelf::new(SystemFiles::new(rt));
     let mut room = [0; 4];
     let unopened = shelf.read_some(&mut room);
     let none = shelf.open_read(alloc, "/tmp/worked_devices/none");
     let folder = shelf.open_read(alloc, "/tmp");
     let unread = shelf.read_some(&mut room);
-    let told = format!(in alloc; "{unopened:?} {none:?} {folder:?} {unread:?}")?;
-    let expected = "Err(ReadFailed) Err(Failed) Ok(()) Err(ReadFailed)";
-    assert_eq!(rt; told.as_str(), expected);
+    format!(in alloc; "{unopened:?} {none:?} {folder:?} {unread:?}")
+}
+
+#[test]
+fn a_read_fails_where_no_file_is(rt: HostRuntime) -> Result<(), Fail> {
+    let told = unread(&rt)?;
+    assert_eq!(rt;
+        told.as_str(),
+        "Err(ReadFailed) Err(Failed) Ok(()) Err(ReadFailed)"
+    );
     Ok(())
 }
 
@@ -100,49 +122,56 @@ fn found_at(rt: &HostRuntime, path: &str) -> Found {
     }
 }
 
-#[test]
-fn a_disk_keeps_its_file(rt: HostRuntime) -> Result<(), Fail> {
-    let path = path_of(&rt, "disk")?;
-    let mut disk = FileDisk::new(SystemFile::new(&rt));
-    let done = [
-        disk.attach(path.as_str()),
+/// What a disk answers that writes a file and cuts it.
+fn kept(rt: &HostRuntime, path: &str) -> [Result<(), DiskFailed>; 6] {
+    let mut disk = FileDisk::new(SystemFile::new(rt));
+    [
+        disk.attach(path),
         disk.write_at(0, b"pooling"),
         disk.sync(),
         disk.cut(4),
         disk.write_at(3, b"r"),
         disk.sync(),
-    ];
-    let found = found_at(&rt, path.as_str());
+    ]
+}
+
+#[test]
+fn a_disk_keeps_its_file(rt: HostRuntime) -> Result<(), Fail> {
+    let path = path_of(&rt, "disk")?;
+    let told = (kept(&rt, path.as_str()), found_at(&rt, path.as_str()));
     fs::remove_file(&rt, path.as_str())?;
-    assert_eq!(rt; done, [Ok(()); 6]);
     let expected = Found {
         attached: Ok(()),
         length: Ok(4),
         read: Ok(()),
         bytes: *b"oor",
     };
-    assert_eq!(rt; found, expected);
+    assert_eq!(rt; told, ([Ok(()); 6], expected));
     Ok(())
 }
 
-/// Before a file is attached, past its end, where the disk failed before, and past the longest length.
-#[test]
-fn a_disk_fails_where_nothing_is(rt: HostRuntime) -> Result<(), Fail> {
-    let path = path_of(&rt, "none")?;
-    let mut disk = FileDisk::new(SystemFile::new(&rt));
+/// Whether a disk fails before a file is attached, past its end, where it failed before, and past the longest length, and else finds an
+/// empty file.
+fn fails_where_nothing_is(rt: &HostRuntime, path: &str) -> bool {
+    let mut disk = FileDisk::new(SystemFile::new(rt));
     let unattached = disk.len().is_err();
-    let attached = disk.attach(path.as_str());
+    let attached = disk.attach(path);
     let empty = disk.len();
     let past = disk.read_at(0, &mut [0]);
     let failed = disk.sync();
-    let again = disk.attach(path.as_str());
+    let again = disk.attach(path);
     let long = disk.write_at(MAX_LENGTH, b"x");
-    fs::remove_file(&rt, path.as_str())?;
-    assert_eq!(rt; (unattached, empty), (true, Ok(0)));
     let fault = Err(DiskFailed);
-    assert_eq!(rt;
-        [attached, past, failed, again, long],
-        [Ok(()), fault, fault, Ok(()), fault]
-    );
+    unattached
+        && empty == Ok(0)
+        && [attached, past, failed, again, long] == [Ok(()), fault, fault, Ok(()), fault]
+}
+
+#[test]
+fn a_disk_fails_where_nothing_is(rt: HostRuntime) -> Result<(), Fail> {
+    let path = path_of(&rt, "none")?;
+    let failed = fails_where_nothing_is(&rt, path.as_str());
+    fs::remove_file(&rt, path.as_str())?;
+    assert!(rt; failed);
     Ok(())
 }

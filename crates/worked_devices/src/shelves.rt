@@ -1,5 +1,7 @@
 //! Shelves in memory: whole files, pieces of an opened file, and calls that fail.
 
+ghost use Rattle.std.specs.Prelude.{IsTrue};
+
 use shelf_calls::{MemShelf, Shelf, SliceShelf};
 use std::alloc::{AllocError, Global};
 use std::test::Fail;
@@ -14,26 +16,42 @@ fn shelf_of(alloc: Global, failing: u64) -> Result<MemShelf, AllocError> {
     Ok(MemShelf::new(files, [failing].to_vec(alloc)?))
 }
 
-/// What a shelf answers on reads of whole files, a line each: a name and the most bytes.
-fn whole(
+/// What a shelf answers on a read of a whole file of so many bytes at the most, as a line.
+pub(crate) fn whole<S: Shelf>(
+    alloc: Global,
+    shelf: &mut S,
+    name: &str,
+    most: usize,
+) -> Result<String, AllocError>
+    requires { IsTrue ((S.told shelf.old).admits name.now) }
+{
+    let answer = shelf.read_all(alloc, name, most);
+    format!(in alloc; "{answer:?}\n")
+}
+
+/// The same of several reads of a shelf in memory.
+fn reads(
     alloc: Global,
     shelf: &mut MemShelf,
-    reads: &[(&str, usize)],
+    asked: &[(&str, usize)],
 ) -> Result<String, AllocError> {
     let mut told = String::new(alloc);
-    for (name, most) in reads {
-        let answer = shelf.read_all(alloc, name, *most);
-        told.push_str(format!(in alloc; "{answer:?}\n")?.as_str())?;
+    for (name, most) in asked {
+        told.push_str(whole(alloc, shelf, name, *most)?.as_str())?;
     }
     Ok(told)
 }
 
+/// What a shelf answers on six reads, of which the fifth fails.
+fn six_reads(alloc: Global) -> Result<String, AllocError> {
+    let mut shelf = shelf_of(alloc, 4)?;
+    let asked = [("a", 7), ("b", 9), ("a", 6), ("c", 9), ("b", 9), ("b", 5)];
+    reads(alloc, &mut shelf, &asked)
+}
+
 #[test]
 fn the_first_file_of_a_name_is_read(rt: HostRuntime) -> Result<(), Fail> {
-    let alloc = rt.alloc();
-    let mut shelf = shelf_of(alloc, 4)?;
-    let reads = [("a", 7), ("b", 9), ("a", 6), ("c", 9), ("b", 9), ("b", 5)];
-    let told = whole(alloc, &mut shelf, &reads)?;
+    let told = six_reads(rt.alloc())?;
     let expected = "Ok([111, 110, 101, 32, 116, 119, 111])
 Ok([116, 104, 114, 101, 101])
 Err(TooLong)
@@ -103,36 +121,56 @@ fn a_file_is_handed_out_in_pieces(rt: HostRuntime) -> Result<(), Fail> {
     Ok(())
 }
 
-/// What is left of the opened file, read piece by piece into so many bytes of room.
-pub(crate) fn rest_of<S: Shelf>(
-    alloc: Global,
-    shelf: &mut S,
-    room: usize,
-) -> Result<Vec<u8>, Fail> {
+/// What is left of the opened file, read piece by piece into so many bytes of room. None where a read fails, or memory runs out.
+fn rest_of<S: Shelf>(alloc: Global, shelf: &mut S, room: usize) -> Option<Vec<u8>> {
     let mut rest = Vec::new(alloc);
-    let mut piece = vec![in alloc; 0; room]?;
+    let mut piece = vec![in alloc; 0; room].ok()?;
     for _ in 0..100 {
-        let count = shelf.read_some(&mut piece).ok().ok_or("read")?;
+        let count = shelf.read_some(&mut piece).ok()?;
         if count == 0 {
             break;
         }
-        rest.extend_from_slice(piece.get(..count).ok_or("too many")?)?;
+        rest.extend_from_slice(piece.get(..count)?).ok()?;
     }
-    Ok(rest)
+    Some(rest)
 }
 
-#[test]
-fn a_slice_is_opened_again(rt: HostRuntime) -> Result<(), Fail> {
-    let alloc = rt.alloc();
+/// Whether these bytes are left of the opened file, read so.
+pub(crate) fn has_left<S: Shelf>(alloc: Global, shelf: &mut S, room: usize, bytes: &[u8]) -> bool {
+    match rest_of(alloc, shelf, room) {
+        Some(rest) => rest.as_slice() == bytes,
+        None => false,
+    }
+}
+
+/// Whether the file under a name opens, and has these bytes.
+pub(crate) fn hands_out<S: Shelf>(
+    alloc: Global,
+    shelf: &mut S,
+    name: &str,
+    room: usize,
+    bytes: &[u8],
+) -> bool
+    requires { IsTrue ((S.told shelf.old).admits name.now) }
+{
+    shelf.open_read(alloc, name).is_ok() && has_left(alloc, shelf, room, bytes)
+}
+
+/// The first bytes of a slice, read as a piece; what it answers when it is opened again and read whole; and whether all of it is left then.
+fn opened_again(alloc: Global) -> Result<String, AllocError> {
     let mut shelf = SliceShelf::new(b"one two");
     let mut room = [b'.'; 4];
     let first = shelf.read_some(&mut room);
     let opened = shelf.open_read(alloc, "");
-    let whole = shelf.read_all(alloc, "", 7);
-    let rest = rest_of(alloc, &mut shelf, 9)?;
-    let told = format!(in alloc; "{first:?} {room:?} {opened:?} {whole:?} {rest:?}")?;
-    let expected =
-        "Ok(4) [111, 110, 101, 32] Ok(()) Ok([111, 110, 101, 32, 116, 119, 111]) [111, 110, 101, 32, 116, 119, 111]";
+    let told = whole(alloc, &mut shelf, "", 7)?;
+    let left = has_left(alloc, &mut shelf, 9, b"one two");
+    format!(in alloc; "{first:?} {room:?} {opened:?} {left} {told}")
+}
+
+#[test]
+fn a_slice_is_opened_again(rt: HostRuntime) -> Result<(), Fail> {
+    let told = opened_again(rt.alloc())?;
+    let expected = "Ok(4) [111, 110, 101, 32] Ok(()) true Ok([111, 110, 101, 32, 116, 119, 111])\n";
     assert_eq!(rt; told.as_str(), expected);
     Ok(())
 }

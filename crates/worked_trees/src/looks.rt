@@ -1,5 +1,8 @@
 //! Looks at a leaf before it is cut: which coordinates are looked at, that both of their halves are solved, and which cut leads.
 
+ghost use Rattle.pool_model.specs.Network.{net_of};
+ghost use Rattle.box_tree.specs.Kept.{IsOf};
+
 use blend_network::Network;
 use box_space::{Form, Split};
 use box_tree::{Entry, EntryFault, Tree};
@@ -14,22 +17,36 @@ use worked_networks::{HAVERLY_1, network};
 /// The picos of one unit of money.
 const MONEY: i128 = 1_000_000_000_000;
 
-/// What a look at the root finds, of this many coordinates at the most, while there is no plan. What cuts gained is read from a tree.
-fn root_look(alloc: Global, net: &Network, cut: &Tree, looks: u32) -> Result<Looked, Memory> {
-    let tree = Tree::start(alloc, net)?;
+/// What a look at the root of a tree finds, of this many coordinates at the most, while there is no plan. What cuts gained is read from
+/// another tree.
+fn look_at(
+    alloc: Global,
+    net: &Network,
+    tree: &Tree,
+    cut: &Tree,
+    looks: u32,
+) -> Result<Looked, Memory>
+    requires { IsOf (net_of net.now) tree.now }
+{
     // A look asks for a network within the limits, and its sizes say that it is.
     let _sizes = net.sizes();
     let Some(bound) = tree.bound() else {
         return Err(Memory);
     };
-    let (leaf, mut bench) = solve_leaf(alloc, net, &tree, Form::Pq, 10_000, bound)?;
+    let (leaf, mut bench) = solve_leaf(alloc, net, tree, Form::Pq, 10_000, bound)?;
     bench.look(alloc, net, cut, &leaf, looks, 0)
 }
 
-/// The same, where nothing is cut.
+/// A look at the root by what the cuts of this tree gained.
+fn root_look(alloc: Global, net: &Network, cut: &Tree, looks: u32) -> Result<Looked, Memory> {
+    let tree = Tree::start(alloc, net)?;
+    look_at(alloc, net, &tree, cut, looks)
+}
+
+/// A look at the root where nothing is cut.
 fn first_look(alloc: Global, net: &Network, looks: u32) -> Result<Looked, Memory> {
     let tree = Tree::start(alloc, net)?;
-    root_look(alloc, net, &tree, looks)
+    look_at(alloc, net, &tree, &tree, looks)
 }
 
 /// The coordinate of a look's greatest number, and the bounds of the halves that were solved there.
@@ -69,10 +86,11 @@ fn a_look_solves_halves(rt: HostRuntime) -> Result<(), Fail> {
     Ok(())
 }
 
-/// A tree whose root is cut where a look at it leads, with the proof of the right half alone, and that half at the flow from P to Y, the
+/// Cuts a tree at its root where a look there leads, with the proof of the right half alone, and that half at the flow from P to Y, the
 /// coordinate 4, without a proof. The second cut gains nothing.
-fn cut_twice(alloc: Global, net: &Network) -> Result<Tree, EntryFault> {
-    let mut tree = Tree::start(alloc, net)?;
+fn cut_twice(alloc: Global, net: &Network, tree: &mut Tree) -> Result<(), EntryFault>
+    requires { IsOf (net_of net.now) tree.old }
+{
     let Some(halving) = first_look(alloc, net, 1)?.halvings.pop() else {
         return Err(EntryFault::Memory);
     };
@@ -87,8 +105,7 @@ fn cut_twice(alloc: Global, net: &Network) -> Result<Tree, EntryFault> {
         coord: 4,
         cut: 100_000_000,
     };
-    tree.apply(net, Entry::SplitOf(second, None, None))?;
-    Ok(tree)
+    tree.apply(net, Entry::SplitOf(second, None, None))
 }
 
 /// The coordinates that a look solved, in its order, and by how much each coordinate is missed, in hundredths of what it was before.
@@ -111,11 +128,24 @@ fn hundredths(number: u64, of: u64) -> u128 {
     scaled.saturating_add(of / 2).checked_div(of).unwrap_or(0)
 }
 
-/// A look at the root by what two cuts gained, beside one where nothing is cut.
-fn looks_compared(alloc: Global, net: &Network) -> Result<String, EntryFault> {
-    let before = first_look(alloc, net, 12)?;
-    let cut = cut_twice(alloc, net)?;
-    let after = root_look(alloc, net, &cut, 12)?;
+/// A look at the root by what two cuts of a tree gained.
+fn look_by_cuts(alloc: Global, net: &Network, tree: &mut Tree) -> Result<Looked, EntryFault>
+    requires { IsOf (net_of net.now) tree.old }
+{
+    cut_twice(alloc, net, tree)?;
+    Ok(root_look(alloc, net, tree, 12)?)
+}
+
+fn cut_look(alloc: Global, net: &Network) -> Result<Looked, EntryFault> {
+    let mut tree = Tree::start(alloc, net)?;
+    look_by_cuts(alloc, net, &mut tree)
+}
+
+/// A look at the root of Haverly's first network by what two cuts gained, beside one where nothing is cut.
+fn looks_compared(alloc: Global) -> Result<String, Fail> {
+    let net = network(alloc, HAVERLY_1)?;
+    let before = first_look(alloc, &net, 12)?;
+    let after = cut_look(alloc, &net)?;
     Ok(compared(alloc, &before, &after)?)
 }
 
@@ -125,8 +155,7 @@ fn looks_compared(alloc: Global, net: &Network) -> Result<String, EntryFault> {
 /// (3/2) / 4 over 1/2, and what was not cut 1. The coordinate that leads has the greatest number, before and after.
 #[test]
 fn a_look_takes_the_most_missed_first(rt: HostRuntime) -> Result<(), Fail> {
-    let net = network(rt.alloc(), HAVERLY_1)?;
-    let told = looks_compared(rt.alloc(), &net)?;
+    let told = looks_compared(rt.alloc())?;
     assert_eq!(rt; told.as_str(), "0 1 4 0: 100 1: 100 3: 100 4: 75 ");
     Ok(())
 }

@@ -85,23 +85,27 @@ fn found(
     }
 }
 
-/// What the plan of a line costs, as its check tells it.
-fn told(alloc: Global, net: &Network, name: &str, line: &str) -> Result<String, Fail> {
-    let plan = found(alloc, net, line, name == "plain")?.ok_or("a plan")?;
-    let cost = check_plan(net, &plan)?;
+/// What a plan costs, as its check tells it.
+fn cost_of(alloc: Global, net: &Network, plan: &WrittenPlan) -> Result<String, Fail> {
+    let cost = check_plan(net, plan)?;
     let picos = cost.num.checked_div(cost.base.into()).unwrap_or(1);
     let rest = cost.num.checked_rem(cost.base.into()).unwrap_or(1);
     Ok(format!(in alloc; "{picos} {rest}")?)
 }
 
+/// What the plan costs that is found near the point of a line.
+fn told(alloc: Global, name: &str, line: &str) -> Result<String, Fail> {
+    let net = network(alloc, network_under(name))?;
+    let plan = found(alloc, &net, line, name == "plain")?.ok_or("a plan")?;
+    cost_of(alloc, &net, &plan)
+}
+
 #[test]
 fn known_optima_are_found(rt: HostRuntime) -> Result<(), Fail> {
-    let alloc = rt.alloc();
     for case in POINTS.lines() {
         let (asked, picos) = case.split_once(" = ").ok_or("a cost")?;
         let (name, line) = asked.split_once(": ").ok_or("a point")?;
-        let net = network(alloc, network_under(name))?;
-        let told = told(alloc, &net, name, line)?;
+        let told = told(rt.alloc(), name, line)?;
         assert_eq!(rt; told.as_str().strip_suffix(" 0"), Some(picos), "of {name}");
     }
     Ok(())

@@ -1,6 +1,5 @@
 //! A tree over two feeds to one pool that is cut twice, the entries that it refuses, and what it answers.
 
-ghost use Rattle.std.specs.Prelude.{IfOk};
 ghost use Rattle.pool_model.specs.Network.{net_of};
 ghost use Rattle.box_tree.specs.Kept.{IsOf};
 
@@ -26,14 +25,14 @@ fn too_few(alloc: Global) -> Result<Proof, AllocError> {
     })
 }
 
-/// A tree with the zero plan and a split of the root.
-fn once_cut(alloc: Global, net: &Network) -> Result<Tree, EntryFault>
-    ensures { IfOk result (IsOf (net_of net.now)) }
+/// Gives a tree the zero plan, and splits its root.
+fn cut_once(alloc: Global, net: &Network, tree: &mut Tree) -> Result<(), EntryFault>
+    requires { IsOf (net_of net.now) tree.old }
+    ensures { IsOf (net_of net.now) tree.new }
 {
-    let mut tree = Tree::start(alloc, net)?;
-    tree.apply(net, Entry::Improve(zero_plan(alloc, net)?))?;
-    tree.apply(net, split(0, 0, 524_288))?;
-    Ok(tree)
+    let zero = zero_plan(alloc, net)?;
+    tree.apply(net, Entry::Improve(zero))?;
+    tree.apply(net, split(0, 0, 524_288))
 }
 
 /// What comes of a split of a node that is cut, of one on the end of its box, of a late proof of the root, and of the same plan again.
@@ -94,21 +93,29 @@ fn ends(alloc: Global, net: &Network, tree: &Tree) -> Result<String, Memory>
     Ok(format!(in alloc; "{:?} {:?}\n", ends.low.as_slice(), ends.high.as_slice())?)
 }
 
-fn answers(alloc: Global, net: &Network) -> Result<String, EntryFault> {
-    let mut tree = once_cut(alloc, net)?;
-    let mut told = refused(alloc, net, &mut tree)?;
-    cut_again(alloc, net, &mut tree)?;
-    told.push_str(&bounds(alloc, &tree)?)?;
-    told.push_str(&lists(alloc, &tree)?)?;
-    told.push_str(&ends(alloc, net, &tree)?)?;
+/// What a tree of the root alone answers once it is cut, and cut again.
+fn answers(alloc: Global, net: &Network, tree: &mut Tree) -> Result<String, EntryFault>
+    requires { IsOf (net_of net.now) tree.old }
+{
+    cut_once(alloc, net, tree)?;
+    let mut told = refused(alloc, net, tree)?;
+    cut_again(alloc, net, tree)?;
+    told.push_str(&bounds(alloc, tree)?)?;
+    told.push_str(&lists(alloc, tree)?)?;
+    told.push_str(&ends(alloc, net, tree)?)?;
     Ok(told)
+}
+
+fn told(alloc: Global) -> Result<String, Fail> {
+    let net = network(alloc, TWO_FEEDS)?;
+    let mut tree = Tree::start(alloc, &net)?;
+    Ok(answers(alloc, &net, &mut tree)?)
 }
 
 /// The box of node 4 ends at the cuts above it; the pool's quality is from 1 to 3, and what flows from it at most 100.
 #[test]
 fn a_tree_that_is_cut_twice(rt: HostRuntime) -> Result<(), Fail> {
-    let net = network(rt.alloc(), TWO_FEEDS)?;
-    let told = answers(rt.alloc(), &net)?;
+    let told = told(rt.alloc())?;
     let expected = "\
 [Err(NotALeaf), Err(CutOutside), Err(RootLate), Err(PlanNotBetter)]
 Some(-300000000000000) [None, Some(-300000000000000)] [true, false] Some(2) Some(Cost { num: 0, base: 1 })

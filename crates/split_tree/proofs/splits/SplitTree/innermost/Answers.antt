@@ -1,4 +1,5 @@
 use Rattle.std.proofs.Common.{◌≢◌, ℕ, ◌-◌, ◌/◌, ◌<◌, List, length, arith, refl, ap, sym, subst, ◌∙◌}
+use Rattle.map_versions.specs.Versions.{Versions}
 use Rattle.row_model.specs.Trees.{Split, split_at}
 use Rattle.split_tree.specs.Cuts.{IsInnermost, root as at_root, AreMapped}
 use Rattle.split_tree.specs.Splits.{Splits}
@@ -24,6 +25,7 @@ returns-else-splits-above c =
     let some : 0 < c.args.node = omega (arith, c.if-node-eq0.false) in
     let at = held_at c.splits.result.now list t c.splits.ensures (parent_below c.args.node (length list) some c.requires.there) in
     let other : (split_at list t).coord ≢ c.args.coord = λ f. c.if-splits-above.false (ap (λ (s : Split). s.coord) at ∙ f) in
-    let mapped : AreMapped list c.self.inside.maps = subst (λ (xs : List Split). AreMapped xs c.self.inside.maps) (ap (λ (v : Splits). v.list) c.self.view_is) c.self.invariant.1 in
+    let kept : AreMapped list c.self.inside.maps.value = subst (λ (xs : List Split). AreMapped xs c.self.inside.maps.value) (ap (λ (v : Splits). v.list) c.self.view_is) c.self.invariant.1 in
+    let mapped : AreMapped list c.deref.result.now = subst (λ (m : Versions). AreMapped list m) (sym c.deref.ensures) kept in
     subst (λ (z : ℕ). IsInnermost list c.args.coord z c.args.node) (sym c.number.ensures)
-    (found-above list c.self.inside.maps c.args.node c.args.coord mapped c.requires.keys c.requires.key some c.requires.there other)
+    (found-above list c.deref.result.now c.args.node c.args.coord mapped c.requires.keys c.requires.key some c.requires.there other)

@@ -1,0 +1,4 @@
+pub mod EmptyProofs
+pub mod PieceEnds
+pub mod Closings
+pub mod Cutting
