@@ -1,0 +1,3 @@
+pub mod Entries
+pub mod Factors
+pub mod Stops

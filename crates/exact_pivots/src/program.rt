@@ -1,0 +1,73 @@
+//! Programs as code holds them.
+
+ghost use Rattle.std.specs.Prelude.{◌≡◌, ◌<◌, ◌^◌, unsigned_abs};
+ghost use Rattle.exact_num.specs.Fraction.{IsShort};
+
+use exact_run::End;
+
+/// A linear program whose columns lie between ends: the variables first, then a column for each row.
+#[derive(Debug, Drop)]
+pub struct BoundedProgram {
+    pub variables: Vec<Variable>,
+    pub rows: Vec<BoundedRow>,
+}
+
+/// A variable: its ends, and what one of it costs.
+#[derive(Clone, Copy, Debug)]
+pub struct Variable {
+    pub low: i128,
+    pub high: i128,
+    pub cost: i128,
+    pub ghost short_low: { IsShort low },
+    pub ghost short_high: { IsShort high },
+    pub ghost short_cost: { IsShort cost },
+}
+
+/// `constant` plus the terms is equal to 0, or at least 0 where `equal` is false. Terms stand in rising order of variables.
+#[derive(Debug, Drop)]
+pub struct BoundedRow {
+    pub equal: bool,
+    pub constant: i128,
+    pub terms: Vec<Coefficient>,
+}
+
+/// A variable's coefficient in a row.
+#[derive(Clone, Copy, Debug)]
+pub struct Coefficient {
+    pub variable: usize,
+    pub value: i128,
+}
+
+impl BoundedProgram {
+    /// The low end of a column.
+    pub fn low_end(&self, column: usize) -> i128 {
+        match self.variables.get(column) {
+            Some(variable) => variable.low,
+            None => 0,
+        }
+    }
+
+    /// The high end of a column, if it has one.
+    pub fn high_end(&self, column: usize) -> Option<i128> {
+        match self.variables.get(column) {
+            Some(variable) => Some(variable.high),
+            None => match self.rows.get(column - self.variables.len()) {
+                Some(row) if row.equal => Some(0),
+                _ => None,
+            },
+        }
+    }
+
+    /// The value of a column that stands at an end.
+    pub fn end_value(&self, column: usize, end: End) -> i128 {
+        match end {
+            End::Low => self.low_end(column),
+            End::High => self.high_end(column).unwrap_or(0),
+        }
+    }
+
+    /// Whether a column's ends differ.
+    pub fn can_move(&self, column: usize) -> bool {
+        self.high_end(column) != Some(self.low_end(column))
+    }
+}
