@@ -133,8 +133,6 @@ row1 solve net = 0
 row1 solve --nodes=1000 net --form pq --rule widest --gap 0.01 = 0
 row1 solve net --form p --rule violated --nodes 0 --gap 0 = 0
 row1 solve net --nodes 200000 --rule first = 0
-row1 solve net --squeeze on = 0
-haverly1 solve net --rule violated --squeeze=on --gap 0.001 = 0
 row1 solve net --nodes=200001 = 4
 row1 solve other --nodes 200001 = 20
 row1 solve net --journal j = 0
@@ -177,9 +175,6 @@ solve net --journal=-j
 solve net --form p --form=q
 solve net --form PQ
 solve net --rule best
-solve net --squeeze
-solve net --squeeze yes
-solve net --squeeze on --squeeze=off
 solve net --nodes 000000000000000000007
 solve net --nodes 18446744073709551616
 solve net --nodes +7
@@ -686,16 +681,6 @@ def longer_searches(pool):
     status, certificate, _ = pool.solve(*asked, 20, "--rule", "violated")
     (cost, base), splits = numbers(certificate, "cost"), numbers(certificate, "splits")[0]
     yield "one that goes on from its tree", (status, splits > 0, cost <= -399999000000000 * base), (0, True, True)
-    for first, then in (("on", "off"), ("off", "on"), ("on", "on")):
-        journal = pool.file("squeezed.journal", "")
-        asked = [text("haverly1.json"), "--gap", "0.001", "--journal", journal]
-        status, certificate, _ = pool.solve(*asked, "--rule", "first", "--nodes", 3, "--squeeze", first)
-        begun = numbers(certificate, "splits")[0]
-        status, certificate, _ = pool.solve(*asked, "--rule", "violated", "--nodes", 60, "--squeeze", then)
-        (cost, base), splits = numbers(certificate, "cost"), numbers(certificate, "splits")[0]
-        judged = pool.on("check", text("haverly1.json"), certificate)[:2]
-        wanted = (0, True, True, 0, "accepted")
-        yield f"squeezes {first}, then {then}", (status, splits > begun, cost <= -399999000000000 * base, judged[0], judged[1].split(" ")[0]), wanted
 
 
 # ---- journals

@@ -52,7 +52,7 @@ fn first_lines<'a>(alloc: Global) -> Result<Command<'a>, AllocError>
         bare(alloc),
         "solve",
         &["net"],
-        &["form", "nodes", "gap", "journal", "rule", "squeeze"],
+        &["form", "nodes", "gap", "journal", "rule"],
     )?;
     let program = with_line(alloc, program, "check", &["net", "cert"], &[])?;
     with_line(alloc, program, "report", &["net", "cert"], &[])

@@ -1,14 +1,10 @@
 pub mod Proofs
-pub mod Growing
+mod Growing
 mod Rooting
 mod Sound
 pub mod Covering
 mod Reaching
 mod Choosing
 pub mod Stepping
-mod Nearer
+pub mod Nearer
 pub mod Ending
-mod Targets
-mod Owing
-mod Squeezing
-mod Settling

@@ -1,4 +1,4 @@
-//! What searches are made of, on small networks: trees of boxes that are cut entry by entry, a leaf that is squeezed, the order of their leaves, what the cut rules
+//! What searches are made of, on small networks: trees of boxes that are cut entry by entry, the order of their leaves, what the cut rules
 //! pick, looks at a leaf before it is cut, and plans near points from which the best plan is known, against answers worked out by hand or
 //! found by another program.
 //!
@@ -13,7 +13,5 @@ mod orders;
 mod repairs;
 #[cfg(test)]
 mod rules;
-#[cfg(test)]
-mod squeezes;
 #[cfg(test)]
 mod trees;
