@@ -5,11 +5,11 @@
 //! the best plan and the gap that is enough. What it answers is an ordinary split of a tree: of its two nodes one is the piece, and the
 //! other is kept. So every plan that obeys, lies in the leaf and costs less than the target lies in the node that is kept.
 //!
-//! The pieces are tried first by the empty proof, which needs no program, and then by programs: those that the layer above asks for, or
-//! all of them. None comes only where no piece's empty proof shows the target.
+//! The pieces are tried first by the empty proof, which needs no program, and then all of them by programs; [`squeeze_free`] ends before
+//! those. None comes only where no piece's empty proof shows the target.
 //!
 //! `specs/Pieces.antt` says what a piece is, and `specs/Squeezes.antt` what a split is that cuts one off. When a leaf is squeezed, and
-//! which pieces are worth a program, is left to the layer above.
+//! whether its pieces are worth programs, is left to the layer above.
 #![tactic(auto)]
 
 mod closing;
