@@ -142,6 +142,19 @@ def long_texts(trial):
     yield from differs("200,000 splits on a small stack", run(trial, words, **limits((resource.RLIMIT_STACK, SMALL_STACK))), wanted)
 
 
+def most_splits(trial):
+    """As many splits as there may be are accepted, and one more is refused; so says the second checker."""
+    net, file = EXAMPLES / "two_feeds.json", trial.folder / "chain.cert"
+    second = Path(__file__).resolve().parent.parent / "tools" / "second_checker.py"
+    accepted = "accepted gap cost 0 base 1 bound -300000000000000 gap 300000000000000\n"
+    for count, wanted in [(200_000, Done(0, accepted, "")), (200_001, Done(1, "refused split 200000\n", ""))]:
+        file.write_text(chain(count))
+        yield from differs(f"{count} splits", run(trial, ["check", net, file]), wanted)
+        told = subprocess.run([sys.executable, second, net, file], capture_output=True, text=True)
+        yield from differs(f"{count} splits, by the second checker", Done(told.returncode, told.stdout, told.stderr), wanted)
+        trial.tried["long trees"] += 1
+
+
 def chain(count):
     """A certificate of the two feeds with so many splits, each of the right half of the one before."""
     splits = "".join(f"split {2 * t} 3 {t + 1}\n" for t in range(count))
@@ -351,6 +364,7 @@ def parts(trial, long):
     yield from little_memory(trial, [row1, first])
     yield from small_stack(trial, [row1, first, many])
     yield from long_texts(trial)
+    yield from most_splits(trial)
     yield from few_files(trial, row1)
     yield from odd_files(trial)
     yield from each_size(trial, row1)

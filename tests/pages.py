@@ -113,7 +113,10 @@ def unnamed_lemmas():
 
 
 def help_apart():
-    """Lines of tools/help.txt that are not the commands of docs/FORMATS.md with their positionals, options and choices, or lack one."""
+    """Lines of tools/help.txt that are not the commands of docs/FORMATS.md with their positionals, options and choices, or lack one.
+
+    A line that begins with an option goes on with the command above it.
+    """
     rows = re.findall(r"(?m)^\|\s*(?:`(\w+)`)?\s*\|\s*([A-Z ]*?)\s*\|\s*(`--.*?|)\s*\|[^|]*\|$", (TOP / "docs" / "FORMATS.md").read_text())
     wanted = []
     for command, positionals, option in rows:
@@ -122,7 +125,8 @@ def help_apart():
         named = re.match(r"`(--\w+)` (.*?): ", option)
         if named and wanted:
             wanted[-1] += f" [{named[1]} {'|'.join(re.findall(r'`([a-z]+)`', named[2])) or named[2]}]"
-    shown = re.findall(r"(?m)^  ((?:[a-z]+) [A-Z][^\n]*?)(?: {3,}.*)?$", (TOP / "tools" / "help.txt").read_text())
+    told = re.sub(r"\n +(?=\[--)", " ", (TOP / "tools" / "help.txt").read_text())
+    shown = re.findall(r"(?m)^  ((?:[a-z]+) [A-Z][^\n]*?)(?: {3,}.*)?$", told)
     if not wanted or shown != wanted:
         yield f"tools/help.txt has {shown}, and docs/FORMATS.md {wanted}"
 

@@ -294,6 +294,10 @@ def minutes(folder):
     yield from accepted(EXAMPLES / "haverly1.json", folder / "done.cert", "Haverly 1")
     if found.returncode or found.stderr or "\ncost -400000000000000 1\n" not in found.stdout:
         yield f"Haverly 1: {found.returncode} {found.stderr}"
+    # the lowest quarter of the flow of the second part holds no better plan: the empty proof shows it
+    squeezed = run("solve_for", "1", TOP / "tests" / "worked" / "haverly1_and_one.json", "--gap", "0.001", "--squeeze", "on")
+    if "\nsplit 0 7 25000000\n" not in squeezed.stdout:
+        yield f"Haverly 1 and one more, with squeezes: {squeezed.returncode} {squeezed.stderr}"
     net, journal = folder / "made.json", folder / "made.journal"
     net.write_text(pool("make", "9").stdout)
     begun = time.monotonic()

@@ -145,6 +145,9 @@ def solved(_):
     found = pooling.solve(pooling.json.loads((EXAMPLES / "haverly1.json").read_text()), gap="0.001")
     if (found.cost, found.flows["C", "Y"], found.flows["A", "P"], found.qualities["Y", "sulfur"], found.gap <= Fraction(1, 1000)) != (-400, 100, 0, Fraction(3, 2), True):
         yield f"Haverly 1: {found}"
+    found_by = [pooling.solve(str(TOP / "tests" / "worked" / "haverly1_and_one.json"), gap="0.001", squeeze=word) for word in ("on", "off")]
+    if [found.cost for found in found_by] != [-7400, -7400]:
+        yield f"Haverly 1 and one more: {found_by}"
     if pooling.solve(str(EXAMPLES / "no_plan.json")).kind != "none" or found.tables()["flows"] is None:
         yield "a network without a plan is solved"
     sys.modules["pandas"] = types.SimpleNamespace(DataFrame=lambda rows: ("a table", len(rows)))

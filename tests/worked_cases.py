@@ -133,6 +133,9 @@ row1 solve net = 0
 row1 solve --nodes=1000 net --form pq --rule widest --gap 0.01 = 0
 row1 solve net --form p --rule violated --nodes 0 --gap 0 = 0
 row1 solve net --nodes 200000 --rule first = 0
+row1 solve net --squeeze on = 0
+row1 solve net --squeeze=off = 0
+haverly1 solve net --rule violated --squeeze=on --gap 0.001 = 0
 row1 solve net --nodes=200001 = 4
 row1 solve other --nodes 200001 = 20
 row1 solve net --journal j = 0
@@ -175,6 +178,10 @@ solve net --journal=-j
 solve net --form p --form=q
 solve net --form PQ
 solve net --rule best
+solve net --squeeze
+solve net --squeeze maybe
+solve net --squeeze ON
+solve net --squeeze on --squeeze=on
 solve net --nodes 000000000000000000007
 solve net --nodes 18446744073709551616
 solve net --nodes +7
@@ -683,6 +690,35 @@ def longer_searches(pool):
     yield "one that goes on from its tree", (status, splits > 0, cost <= -399999000000000 * base), (0, True, True)
 
 
+def squeezed_searches(pool):
+    """Searches with `--squeeze on`: whole ones, and some that were stopped and go on with it, without it, or from a run without it.
+
+    The second network is Haverly's first and, apart, a source that earns 7,000 through a pool of its own. With each variable at the end
+    where it costs least the first part earns 4,900 and the lowest quarter of the second part 1,750. That is less than 7,000, so this
+    quarter, of the coordinate 7, is cut off before anything is halved.
+    """
+    haverly, both = text("haverly1.json"), text("haverly1_and_one.json")
+    piece = ["0 7 25000000"]
+
+    def solved(net, most, *words):
+        status, certificate, _ = pool.solve(net, "--gap", "0.001", *words)
+        cost, base = numbers(certificate, "cost")
+        said = pool.on("check", net, certificate)[1].split(" ")[0]
+        return (status, said, cost <= most * base), re.findall("(?m)^split (.*)$", certificate)
+
+    closed = (0, "accepted", True)
+    yield "squeezes of Haverly 1", solved(haverly, -399999000000000, "--squeeze", "on")[0], closed
+    for rule in ("widest", "first", "violated", "fewest"):
+        found, splits = solved(both, -7399999000000000, "--rule", rule, "--squeeze", "on")
+        yield f"squeezes by the rule {rule}", (found, splits[:1]), (closed, piece)
+    for first, nodes, begun, then in (("on", 1, piece, "on"), ("on", 1, piece, "off"), ("off", 0, [], "on")):
+        journal = pool.file("squeezed.journal", "")
+        found, splits = solved(both, -7000000000000000, "--nodes", nodes, "--squeeze", first, "--journal", journal)
+        yield f"squeezes {first}, stopped", (found, splits), ((10, "accepted", True), begun)
+        found, splits = solved(both, -7399999000000000, "--squeeze", then, "--journal", journal)
+        yield f"squeezes {first}, then {then}", (found, splits[:1]), (closed, piece)
+
+
 # ---- journals
 
 
@@ -753,7 +789,7 @@ def cases(pool):
     """Each case: what it is, what was found, and what is wanted."""
     for part in (statuses, words_that_ask_nothing, single_writes, refused_networks, refused_rows, answers, root_proofs, plans,
                  thousands_of_proofs, damaged_bytes, reports, programs, canonical_texts, made_networks, starts, searches,
-                 longer_searches, journals, longest_trees):
+                 longer_searches, squeezed_searches, journals, longest_trees):
         yield from part(pool)
     trials = [pool.run("trial", 7) for _ in range(2)]
     yield "a trial tells the same twice", trials[0], trials[1]

@@ -213,7 +213,7 @@ def new_tree(net):                                          # low and high ends 
     return types.SimpleNamespace(lows=[net.low], highs=[net.high], cut_nodes=set())
 def cut_leaf(net, tree, leaf, coord, cut):
     t, nodes = len(tree.cut_nodes), len(tree.lows)
-    refuse(t > 19_999 or leaf >= nodes or leaf in tree.cut_nodes or coord >= net.coordinates, f"split {t}")
+    refuse(t > 199_999 or leaf >= nodes or leaf in tree.cut_nodes or coord >= net.coordinates, f"split {t}")
     low, high = tree.lows[leaf], tree.highs[leaf]
     refuse(not low[coord] < cut < high[coord], f"split {t}")                                        # cuts the box
     tree.lows += [low, low[:coord] + [cut] + low[coord + 1:]]

@@ -5,7 +5,7 @@ use Rattle.pool_model.specs.Network.{Net}
 use Rattle.row_model.specs.Boxes.{Box, left_of, right_of}
 use Rattle.row_model.specs.Multipliers.{Proof, IsInOrder, bound, shown_by}
 use Rattle.row_model.specs.Trees.{Split, box_of, node_bound, raised, left_node, right_node}
-use Rattle.row_model.specs.Entries.{Entry, root_proof, split_of, improve, Searched}
+use Rattle.row_model.specs.Entries.{Entry, root_proof, split_of, improve, Searched, IsEntryInOrder}
 use Rattle.box_space.specs.Views.{AreEndsOf, shown_proof}
 use Rattle.box_space.specs.declared.coordinates.Form.{Form}
 use Rattle.dual_rounding.specs.Answers.{IsAtMost}
@@ -14,7 +14,9 @@ use Rattle.dual_rounding.specs.Programs.{has_row}
 use Rattle.box_squeeze.specs.Pieces.{cut_at, part_of, piece_of, kept_of, HasPieces}
 use Rattle.box_squeeze.specs.declared.piece.Side.{Side}
 use Rattle.box_squeeze.specs.declared.piece.Side.TheVariants.{Left, Right}
+use Rattle.box_tree.specs.Views.{shown_entry}
 use Rattle.box_squeeze.specs.declared.closing.Closed.{Closed}
+use Rattle.box_squeeze.specs.declared.squeezing.Squeezed.{Squeezed}
 
 -- ---- proofs of pieces
 
@@ -86,3 +88,7 @@ abbrev pub IsSqueezeOf : Net → Form → Searched → ℕ → ℤ → Entry →
 IsSqueezeOf n form s leaf target (split_of split left right) kept = IsSqueeze n form s leaf target split left right kept
 IsSqueezeOf n form s leaf target (root_proof proof) kept = ⊥
 IsSqueezeOf n form s leaf target (improve plan) kept = ⊥
+
+-- such a split is in order
+abbrev pub IsOrderedSqueeze : Net → Form → Searched → ℕ → ℤ → Squeezed → Type 0
+IsOrderedSqueeze n form s leaf target q = IsSqueezeOf n form s leaf target (shown_entry q.entry) q.kept × IsEntryInOrder n s (shown_entry q.entry)

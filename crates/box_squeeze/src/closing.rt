@@ -204,7 +204,7 @@ impl Range {
     }
 
     /// The piece of a side, where its program, from a basis, gives a proof that shows the target.
-    fn by_program(
+    pub(crate) fn by_program(
         &self,
         alloc: Global,
         net: &Network,

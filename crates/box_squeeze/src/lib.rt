@@ -6,17 +6,20 @@
 //! other is kept. So every plan that obeys, lies in the leaf and costs less than the target lies in the node that is kept.
 //!
 //! The pieces are tried first by the empty proof, which needs no program, and then all of them by programs; [`squeeze_free`] ends before
-//! those. None comes only where no piece's empty proof shows the target.
+//! those, and [`squeeze_looked`] solves but those of cuts that a look has solved, where they may pay. None comes only where no piece's empty
+//! proof shows the target.
 //!
 //! `specs/Pieces.antt` says what a piece is, and `specs/Squeezes.antt` what a split is that cuts one off. When a leaf is squeezed, and
 //! whether its pieces are worth programs, is left to the layer above.
 #![tactic(auto)]
 
 mod closing;
+mod looking;
 mod piece;
 mod squeezing;
 mod target;
 
+pub use looking::squeeze_looked;
 pub use piece::Side;
 pub use squeezing::{Squeezed, squeeze, squeeze_free};
 pub use target::target_of;

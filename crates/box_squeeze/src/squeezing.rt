@@ -4,7 +4,7 @@ ghost use Rattle.std.specs.Prelude.{◌≡◌, ◌<◌, ◌^◌, length, Some, o
 ghost use Rattle.pool_model.specs.Network.{IsLimited, net_of};
 ghost use Rattle.row_model.specs.Trees.{box_of, most_splits, IsLeaf};
 ghost use Rattle.row_model.specs.Entries.{split_of, IsEntryInOrder};
-ghost use Rattle.box_space.specs.Views.{shown_proof};
+ghost use Rattle.box_space.specs.Views.{shown_proof, AreEnds};
 ghost use Rattle.box_tree.specs.Kept.{IsOf, searched_of};
 ghost use Rattle.box_tree.specs.Views.{shown_entry};
 ghost use Rattle.box_squeeze.specs.Squeezes.{on, kept_node, HasNoEmpty, IsClosed, IsSqueezeOf};
@@ -12,11 +12,12 @@ ghost use Rattle.box_squeeze.specs.Squeezes.{on, kept_node, HasNoEmpty, IsClosed
 use crate::closing::{Closed, Range};
 use crate::piece::Side;
 use blend_network::Network;
-use box_space::{Form, Proof, Split, coords};
+use box_space::{BoxEnds, Form, Proof, Split, coords};
 use box_tree::{Entry, Tree};
 use dual_rounding::lp_of;
 use edge_io::Memory;
 use lp_simplex::advise;
+use row_book::{Scratch, Shown, value};
 use std::alloc::Global;
 
 /// A split that cuts a piece off a leaf.
@@ -66,8 +67,8 @@ pub fn squeeze(
     let Some(closed) = range.closed(alloc, net, basis)? else {
         return Ok(None);
     };
-    let squeezed = cut_closed(alloc, net, tree, leaf, &range, closed, basis)?;
-    Ok(Some(squeezed))
+    let found = cut_closed(alloc, net, tree, leaf, &range, closed, basis)?;
+    Ok(Some(found.squeezed))
 }
 
 /// The same by the empty proof alone: a piece is cut off only where its empty proof shows the target, and where none does, no program is
@@ -105,12 +106,19 @@ pub fn squeeze_free(
     let Some(closed) = range.closed_by_none(alloc, net, &[])? else {
         return Ok(None);
     };
-    let squeezed = cut_closed(alloc, net, tree, leaf, &range, closed, &[])?;
-    Ok(Some(squeezed))
+    let found = cut_closed(alloc, net, tree, leaf, &range, closed, &[])?;
+    Ok(Some(found.squeezed))
+}
+
+/// A squeeze, and what is known of the node that is kept, in picos: None where it holds no plan.
+#[derive(Drop)]
+pub(crate) struct Found {
+    pub(crate) squeezed: Squeezed,
+    pub(crate) bound: Option<i128>,
 }
 
 /// The split that cuts a closed piece off a leaf, with what rounding gives for what is kept, of an advice from a basis.
-fn cut_closed(
+pub(crate) fn cut_closed(
     alloc: Global,
     net: &Network,
     tree: &Tree,
@@ -118,19 +126,45 @@ fn cut_closed(
     range: &Range,
     closed: Closed,
     basis: &[u32],
-) -> Result<Squeezed, Memory>
+) -> Result<Found, Memory>
     requires limited { IsLimited (net_of net.now) }
     requires tree { IsOf (net_of net.now) tree.now }
     requires few { length tree.now.kept.splits.list < most_splits }
     requires leaf { IsLeaf tree.now.kept.splits.list leaf }
     requires closed { IsClosed (net_of net.now) range.now.form (box_of (net_of net.now) tree.now.kept.splits.list leaf) range.now.target closed }
-    ensures squeeze { IfOk result (λ q. IsSqueezeOf (net_of net.now) range.now.form (searched_of tree.now.kept) leaf range.now.target (shown_entry q.entry) q.kept) }
-    ensures in_order { IfOk result (λ q. IsEntryInOrder (net_of net.now) (searched_of tree.now.kept) (shown_entry q.entry)) }
+    ensures squeeze { IfOk result (λ f. IsSqueezeOf (net_of net.now) range.now.form (searched_of tree.now.kept) leaf range.now.target (shown_entry f.squeezed.entry) f.squeezed.kept) }
+    ensures in_order { IfOk result (λ f. IsEntryInOrder (net_of net.now) (searched_of tree.now.kept) (shown_entry f.squeezed.entry)) }
 {
     let bound = tree.node_bound(leaf).unwrap_or(range.target);
     let kept = range.proof_of(alloc, net, &closed.kept, basis, bound)?;
+    let known = known_of(alloc, net, &closed.kept, &kept, bound)?;
     let count = tree.splits().len() as u32;
-    Ok(cut_off(count, leaf, closed, kept))
+    Ok(Found {
+        squeezed: cut_off(count, leaf, closed, kept),
+        bound: known,
+    })
+}
+
+/// What a proof shows of a box, in picos, or the bound where there is none: None where the box holds no plan.
+fn known_of(
+    alloc: Global,
+    net: &Network,
+    ends: &BoxEnds,
+    proof: &Option<Proof>,
+    bound: i128,
+) -> Result<Option<i128>, Memory>
+    requires limited { IsLimited (net_of net.now) }
+    requires ends { AreEnds (net_of net.now) ends.now }
+{
+    let Some(proof) = proof else {
+        return Ok(Some(bound));
+    };
+    let mut scratch = Scratch::new(alloc, net)?;
+    match value(net, &ends.view(), proof, &mut scratch) {
+        Ok(Shown::NoPlan) => Ok(None),
+        Ok(Shown::Bound(shown)) => Ok(Some(shown.max(bound))),
+        Err(_) => Ok(Some(bound)),
+    }
 }
 
 /// The split of a leaf that cuts off a piece, behind so many splits, with the proof of what is kept.

@@ -1,12 +1,12 @@
 -- From the answers of parts to those of the whole, and that there is one answer.
-use Rattle.std.proofs.Common.{◌≡◌, ◌∙◌, ◌^◌, true≢false, false, refl, sym, ap, ap₂, subst, List, ℕ, ℤ, pos, ◌*ℤ◌, Option, Some, None, Ok, Err, codes, IfOk}
+use Rattle.std.proofs.Common.{◌≡◌, ◌∙◌, ◌^◌, true≢false, Bool, true, false, refl, sym, ap, ap₂, subst, List, ℕ, ℤ, pos, ◌*ℤ◌, Option, Some, None, Ok, Err, codes, IfOk}
 use Rattle.std.specs.Prelude.{Result, IsSomeAnd}
 use Rattle.std.specs.Str.{bytes_eq}
 use Rattle.std.proofs.lemmas.Slice.Eq.{bytes_eq-Decides}
 use Rattle.quantity.proofs.Laws.{quantity-only}
 use Rattle.command_items.specs.Items.{Text}
 use Rattle.cli_words.specs.Requests.{Asked, Solving, line_of, solve, check, report, formulate, make, trial}
-use Rattle.cli_words.specs.Asks.{Asks, IsForm, IsGap, IsNodes, IsNumber, IsRule, IsSolving, Says, form_name, rule_name}
+use Rattle.cli_words.specs.Asks.{Asks, IsForm, IsGap, IsNodes, IsNumber, IsRule, IsSolving, IsSwitch, Says, form_name, rule_name, switch_name}
 use Rattle.cli_words.specs.Views.{Answers, Means, Reads, Takes, shown_request}
 use Rattle.box_space.specs.declared.coordinates.Form.{Form}
 use Rattle.box_space.specs.declared.coordinates.Form.TheVariants.{P, Q, Pq}
@@ -67,6 +67,11 @@ same_rule Violated Violated e = refl
 same_rule Fewest Fewest e = refl
 same_rule r s e = absurd (apart _ _ refl e)
 
+same_switch : (a b : Bool) → switch_name a ≡ switch_name b → a ≡ b
+same_switch true true e = refl
+same_switch false false e = refl
+same_switch a b e = absurd (apart _ _ refl e)
+
 one_form : (o : Option Text) (f g : Form) → IsForm o f → IsForm o g → f ≡ g
 one_form None f g h k = h ∙ sym k
 one_form (Some text) f g h k = same_form f g (sym h ∙ k)
@@ -74,6 +79,10 @@ one_form (Some text) f g h k = same_form f g (sym h ∙ k)
 one_rule : (o : Option Text) (r s : RuleName) → IsRule o r → IsRule o s → r ≡ s
 one_rule None r s h k = h ∙ sym k
 one_rule (Some text) r s h k = same_rule r s (sym h ∙ k)
+
+one_switch : (o : Option Text) (a b : Bool) → IsSwitch o a → IsSwitch o b → a ≡ b
+one_switch None a b h k = h ∙ sym k
+one_switch (Some text) a b h k = same_switch a b (sym h ∙ k)
 
 one_nodes : (o : Option Text) (m n : ℕ) → IsNodes o m → IsNodes o n → m ≡ n
 one_nodes None m n h k = h ∙ sym k
@@ -97,7 +106,8 @@ one_solving value s t h k =
     let gap = one_gap (value (codes "gap")) s.gap t.gap h.gap k.gap in
     let journal = sym h.journal ∙ k.journal in
     let rule = one_rule (value (codes "rule")) s.rule t.rule h.rule k.rule in
-    λ i. record { net = net i; form = form i; nodes = nodes i; gap = gap i; journal = journal i; rule = rule i }
+    let squeeze = one_switch (value (codes "squeeze")) s.squeeze t.squeeze h.squeeze k.squeeze in
+    λ i. record { net = net i; form = form i; nodes = nodes i; gap = gap i; journal = journal i; rule = rule i; squeeze = squeeze i }
 
 one_said : (value : Text → Option Text) (a b : Asked) → (line_of a).command ≡ (line_of b).command → Says value a → Says value b → a ≡ b
 one_said value (solve s) (solve t) e h k = ap solve (one_solving value s t h k)

@@ -1,5 +1,5 @@
 -- Which words ask which request.
-use Rattle.std.specs.Prelude.{◌≡◌, ◌<◌, ◌≤◌, ◌^◌, ℕ, ℤ, pos, ◌*ℤ◌, ◌≤ℤ◌, List, Option, Some, None, length, codes, IsSomeAnd}
+use Rattle.std.specs.Prelude.{◌≡◌, ◌<◌, ◌≤◌, ◌^◌, ℕ, Bool, true, false, ℤ, pos, ◌*ℤ◌, ◌≤ℤ◌, List, Option, Some, None, length, codes, IsSomeAnd}
 use Rattle.std.specs.Str.Parse.{IsNumeral, digits_value}
 use Rattle.pool_model.specs.Quantity.{StandsFor}
 use Rattle.command_items.specs.Items.{Text, Given}
@@ -32,6 +32,15 @@ rule_name Fewest = codes "fewest"
 abbrev pub IsRule : Option Text → RuleName → Type 0
 IsRule None rule = rule ≡ Widest
 IsRule (Some text) rule = text ≡ rule_name rule
+
+abbrev pub switch_name : Bool → Text
+switch_name true = codes "on"
+switch_name false = codes "off"
+
+-- whether something is switched on; off where nothing is said
+abbrev pub IsSwitch : Option Text → Bool → Type 0
+IsSwitch None on = on ≡ false
+IsSwitch (Some text) on = text ≡ switch_name on
 
 -- one to twenty decimal digits, of a number of at most 2^64 - 1
 pub record IsNumber (text : Text) (n : ℕ) : Type 0 where
@@ -68,6 +77,7 @@ pub record IsSolving (value : Text → Option Text) (s : Solving) : Type 0 where
   pub gap : IsGap (value (codes "gap")) s.gap
   pub journal : value (codes "journal") ≡ s.journal
   pub rule : IsRule (value (codes "rule")) s.rule
+  pub squeeze : IsSwitch (value (codes "squeeze")) s.squeeze
 
 -- the values say this, where the value under each name is given
 abbrev pub Says : (Text → Option Text) → Asked → Type 0

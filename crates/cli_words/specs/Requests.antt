@@ -1,5 +1,5 @@
 -- What words can ask.
-use Rattle.std.specs.Prelude.{ℕ, ℤ, Option}
+use Rattle.std.specs.Prelude.{ℕ, Bool, ℤ, Option}
 use Rattle.command_items.specs.Items.{Text}
 use Rattle.command_items.specs.Lines.{Line, solve_line, check_line, report_line, formulate_line, make_line, trial_line}
 use Rattle.box_space.specs.declared.coordinates.Form.{Form}
@@ -13,6 +13,7 @@ pub record Solving : Type 0 where
   pub gap : ℤ
   pub journal : Option Text
   pub rule : RuleName
+  pub squeeze : Bool
 
 -- a request, without where it lies in memory
 pub data Asked : Type 0 where

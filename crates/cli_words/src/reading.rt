@@ -7,7 +7,7 @@ ghost use Rattle.cli_words.specs.Requests.{Asked};
 ghost use Rattle.cli_words.specs.Asks.{Asks};
 ghost use Rattle.cli_words.specs.Views.{Answers, Means, Reads, Takes, shown_request};
 
-use crate::values::{read_form, read_gap, read_nodes, read_number, read_rule};
+use crate::values::{read_form, read_gap, read_nodes, read_number, read_rule, read_switch};
 use crate::{Request, SolveWords, WordsFault};
 use clap::ArgMatches;
 use command_items::{entered, has_form, matches_of, text_of};
@@ -70,6 +70,7 @@ fn read_solve(alloc: Global, matches: &ArgMatches<'_>) -> Result<Request, WordsF
     let nodes = read_nodes(text_of(matches, "nodes"))?;
     let gap = read_gap(text_of(matches, "gap"))?;
     let rule = read_rule(text_of(matches, "rule"))?;
+    let squeeze = read_switch(text_of(matches, "squeeze"))?;
     let Some(net) = text_of(matches, "net") else {
         return Err(WordsFault::Usage);
     };
@@ -81,6 +82,7 @@ fn read_solve(alloc: Global, matches: &ArgMatches<'_>) -> Result<Request, WordsF
         gap,
         journal,
         rule,
+        squeeze,
     }))
 }
 

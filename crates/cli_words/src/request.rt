@@ -16,6 +16,8 @@ pub struct SolveWords {
     /// The name of the journal's file.
     pub journal: Option<String>,
     pub rule: RuleName,
+    /// Whether pieces are cut off leaves where that pays.
+    pub squeeze: bool,
 }
 
 /// What the words ask.

@@ -1,7 +1,7 @@
 //! What the values of words say.
 
 ghost use Rattle.std.specs.Prelude.{option_map, IsSomeAnd};
-ghost use Rattle.cli_words.specs.Asks.{IsForm, IsGap, IsMoney, IsNodes, IsNumber, IsRule};
+ghost use Rattle.cli_words.specs.Asks.{IsForm, IsGap, IsMoney, IsNodes, IsNumber, IsRule, IsSwitch};
 ghost use Rattle.cli_words.specs.Views.{Reads};
 
 use crate::WordsFault;
@@ -32,6 +32,18 @@ pub(crate) fn read_rule(text: Option<&str>) -> Result<RuleName, WordsFault>
         Some("widest") => Ok(RuleName::Widest),
         Some("violated") => Ok(RuleName::Violated),
         Some("fewest") => Ok(RuleName::Fewest),
+        Some(_) => Err(WordsFault::Usage),
+    }
+}
+
+/// Whether something is switched on; off where nothing is said.
+pub(crate) fn read_switch(text: Option<&str>) -> Result<bool, WordsFault>
+    ensures { Reads (λ b. b) (IsSwitch (option_map (λ s. s.now) text.entry)) result }
+{
+    match text {
+        None => Ok(false),
+        Some("on") => Ok(true),
+        Some("off") => Ok(false),
         Some(_) => Err(WordsFault::Usage),
     }
 }

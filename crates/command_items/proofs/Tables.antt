@@ -45,7 +45,7 @@ Each (l ∷ ls) = Proper l × Each ls
 all_proper : Each lines
 all_proper = (
   record {
-    table = record { places_served = (refl, refl, tt); options_served = (refl, refl, (refl, refl, (refl, refl, (refl, refl, (refl, refl, tt))))); places_distinct = refl; apart = refl };
+    table = record { places_served = (refl, refl, tt); options_served = (refl, refl, (refl, refl, (refl, refl, (refl, refl, (refl, refl, (refl, refl, tt)))))); places_distinct = refl; apart = refl };
     bare = record { defaults = refl; passes = refl; valid = λ rows. refl };
     named = refl;
   },

@@ -14,7 +14,7 @@ abbrev pub solve_line : Line
 solve_line = record {
   command = codes "solve";
   places = codes "net" ∷ [];
-  options = codes "form" ∷ codes "nodes" ∷ codes "gap" ∷ codes "journal" ∷ codes "rule" ∷ [];
+  options = codes "form" ∷ codes "nodes" ∷ codes "gap" ∷ codes "journal" ∷ codes "rule" ∷ codes "squeeze" ∷ [];
 }
 
 abbrev pub check_line : Line

@@ -130,7 +130,11 @@ fn fits_command(command: &str, items: &[Item<'_>]) -> bool
     ensures { result ≡ fits_command command.now (shown_items items.now) }
 {
     if command == "solve" {
-        return fits(items, 1, &["form", "nodes", "gap", "journal", "rule"]);
+        return fits(
+            items,
+            1,
+            &["form", "nodes", "gap", "journal", "rule", "squeeze"],
+        );
     }
     if command == "check" || command == "report" {
         return fits(items, 2, &[]);

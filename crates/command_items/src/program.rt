@@ -52,7 +52,7 @@ fn first_lines<'a>(alloc: Global) -> Result<Command<'a>, AllocError>
         bare(alloc),
         "solve",
         &["net"],
-        &["form", "nodes", "gap", "journal", "rule"],
+        &["form", "nodes", "gap", "journal", "rule", "squeeze"],
     )?;
     let program = with_line(alloc, program, "check", &["net", "cert"], &[])?;
     with_line(alloc, program, "report", &["net", "cert"], &[])

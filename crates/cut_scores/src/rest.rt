@@ -41,6 +41,15 @@ impl Aim {
         }
     }
 
+    /// The aim at a leaf of this bound where a half is closed at a target, both in picos.
+    pub fn at(target: i128, bound: i128) -> Aim {
+        Aim {
+            bound,
+            cutoff: target,
+            target: Some(target),
+        }
+    }
+
     /// What no bound needs to pass, in picos.
     pub fn cutoff(&self) -> i128 {
         self.cutoff
@@ -59,6 +68,14 @@ impl Aim {
                 let rest = self.rest(target, left);
                 0i128.saturating_sub(rest.saturating_add(self.rest(target, right)))
             }
+        }
+    }
+
+    /// What is left to be done in a half of this bound, in fifths of a pico: nothing where it is closed, or where there is no target.
+    pub fn rest_of(&self, half: Option<i128>) -> i128 {
+        match self.target {
+            None => 0,
+            Some(target) => self.rest(target, half),
         }
     }
 

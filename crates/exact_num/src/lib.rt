@@ -9,6 +9,9 @@
 //!
 //! What it means that two fractions are the same, or that one is a sum or a product, is defined in `specs/Fraction.antt`.
 //! Parsing and printing are left to the layers above.
+//!
+//! Files of lemmas that crates above may cite: `proofs/Laws.antt` (when two fractions are the same, lowest terms and the range),
+//! `proofs/Signs.antt` (signed numbers by sign and size) and `proofs/Cancelling.antt` (products of fractions that are freed of common factors).
 #![tactic(auto)]
 
 mod frac;

@@ -11,6 +11,7 @@ ghost use Rattle.dual_rounding.specs.Rooms.{Serves};
 ghost use Rattle.leaf_cuts.specs.Benches.{IsBench};
 ghost use Rattle.leaf_cuts.specs.Given.{IsGiven};
 
+use crate::solved::SolvedCut;
 use blend_network::Network;
 use box_space::{BoxEnds, Form, Proof};
 use dual_rounding::{Relaxation, Rounding};
@@ -27,6 +28,17 @@ pub struct Bench {
     pivots: u32,
     pub(crate) relaxation: Relaxation,
     pub(crate) rounding: Rounding,
+    /// The cuts of which both halves are solved.
+    pub(crate) solved: Vec<SolvedCut>,
+}
+
+/// What came of a box: what rounding gives, what is known of it then, and where its program ended.
+#[derive(Drop)]
+pub(crate) struct Proved {
+    pub(crate) proof: Option<Proof>,
+    /// In picos: None where it holds no plan.
+    pub(crate) bound: Option<i128>,
+    pub(crate) basis: Vec<u32>,
 }
 
 impl Bench {
@@ -49,6 +61,7 @@ impl Bench {
             pivots,
             relaxation: Relaxation::new(alloc, net, form, &view)?,
             rounding: Rounding::new(alloc, net)?,
+            solved: Vec::new(alloc),
         })
     }
 
@@ -113,21 +126,32 @@ impl Bench {
         ends: &BoxEnds,
         basis: &[u32],
         bound: i128,
-    ) -> Result<Option<Proof>, Memory>
+    ) -> Result<Proved, Memory>
         requires limited { IsLimited (net_of net.now) }
         requires ends { AreEnds (net_of net.now) ends.now }
         requires bench { IsBench (net_of net.now) self.old }
         ensures bench { IsBench (net_of net.now) self.new }
         ensures form { self.new.form ≡ self.old.form }
-        ensures given { (b : Box) → AreEndsOf (net_of net.now) b ends.now → IfOk result (λ o. IsGiven (net_of net.now) self.old.form b (shows bound) (option_map shown_proof o)) }
+        ensures given { (b : Box) → AreEndsOf (net_of net.now) b ends.now
+            → IfOk result (λ p. IsGiven (net_of net.now) self.old.form b (shows bound) (option_map shown_proof p.proof)) }
     {
         self.move_to(net, ends)?;
         let advice = self.advise_from(alloc, basis)?;
-        self.round(net, ends, &advice, bound)
+        let proof = self.round(net, ends, &advice, bound)?;
+        Ok(Proved {
+            proof,
+            bound: self.worth(),
+            basis: advice.basis,
+        })
+    }
+
+    /// The cuts of which both halves are solved, without the bench.
+    pub fn into_solved(self) -> Vec<SolvedCut> {
+        self.solved
     }
 
     /// What is known of the box that was rounded last, in picos: what the proof shows, or the bound. None where it holds no plan.
-    pub(crate) fn worth(&self) -> Option<i128> {
+    fn worth(&self) -> Option<i128> {
         match self.rounding.known() {
             Shown::Bound(bound) => Some(bound),
             Shown::NoPlan => None,

@@ -12,6 +12,7 @@ ghost use Rattle.leaf_cuts.specs.Halvings.{middle_at, IsHalvingOf};
 use crate::bench::Bench;
 use crate::ends::ends_at;
 use crate::leaf::Leaf;
+use crate::solved::SolvedCut;
 use blend_network::Network;
 use box_space::{BoxEnds, Proof, halves};
 use edge_io::Memory;
@@ -50,14 +51,19 @@ impl Bench {
         let (below, above) = halves(alloc, &leaf.ends, coord, cut)?;
         let basis = leaf.advice.basis.as_slice();
         let left = self.prove(alloc, net, &below, basis, leaf.bound)?;
-        let left_bound = self.worth();
         let right = self.prove(alloc, net, &above, basis, leaf.bound)?;
-        let right_bound = self.worth();
+        let bounds = [left.bound, right.bound];
+        self.solved.push(SolvedCut {
+            coord,
+            bounds,
+            left: left.basis,
+            right: right.basis,
+        })?;
         Ok(Halving {
             coord,
-            left,
-            right,
-            bounds: [left_bound, right_bound],
+            left: left.proof,
+            right: right.proof,
+            bounds,
         })
     }
 

@@ -17,7 +17,7 @@ use std::alloc::Global;
 
 /// How many splits there have to be before a leaf's program starts from a proof. Those before start from nothing: they end at other
 /// points of the same cost, and other plans come of these.
-const COLD_SPLITS: usize = 10;
+const COLD_SPLITS: usize = 7;
 
 /// The least leaf, with advice on its program.
 #[derive(Drop)]

@@ -13,10 +13,13 @@
 //! What makes it quick is promised by no clause, since no answer rests on it:
 //!
 //! - A program starts where the one above it ended. The least leaf's starts from the proof of the nearest node that has one, and
-//!   those of its halves from the leaf's basis. The first ten are solved from nothing, since other vertices give other plans.
+//!   those of its halves from the leaf's basis. The first seven are solved from nothing, since other vertices
+//!   give other plans.
 //! - Where a look is asked for, both halves of coordinates are solved, those first that are missed the most by what `cut_scores` says, up
 //!   to so many and as long as new ones lead; and the one whose cut leaves the least to be done gets the greatest number. The rows of
 //!   the view have these numbers, and else none.
+//!
+//! A bench keeps what it solved of the halves ([`SolvedCut`]), for whoever tries other parts of the leaf ([`Bench::into_solved`]).
 //!
 //! When a leaf is looked at or cut, and what else a search does, is left to the crates above.
 //!
@@ -32,6 +35,7 @@ mod halving;
 mod leaf;
 mod looking;
 mod root;
+mod solved;
 mod view;
 
 pub use bench::Bench;
@@ -39,3 +43,4 @@ pub use halving::Halving;
 pub use leaf::{Leaf, solve_leaf};
 pub use looking::Looked;
 pub use root::root_proof;
+pub use solved::{SolvedCut, SolvedCuts};

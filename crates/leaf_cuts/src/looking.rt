@@ -154,7 +154,8 @@ impl Bench {
         leaf: &Leaf,
         looks: u32,
     ) -> Result<Vec<u64>, Memory>
-        requires { AreEnds (net_of net.now) leaf.now.ends }
+        requires limited { IsLimited (net_of net.now) }
+        requires ends { AreEnds (net_of net.now) leaf.now.ends }
     {
         if looks == 0 {
             return Ok(Vec::new(alloc));

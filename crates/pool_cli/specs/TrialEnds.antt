@@ -1,5 +1,5 @@
 -- How `trial` ends.
-use Rattle.std.specs.Prelude.{◌≡◌, ◌^◌, ℕ, List, pos}
+use Rattle.std.specs.Prelude.{◌≡◌, ◌^◌, ℕ, List, false, pos}
 use Rattle.pool_model.specs.Network.{Net, net_of}
 use Rattle.pool_model.specs.Claim.{Claimed, with_gap}
 use Rattle.box_space.specs.declared.coordinates.Form.TheVariants.{Pq}
@@ -24,9 +24,9 @@ trial_status outcomes.Done = statuses.Done
 trial_status outcomes.Memory = statuses.OutOfMemory
 trial_status outcomes.WriteFault = statuses.WriteFault
 
--- what a trial asks of the search: the third form, ten splits, a gap of a hundredth of money, and a cut of the widest coordinate
+-- what a trial asks of the search: the third form, ten splits, a gap of a hundredth of money, a cut of the widest coordinate, and no squeezes
 abbrev pub trial_orders : Orders
-trial_orders = record { form = Pq; nodes = 10; gap = pos (10 ^ 10); rule = Widest }
+trial_orders = record { form = Pq; nodes = 10; gap = pos (10 ^ 10); rule = Widest; squeeze = false }
 
 -- the code of the status and the numbers of a certificate with a plan
 abbrev pub IsToldOf : Status → Claimed → Trial → Type 0

@@ -136,5 +136,6 @@ fn orders() -> Orders
         nodes: 10,
         gap: 10_000_000_000,
         rule: RuleName::Widest,
+        squeeze: false,
     }
 }

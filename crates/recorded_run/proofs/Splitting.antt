@@ -1,18 +1,11 @@
 -- How many splits the lists of a run have.
-use Rattle.std.proofs.Common.{◌≡◌, ℕ, Bool, ◌≤◌, max, List, [], ◌∷◌, ◌++◌, length, Option, ℤ, sym, subst, arith, length-append}
+use Rattle.std.proofs.Common.{◌≡◌, ℕ, ◌≤◌, max, List, [], ◌∷◌, ◌++◌, length, sym, subst, arith, length-append}
 use Rattle.pool_model.specs.Network.{Net}
 use Rattle.row_model.specs.Entries as entries
 use Rattle.row_model.specs.Entries.{root_proof, split_of, improve, Searched, start, after, made_from, made_by}
-use Rattle.box_tree.specs.Counts.{AreCounts}
-use Rattle.box_tree.specs.Views.{shown_entry}
-use Rattle.box_tree.specs.declared.entry.Entry.{Entry}
-use Rattle.search_core.specs.Next.{IsEntry, IsNext}
-use Rattle.search_core.specs.declared.next.Next.TheVariants as next
-use Rattle.search_core.specs.declared.options.Options.{Options}
-use Rattle.search_run.specs.Orders.{options_of, picked}
-use Rattle.search_run.specs.Steps.{IsDue}
+use Rattle.search_run.specs.Steps.{IsDue, IsStep}
 use Rattle.search_run.specs.declared.orders.Orders.{Orders}
-use Rattle.search_run.proofs.Stepping.{due-of}
+use Rattle.search_run.proofs.Growing.{leaf-split}
 use Rattle.recorded_run.specs.Recorded.{BeginsWith, HasFewSplits}
 use Rattle.recorded_run.proofs.Recording.{made-more}
 
@@ -46,18 +39,13 @@ few-same o list = omega arith
 -- a split is due only where there are fewer than are asked for
 splits-due : (n : Net) (o : Orders) (s : Searched) (e : entries.Entry) (begun : ℕ) → IsDue n o s e → length s.tree.splits ≤ max o.nodes begun → length (after s e).tree.splits ≤ max o.nodes begun
 splits-due n o s (root_proof proof) begun due few = few
-splits-due n o s (split_of split left right) begun due few = omega (arith, due.1.few, length-append s.tree.splits (split ∷ []))
+splits-due n o s (split_of split left right) begun due few = omega (arith, (leaf-split n o s split left right due.1).few, length-append s.tree.splits (split ∷ []))
 splits-due n o s (improve plan) begun due few = few
 
-few-due : (n : Net) (o : Orders) (first last : List entries.Entry) (e : entries.Entry) → IsDue n o (made_by last) e → HasFewSplits o first last → HasFewSplits o first (last ++ e ∷ [])
-few-due n o first last e due few =
+-- what is due leaves few splits
+pub few-more : (n : Net) (o : Orders) (first last : List entries.Entry) (s : Searched) (e : entries.Entry) → IsStep n o s e → s ≡ made_by last → HasFewSplits o first last
+    → HasFewSplits o first (last ++ e ∷ [])
+few-more n o first last s e step made few =
+    let due = subst (λ (t : Searched). IsDue n o t e) made step.due in
     subst (λ (t : Searched). length t.tree.splits ≤ max o.nodes (length (made_by first).tree.splits)) (sym (made-more start last e))
     (splits-due n o (made_by last) e (length (made_by first).tree.splits) due few)
-
--- what comes next is due
-pub few-more : (n : Net) (o : Orders) (first last : List entries.Entry) (s : Searched) (options : Options) (repaired : Bool) (tried : Option (List ℤ)) (cuts : List ℕ) (e : Entry) → options ≡ options_of o
-    → AreCounts n s.tree.splits cuts → IsNext n options s repaired tried (picked o.rule cuts) (next.Do e) → s ≡ made_by last → HasFewSplits o first last
-    → HasFewSplits o first (last ++ shown_entry e ∷ [])
-few-more n o first last s options repaired tried cuts e asked counted is made few =
-    let due = due-of n o s repaired tried cuts e counted (subst (λ (x : Options). IsEntry n x s repaired tried (picked o.rule cuts) e) asked is) in
-    few-due n o first last (shown_entry e) (subst (λ (t : Searched). IsDue n o t (shown_entry e)) made due) few

@@ -10,8 +10,9 @@ ghost use Rattle.journal_format.specs.Records.{IsKeptAt};
 ghost use Rattle.node_journal.specs.Journals.{IsLeft, IsBeforeOrAfter};
 ghost use Rattle.node_journal.specs.Settled.{IsOnDisk};
 ghost use Rattle.journal_format.specs.declared.fault.JournalFault.TheVariants as journal_faults;
-ghost use Rattle.search_core.specs.Searches.{searched};
+ghost use Rattle.search_core.specs.Searches.{searched, IsAsked};
 ghost use Rattle.search_core.specs.Cases.{IsRepairedAfter};
+ghost use Rattle.search_run.specs.Orders.{options_of};
 ghost use Rattle.search_run.specs.Runs.{IsRun};
 ghost use Rattle.recorded_run.specs.Recorded.{IsRecorded, IsFreeFault};
 ghost use Rattle.recorded_run.specs.Sessions.{IsSession, IsRecordedRun};
@@ -22,8 +23,8 @@ use blend_network::Network;
 use box_tree::Entry;
 use disk_calls::Disk;
 use node_journal::{Journal, JournalFault};
-use search_core::{Answer, Next, Search};
-use search_run::{Ended, Orders, next_by};
+use search_core::{Next, Search};
+use search_run::{Ended, Orders, due};
 use std::alloc::Global;
 
 /// A journal, and the search whose tree is made of what the journal holds.
@@ -79,6 +80,7 @@ impl Session {
         disk: &mut D,
     ) -> Result<Ended, RunFault>
         requires session { IsSession (net_of net.now) orders self.old }
+        requires asked { IsAsked (options_of orders) }
         requires left { IsTrue (D.told disk.old).tells → IsLeft self.old.journal (D.told disk.old) }
         ensures session { IfOk result (λ _. IsSession (net_of net.now) orders self.new) }
         ensures run { IfOk result (IsRun (net_of net.now) orders (searched self.old.search) (searched self.new.search)) }
@@ -90,8 +92,8 @@ impl Session {
         ensures same_disk { IsSameDisk (D.told disk.old) (D.told disk.new) }
     {
         'steps: loop {
-            let Answer { due, .. } = next_by(alloc, net, orders.rule, &self.search)?;
-            match due {
+            let next = due(alloc, net, orders, &self.search)?;
+            match next {
                 Next::Do(entry) => self.record(net, orders, disk, entry)?,
                 Next::Closed => return Ok(Ended::Closed),
                 Next::Stopped => return Ok(Ended::Stopped),

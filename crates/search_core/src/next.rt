@@ -17,7 +17,7 @@ use blend_network::Network;
 use box_tree::Entry;
 use branching::CutRule;
 use edge_io::Memory;
-use leaf_cuts::{Bench, Leaf, solve_leaf};
+use leaf_cuts::{Bench, Leaf, SolvedCuts, solve_leaf};
 use std::alloc::Global;
 
 /// What a search does next, or how it ended.
@@ -43,15 +43,23 @@ pub struct Answer {
     pub due: Next,
     /// A number for each variable of the programs.
     pub tried: Option<Vec<i128>>,
+    /// Which cuts of the least leaf were solved, where it was: from there other parts of it can be solved. It is advice.
+    pub solved: SolvedCuts,
 }
 
 impl Answer {
     /// What is due where no point was tried.
-    fn untried(due: Next) -> Answer
+    fn untried(alloc: Global, due: Next) -> Answer
         ensures due { result.due ≡ due }
         ensures tried { result.tried ≡ None }
     {
-        Answer { due, tried: None }
+        let basis = Vec::new(alloc);
+        let cuts = Vec::new(alloc);
+        Answer {
+            due,
+            tried: None,
+            solved: SolvedCuts { basis, cuts },
+        }
     }
 }
 
@@ -71,16 +79,16 @@ impl Search {
     {
         if let Some(plan) = self.better_start(net) {
             let plan = copy(alloc, plan)?;
-            return Ok(Answer::untried(Next::Do(Entry::Improve(plan))));
+            return Ok(Answer::untried(alloc, Next::Do(Entry::Improve(plan))));
         }
         let Some(bound) = self.tree.bound() else {
-            return Ok(Answer::untried(Next::Infeasible));
+            return Ok(Answer::untried(alloc, Next::Infeasible));
         };
         if self.is_closed(net, bound) {
-            return Ok(Answer::untried(Next::Closed));
+            return Ok(Answer::untried(alloc, Next::Closed));
         }
         if let Some(proof) = self.root_proof(alloc, net)? {
-            return Ok(Answer::untried(Next::Do(Entry::Root(proof))));
+            return Ok(Answer::untried(alloc, Next::Do(Entry::Root(proof))));
         }
         self.next_below(alloc, net, rule, bound)
     }
@@ -101,24 +109,32 @@ impl Search {
         ensures in_order { IfOk result (λ a. IsDo (λ entry. IsEntryInOrder (net_of net.now) (searched self.now) (shown_entry entry)) a.due) }
     {
         if self.repaired && self.is_spent() {
-            return Ok(Answer::untried(self.stopped()));
+            return Ok(Answer::untried(alloc, self.stopped()));
         }
         let (leaf, mut bench) = self.solved_leaf(alloc, net, bound)?;
         let due = self.next_at(alloc, net, rule, &leaf, &mut bench)?;
-        let tried = self.tried_of(leaf);
-        Ok(Answer { due, tried })
+        Ok(self.answer_at(due, leaf, bench))
     }
 
-    /// The point of a leaf's advice, where a repaired plan was looked for there.
-    fn tried_of(&self, leaf: Leaf) -> Option<Vec<i128>>
-        ensures { option_map (λ v. v.items) result ≡ tried_at self.now.repaired leaf.advice.point.items }
+    /// The answer at a leaf: the point of its advice, where a repaired plan was looked for there, and what the bench solved.
+    fn answer_at(&self, due: Next, leaf: Leaf, bench: Bench) -> Answer
+        ensures due { result.due ≡ due }
+        ensures tried { option_map (λ v. v.items) result.tried ≡ tried_at self.now.repaired leaf.advice.point.items }
     {
+        let advice = leaf.advice;
+        let solved = SolvedCuts {
+            basis: advice.basis,
+            cuts: bench.into_solved(),
+        };
         if self.repaired {
-            None
-        } else {
-            let advice = leaf.advice;
-            Some(advice.point)
+            return Answer {
+                due,
+                tried: None,
+                solved,
+            };
         }
+        let tried = Some(advice.point);
+        Answer { due, tried, solved }
     }
 
     /// The least leaf, solved, with the bench on which its program stands.

@@ -23,7 +23,7 @@ way_over_one : (n : Net) (way : Way) → base_of (simple_plan n way) ≡ 1
 way_over_one n (through e o) = refl
 way_over_one n (straight e) = refl
 
-start-over-one : (n : Net) (w : Written) → IsStarting n w → base_of w ≡ 1
+pub start-over-one : (n : Net) (w : Written) → IsStarting n w → base_of w ≡ 1
 start-over-one n w (inl is) = ap (λ (v : Written). base_of v) is
 start-over-one n w (inr (way, there, is)) = ap (λ (v : Written). base_of v) is ∙ way_over_one n way
 

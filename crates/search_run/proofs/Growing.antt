@@ -13,7 +13,7 @@ use Rattle.row_model.proofs.TreeBound.{which_node}
 use Rattle.box_tree.proofs.Growing.{bound-old, bound-left, bound-right}
 use Rattle.box_tree.proofs.Rooting.{no_splits}
 use Rattle.dual_rounding.specs.Price.{IsPriced}
-use Rattle.search_run.specs.Steps.{IsOfForm, IsCut}
+use Rattle.search_run.specs.Steps.{IsOfForm, IsHalf, IsSplit}
 use Rattle.search_run.specs.Found.{IsPricedAt, IsGrown}
 use Rattle.search_run.specs.declared.orders.Orders.{Orders}
 use Rattle.search_run.proofs.Proofs.{proof-rooted, proof-split}
@@ -56,7 +56,18 @@ least-bound n tree leaf is =
     let own : leaf_bound n tree leaf ≡ node_bound n tree leaf = cc (is.leaf.uncut) in
     sym own ∙ is.least
 
-module _ (n : Net) (o : Orders) (s : Searched) (split : Split) (left right : Option Proof) (is : IsTree n s.tree) (cut : IsCut n o s split left right) where
+-- a split of the least leaf, of whichever kind, while there are fewer than were asked for
+pub record IsLeafSplit (n : Net) (o : Orders) (s : Searched) (split : Split) (left right : Option Proof) : Type 0 where
+  pub few : length s.tree.splits < o.nodes
+  pub leaf : IsLeastLeaf n s.tree split.leaf
+  pub left_half : IsHalf n o.form (left_of (box_of n s.tree.splits split.leaf) split.coord split.cut) (tree_bound n s.tree) left
+  pub right_half : IsHalf n o.form (right_of (box_of n s.tree.splits split.leaf) split.coord split.cut) (tree_bound n s.tree) right
+
+pub leaf-split : (n : Net) (o : Orders) (s : Searched) (split : Split) (left right : Option Proof) → IsSplit n o s split left right → IsLeafSplit n o s split left right
+leaf-split n o s split left right (inl is) = record { few = is.0.few; leaf = is.0.leaf; left_half = is.0.left_half; right_half = is.0.right_half }
+leaf-split n o s split left right (inr is) = record { few = is.few; leaf = is.leaf; left_half = is.left_half; right_half = is.right_half }
+
+module _ (n : Net) (o : Orders) (s : Searched) (split : Split) (left right : Option Proof) (is : IsTree n s.tree) (cut : IsLeafSplit n o s split left right) where
   priced-left : IsPricedAt n (after s (split_of split left right)).tree (left_node (length s.tree.splits))
   priced-left =
       let half = left_of (box_of n s.tree.splits split.leaf) split.coord split.cut in

@@ -1,10 +1,14 @@
 pub mod Proofs
-mod Growing
+pub mod Growing
 mod Rooting
 mod Sound
 pub mod Covering
 mod Reaching
 mod Choosing
 pub mod Stepping
-pub mod Nearer
+mod Nearer
 pub mod Ending
+mod Targets
+mod Owing
+mod Squeezing
+mod Settling

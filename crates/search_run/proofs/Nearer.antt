@@ -150,7 +150,7 @@ module _ (n : Net) (s t : Searching) (is : IsSearchOf n s) (now : IsSearchOf n t
         none-now x made (none-kept (entries.root_proof p) (λ w b. record { cheapest = b.cheapest; cheaper = b.cheaper }) none),
       )
 
-  split-nearer : (split : Split) (l r : Option Proof) → searched t ≡ after (searched s) (entries.split_of split l r) → t.repaired ≡ false → length s.tree.kept.splits.list < s.options.nodes
+  pub split-nearer : (split : Split) (l r : Option Proof) → searched t ≡ after (searched s) (entries.split_of split l r) → t.repaired ≡ false → length s.tree.kept.splits.list < s.options.nodes
       → HasNoBetterStart n (searched s) → left t < left s
   split-nearer split l r made flag few none =
       let x = after (searched s) (entries.split_of split l r) in

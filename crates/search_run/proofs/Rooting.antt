@@ -11,11 +11,10 @@ use Rattle.box_space.specs.declared.coordinates.Form.{Form}
 use Rattle.dual_rounding.specs.Price.{IsPriced}
 use Rattle.dual_rounding.proofs.Priced.{priced-raised}
 use Rattle.search_core.specs.Cases.{IsRootOpen, IsRootProof, HasNoRootProof}
-use Rattle.search_run.specs.Steps.{IsCut}
 use Rattle.search_run.specs.Found.{IsPricedAt}
 use Rattle.search_run.specs.declared.orders.Orders.{Orders}
 use Rattle.box_tree.proofs.Rooting.{no_splits}
-use Rattle.search_run.proofs.Growing.{priced-old}
+use Rattle.search_run.proofs.Growing.{IsLeafSplit, priced-old}
 
 abbrev pub IsRootDone : Net → Searched → Type 0
 IsRootDone n s = IsRootOpen s ⊎ IsPricedAt n s.tree 0
@@ -59,7 +58,7 @@ done-now n form s none (inl opens) = root-unproved n form s opens none
 done-now n form s none (inr priced) = priced
 
 -- a split
-pub done-split : (n : Net) (o : Orders) (s : Searched) (split : Split) (left right : Option Proof) → IsTree n s.tree → IsCut n o s split left right → HasNoRootProof n o.form s
+pub done-split : (n : Net) (o : Orders) (s : Searched) (split : Split) (left right : Option Proof) → IsTree n s.tree → IsLeafSplit n o s split left right → HasNoRootProof n o.form s
     → IsRootDone n s → IsRootDone n (after s (split_of split left right))
 done-split n o s split left right is cut none done =
     inr (priced-old n o s split left right is cut 0 (omega arith) (done-now n o.form s none done))

@@ -8,7 +8,7 @@ use Rattle.search_run.specs.Steps.{IsStep}
 use Rattle.search_run.specs.Runs.{AreSteps}
 use Rattle.search_run.specs.Found.{IsGrown}
 use Rattle.search_run.specs.declared.orders.Orders.{Orders}
-use Rattle.search_run.proofs.Growing.{grown-start, grown-root, grown-split}
+use Rattle.search_run.proofs.Growing.{grown-start, grown-root, grown-split, leaf-split}
 use Rattle.search_run.proofs.Rooting.{IsRootDone, root-proved, done-split}
 
 pub record IsSound (n : Net) (o : Orders) (begun s : Searched) : Type 0 where
@@ -32,8 +32,8 @@ sound-step n o begun s (root_proof proof) so step = record {
 }
 sound-step n o begun s (split_of split left right) so step = record {
   searched = searched-kept n s (split_of split left right) so.searched step.in_order;
-  grown = grown-split n o s split left right so.searched.tree step.due.1 begun.tree so.grown;
-  rooted = λ opens. done-split n o s split left right so.searched.tree step.due.1 step.due.0.proved (so.rooted opens);
+  grown = grown-split n o s split left right so.searched.tree (leaf-split n o s split left right step.due.1) begun.tree so.grown;
+  rooted = λ opens. done-split n o s split left right so.searched.tree (leaf-split n o s split left right step.due.1) step.due.0.proved (so.rooted opens);
 }
 
 pub sound-steps : (n : Net) (o : Orders) (begun s : Searched) (es : List Entry) → IsSound n o begun s → AreSteps n o s es → IsSound n o begun (made_from s es)

@@ -31,7 +31,8 @@ use Rattle.search_core.specs.declared.next.Next.{Next}
 use Rattle.search_core.specs.declared.next.Next.TheVariants as next
 use Rattle.search_core.specs.declared.options.Options.{Options}
 use Rattle.search_run.specs.Orders.{options_of, picked, Keeps}
-use Rattle.search_run.specs.Steps.{IsHalf, IsCut, IsDue, IsStep}
+use Rattle.search_run.specs.Due.{split_leaf}
+use Rattle.search_run.specs.Steps.{IsHalf, IsCut, IsDue, IsStep, OwesNone}
 use Rattle.search_run.specs.Runs.{AreSteps, IsEnd, IsNextStep}
 use Rattle.search_run.specs.declared.ended.Ended.TheVariants as ended
 use Rattle.search_run.specs.declared.orders.Orders.{Orders}
@@ -66,13 +67,14 @@ repair-gain : (n : Net) (s : Searched) (tried : Option (List ℤ)) (w : Written)
 repair-gain n s None w is = absurd is
 repair-gain n s (Some point) w is = is.gain
 
+-- a cut is due where no squeeze is owed
 pub due-of : (n : Net) (o : Orders) (s : Searched) (repaired : Bool) (tried : Option (List ℤ)) (cuts : List ℕ) (e : Entry) → AreCounts n s.tree.splits cuts
-    → IsEntry n (options_of o) s repaired tried (picked o.rule cuts) e → IsDue n o s (shown_entry e)
-due-of n o s repaired tried cuts (Improve plan) counted (inl start) = inl start
-due-of n o s repaired tried cuts (Improve plan) counted (inr repair) = inr (repair.rooted, repair-gain n s tried (shown_plan plan) repair.repair)
-due-of n o s repaired tried cuts (Root proof) counted is = is
-due-of n o s repaired tried cuts (SplitOf split left right) counted is =
-    (is.0.rooted, cut-of n o s cuts split (option_map shown_proof left) (option_map shown_proof right) counted is.1 is.2)
+    → ((leaf : ℕ) → split_leaf e ≡ Some leaf → OwesNone n o s leaf) → IsEntry n (options_of o) s repaired tried (picked o.rule cuts) e → IsDue n o s (shown_entry e)
+due-of n o s repaired tried cuts (Improve plan) counted owes (inl start) = inl start
+due-of n o s repaired tried cuts (Improve plan) counted owes (inr repair) = inr (repair.rooted, repair-gain n s tried (shown_plan plan) repair.repair)
+due-of n o s repaired tried cuts (Root proof) counted owes is = is
+due-of n o s repaired tried cuts (SplitOf split left right) counted owes is =
+    (is.0.rooted, inl (cut-of n o s cuts split (option_map shown_proof left) (option_map shown_proof right) counted is.1 is.2, owes split.leaf refl))
 
 -- ---- one step more
 
@@ -103,22 +105,11 @@ way-more n o begun s t way next = record {
 -- ---- what comes next, under the options of the orders, whatever point was tried
 
 module _ (n : Net) (o : Orders) (s : Searched) (options : Options) (asked : options ≡ options_of o) (repaired : Bool) (cuts : List ℕ) (counted : AreCounts n s.tree.splits cuts) where
-  pub next-step : (tried : Option (List ℤ)) (t : Searched) (e : Entry) → IsNext n options s repaired tried (picked o.rule cuts) (next.Do e) → IsEntryInOrder n s (shown_entry e)
-      → t ≡ after s (shown_entry e) → IsNextStep n o s t
-  next-step tried t e is order made = record {
-    entry = shown_entry e;
-    step = record {
-      in_order = order;
-      due = due-of n o s repaired tried cuts e counted (subst (λ (x : Options). IsEntry n x s repaired tried (picked o.rule cuts) e) asked is);
-    };
-    made = made;
-  }
+  pub next-closed : (tried : Option (List ℤ)) → IsNext n options s repaired tried (picked o.rule cuts) next.Closed → IsEnd n o s ended.Closed
+  next-closed tried is = subst (λ (x : Options). IsNext n x s repaired tried (picked o.rule cuts) next.Closed) asked is
 
-  pub next-closed : IsNext n options s repaired None (picked o.rule cuts) next.Closed → IsEnd n o s ended.Closed
-  next-closed is = subst (λ (x : Options). IsNext n x s repaired None (picked o.rule cuts) next.Closed) asked is
-
-  pub next-infeasible : IsNext n options s repaired None (picked o.rule cuts) next.Infeasible → IsEnd n o s ended.Infeasible
-  next-infeasible is = is
+  pub next-infeasible : (tried : Option (List ℤ)) → IsNext n options s repaired tried (picked o.rule cuts) next.Infeasible → IsEnd n o s ended.Infeasible
+  next-infeasible tried is = is
 
   pub next-stopped : (tried : Option (List ℤ)) → IsNext n options s repaired tried (picked o.rule cuts) next.Stopped → IsEnd n o s ended.Stopped
   next-stopped tried is =

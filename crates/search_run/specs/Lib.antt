@@ -3,3 +3,4 @@ pub mod Steps
 pub mod Runs
 pub mod Found
 pub mod Left
+pub mod Due

@@ -1,7 +1,9 @@
 -- The steps of a run: a starting plan, a proof of the root, a repaired plan, or a cut of the least leaf.
-use Rattle.std.specs.Prelude.{◌≡◌, ◌⊎◌, ◌<◌, ◌≤◌, ℕ, List, length, All, IsTrue, Option, option_map, ℤ, ◌-ℤ◌, ◌*ℤ◌, ◌<ℤ◌}
+use Rattle.std.specs.Prelude.{◌≡◌, ◌⊎◌, ◌<◌, ◌≤◌, ℕ, List, length, All, IsTrue, Option, Some, option_map, ℤ, ◌*◌, ◌-ℤ◌, ◌*ℤ◌, ◌<ℤ◌}
 use Rattle.std.specs.Option.{ForSome}
 use Rattle.pool_model.specs.Network.{Net}
+use Rattle.pool_model.specs.Plan.{Written, plan_of, cost_of}
+use Rattle.pool_model.specs.Starting.{IsCheapestStart}
 use Rattle.row_model.specs.Boxes.{Box, root, left_of, right_of}
 use Rattle.row_model.specs.Multipliers.{Proof, shown_by}
 use Rattle.row_model.specs.Trees.{Split, box_of, raised, tree_bound, IsLeastLeaf}
@@ -16,6 +18,9 @@ use Rattle.plan_repair.specs.Repairs.{IsGain}
 use Rattle.search_core.specs.Cases.{IsBetterStart, IsCuttable, IsRootProof}
 use Rattle.leaf_cuts.specs.Halvings.{middle_at}
 use Rattle.search_core.specs.Next.{IsApart, IsRooted}
+use Rattle.box_squeeze.specs.Squeezes.{CutsOff, HasNoEmpty}
+use Rattle.box_squeeze.specs.declared.piece.Side.{Side}
+use Rattle.text_pieces.specs.Rounding.{rounded_up}
 use Rattle.search_run.specs.Orders.{options_of}
 use Rattle.search_run.specs.declared.orders.Orders.{Orders}
 
@@ -80,14 +85,47 @@ pub record IsCut (n : Net) (o : Orders) (s : Searched) (split : Split) (left rig
   pub left_half : IsHalf n o.form (left_of (box_of n s.tree.splits split.leaf) split.coord split.cut) (tree_bound n s.tree) left
   pub right_half : IsHalf n o.form (right_of (box_of n s.tree.splits split.leaf) split.coord split.cut) (tree_bound n s.tree) right
 
+-- ---- what a squeeze adds
+
+-- what a plan has to cost less than to matter: the cost of this one, rounded up to whole picos, less the asked gap
+abbrev pub target_of : Net → ℤ → Written → ℤ
+target_of n gap w = rounded_up (cost_of n (plan_of n w)) (w.flow_base * w.base) -ℤ gap
+
+-- A squeeze of the least leaf, while there are fewer splits than were asked for: it cuts off an outer quarter of a coordinate, whose node holds
+-- no plan, or has a bound that is no less than the best plan's target. The other node is kept.
+pub record IsSqueezed (n : Net) (o : Orders) (s : Searched) (split : Split) (left right : Option Proof) : Type 0 where
+  -- Promise: With `--squeeze off` each split is a cut in the middle; with `--squeeze on` it is that, or cuts a piece off the least leaf
+  pub asked : IsTrue o.squeeze
+  pub few : length s.tree.splits < o.nodes
+  pub leaf : IsLeastLeaf n s.tree split.leaf
+  pub plan : Written
+  pub best : s.best ≡ Some plan
+  pub side : Side
+  -- Promise: A split that cuts a piece off the least leaf cuts off an outer quarter of a coordinate of the form whose ends are at least 4 apart,
+  --   and the piece holds no plan, or has a bound of at least the best plan's cost, rounded up, less the asked gap
+  pub cuts_off : CutsOff n o.form (box_of n s.tree.splits split.leaf) (target_of n o.gap plan) side split left right
+  pub left_half : IsHalf n o.form (left_of (box_of n s.tree.splits split.leaf) split.coord split.cut) (tree_bound n s.tree) left
+  pub right_half : IsHalf n o.form (right_of (box_of n s.tree.splits split.leaf) split.coord split.cut) (tree_bound n s.tree) right
+
+-- Where squeezes are asked for, no squeeze of the leaf is owed: of each of its pieces the empty proof shows less than the target of the
+-- cheapest starting plan that obeys.
+-- Promise: With `--squeeze on` no leaf is cut in the middle where the empty proof of one of its pieces shows the target of the cheapest
+--   starting plan that obeys
+abbrev pub OwesNone : Net → Orders → Searched → ℕ → Type 0
+OwesNone n o s leaf = IsTrue o.squeeze → (w : Written) → IsCheapestStart n w → HasNoEmpty n o.form (box_of n s.tree.splits leaf) (target_of n o.gap w)
+
+-- a split is of one of two kinds: a cut in the middle where no squeeze is owed, or a squeeze
+abbrev pub IsSplit : Net → Orders → Searched → Split → Option Proof → Option Proof → Type 0
+IsSplit n o s split left right = (IsCut n o s split left right × OwesNone n o s split.leaf) ⊎ IsSqueezed n o s split left right
+
 -- ---- steps
 
 -- The entry is due: the cheapest starting plan, while it is better; then a proof of the root; then a plan that obeys and is cheaper than
--- the best one, of whose making nothing is said; then a cut.
+-- the best one, of whose making nothing is said; then a split.
 abbrev pub IsDue : Net → Orders → Searched → Entry → Type 0
 IsDue n o s (improve plan) = IsBetterStart n s plan ⊎ (IsRooted n (options_of o) s × IsGain n s.best plan)
 IsDue n o s (root_proof proof) = IsApart n (options_of o) s × IsRootProof n o.form s proof
-IsDue n o s (split_of split left right) = IsRooted n (options_of o) s × IsCut n o s split left right
+IsDue n o s (split_of split left right) = IsRooted n (options_of o) s × IsSplit n o s split left right
 
 -- a step: an entry that is in order and due
 pub record IsStep (n : Net) (o : Orders) (s : Searched) (e : Entry) : Type 0 where

@@ -12,20 +12,20 @@ ghost use Rattle.search_run.specs.Runs.{IsEnd, IsNextStep, IsRun};
 ghost use Rattle.search_run.specs.Found.{IsFound};
 ghost use Rattle.search_run.specs.Left.{left};
 
+use crate::deciding::due;
 use crate::ended::{Ended, Outcome};
 use crate::orders::Orders;
-use crate::rules::next_by;
 use blend_network::Network;
 use box_tree::{Entry, Tree};
 use edge_io::Memory;
-use search_core::{Answer, Next, Search};
+use search_core::{Next, Search};
 use std::alloc::Global;
 
 /// Goes on from a tree of the network until nothing more is to be done for the orders, and says how that ended. The only error is
 /// want of memory.
 ///
 /// Each entry that is added is the step that is due: the cheapest starting plan, then a proof of the root, then again and again a
-/// cut of the least leaf, with a repaired plan before it where there is one.
+/// split of the least leaf, with a repaired plan before it where there is one.
 pub fn run_search(
     alloc: Global,
     net: &Network,
@@ -50,6 +50,7 @@ pub fn run_search(
 fn drive(alloc: Global, net: &Network, orders: Orders, search: &mut Search) -> Result<Ended, Memory>
     requires search { IsSearchOf (net_of net.now) search.old }
     requires options { search.old.options ≡ options_of orders }
+    requires asked { IsAsked (options_of orders) }
     ensures search { IsSearchOf (net_of net.now) search.new }
     ensures run { IfOk result (IsRun (net_of net.now) orders (searched search.old) (searched search.new)) }
 {
@@ -69,6 +70,7 @@ fn step(
 ) -> Result<Option<Ended>, Memory>
     requires search { IsSearchOf (net_of net.now) search.old }
     requires options { search.old.options ≡ options_of orders }
+    requires asked { IsAsked (options_of orders) }
     ensures search { IsSearchOf (net_of net.now) search.new }
     ensures options { search.new.options ≡ search.old.options }
     ensures stepped { IfOk result (λ o. IfNone o (IsNextStep (net_of net.now) orders (searched search.old) (searched search.new))) }
@@ -76,8 +78,8 @@ fn step(
     ensures ended { IfOk result (λ o. IfSome o (IsEnd (net_of net.now) orders (searched search.new))) }
     ensures unchanged { IfOk result (λ o. IfSome o (λ _. searched search.new ≡ searched search.old)) }
 {
-    let Answer { due, .. } = next_by(alloc, net, orders.rule, search)?;
-    match due {
+    let next = due(alloc, net, orders, search)?;
+    match next {
         Next::Do(entry) => {
             take(net, search, entry)?;
             Ok(None)

@@ -1,9 +1,9 @@
 //! A search that is driven to its end: what comes next is asked and taken, again and again, until the search says how it ended.
 //!
 //! [`run_search`] takes a tree and [`Orders`]: the form of the programs, how many splits there may be, the gap that is enough, and the
-//! name of the cut rule. It answers the tree that the search left with how it [`Ended`]. It begins with any tree
-//! of the network, the root alone or one that was made before. [`next_by`] answers what comes next by the rule of a name, and makes the
-//! rule for that one step.
+//! name of the cut rule, and whether leaves are squeezed. It answers the tree that the search left with how it [`Ended`]. It begins with
+//! any tree of the network, the root alone or one that was made before. [`due`] answers what is due under the orders: what comes next for
+//! the search by the rule of that name ([`next_by`]), and in place of a cut a squeeze, where one is asked for and found.
 //!
 //! `specs/Steps.antt` says what each step is, `specs/Runs.antt` what a run is: a list of entries, each the step that was due after
 //! those before it, and an end that holds of the tree that they make. `specs/Found.antt` says what follows of that tree alone, and
@@ -12,15 +12,17 @@
 //! What the next step is, is left to `search_core`; which row a rule picks, to `branching`; what is printed of a tree, to the crates
 //! above.
 //!
-//! Proofs above may cite, of `proofs/`: `Stepping` (what comes next is a step of the run, or its end), `Nearer` (each step leaves
-//! fewer steps), `Covering` (no starting plan is better than the best plan) and `Ending` (what holds at the end of a run).
+//! Proofs above may cite, of `proofs/`: `Stepping` (steps one after another), `Growing` (what a split of the least leaf adds), `Covering`
+//! (no starting plan is better than the best plan) and `Ending` (what holds at the end of a run).
 #![tactic(auto)]
 
+mod deciding;
 mod driving;
 mod ended;
 mod orders;
 mod rules;
 
+pub use deciding::due;
 pub use driving::run_search;
 pub use ended::{Ended, Outcome};
 pub use orders::Orders;

@@ -24,6 +24,8 @@ pub struct Orders {
     pub gap: i128,
     /// The rule that says where a leaf is cut.
     pub rule: RuleName,
+    /// Whether pieces are cut off leaves where that pays.
+    pub squeeze: bool,
 }
 
 impl Orders {

@@ -44,7 +44,7 @@ solve_status outcomes.WriteFault = statuses.WriteFault
 
 -- what the search is asked for
 abbrev pub orders_of : Solving → Orders
-orders_of s = record { form = s.form; nodes = s.nodes; gap = s.gap; rule = s.rule }
+orders_of s = record { form = s.form; nodes = s.nodes; gap = s.gap; rule = s.rule; squeeze = s.squeeze }
 
 -- The budget: no more splits than there may be, and of all nodes together no more rows than a certificate may speak of.
 pub record IsWithinBudget (n : Net) (nodes : ℕ) : Type 0 where

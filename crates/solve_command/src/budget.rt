@@ -33,6 +33,7 @@ pub(crate) fn orders_within(net: &Network, words: &SolveWords) -> Option<Orders>
         nodes: words.nodes as u32,
         gap: words.gap,
         rule: words.rule,
+        squeeze: words.squeeze,
     })
 }
 

@@ -4,7 +4,7 @@ ghost use Rattle.std.specs.Prelude.{IsTrue};
 
 use disk_calls::Disk;
 use disk_model::WildDisk;
-use edge_io::MemSink;
+use edge_io::{MemSink, Memory};
 use std::alloc::{AllocError, Global};
 use std::test::Fail;
 use worked_certificates::FULL;
@@ -34,14 +34,19 @@ fn goes_on<D: Disk>(alloc: Global, disk: &mut D) -> Result<bool, AllocError>
     Ok(told.as_str().strip_prefix("0 ") == Some(FULL))
 }
 
+/// Whether a run over a file of these bytes prints the certificate.
+fn goes_on_over(alloc: Global, bytes: &[u8]) -> Result<bool, AllocError> {
+    let mut disk = disk_of(alloc, &[bytes], 1_000)?;
+    goes_on(alloc, &mut disk)
+}
+
 /// Whether a run over each image of each moment prints the certificate.
-fn images_go_on(alloc: Global, disk: &TestDisk) -> Result<bool, Fail> {
+fn images_go_on(alloc: Global, disk: &TestDisk) -> Result<bool, Memory> {
     let file = file_of(disk);
     for moment in 0..=file.moment() {
         for choice in 0..8 {
             let image = file.image(moment, choice)?;
-            let mut crashed = disk_of(alloc, &[image.as_slice()], 1_000)?;
-            if !goes_on(alloc, &mut crashed)? {
+            if !goes_on_over(alloc, &image)? {
                 return Ok(false);
             }
         }
@@ -49,27 +54,44 @@ fn images_go_on(alloc: Global, disk: &TestDisk) -> Result<bool, Fail> {
     Ok(true)
 }
 
+/// Whether a run over this disk is told that a call failed, a run over each image goes on, and so does the next run over it.
+fn fails_and_goes_on(alloc: Global, disk: &mut TestDisk) -> Result<bool, Memory> {
+    let failed = solved(alloc, disk)?.as_str() == "22 ";
+    Ok(failed && images_go_on(alloc, disk)? && goes_on(alloc, disk)?)
+}
+
+/// The same where this call fails.
+fn fails_with(alloc: Global, call: u64) -> Result<bool, Memory> {
+    let mut disk = short_disk_of(alloc, &[], call, PIECE)?;
+    fails_and_goes_on(alloc, &mut disk)
+}
+
 #[test]
 fn each_call_that_fails_is_told_and_the_next_run_goes_on(rt: HostRuntime) -> Result<(), Fail> {
-    let alloc = rt.alloc();
     for call in 0..CALLS {
-        let mut disk = short_disk_of(alloc, &[], call, PIECE)?;
-        let told = solved(alloc, &mut disk)?;
-        assert_eq!(rt; told.as_str(), "22 ", "of {call}");
-        assert!(rt; images_go_on(alloc, &disk)?, "of {call}");
-        assert!(rt; goes_on(alloc, &mut disk)?, "of {call}");
+        assert!(rt; fails_with(rt.alloc(), call)?, "of {call}");
     }
     Ok(())
 }
 
+/// Whether a run over this disk prints the certificate, and a run over each image goes on; and how many moments there are.
+fn goes_on_from_each(alloc: Global, disk: &mut TestDisk) -> Result<(bool, u64), Memory> {
+    let printed = goes_on(alloc, disk)?;
+    Ok((
+        printed && images_go_on(alloc, disk)?,
+        file_of(disk).moment(),
+    ))
+}
+
+fn crashed(alloc: Global) -> Result<(bool, u64), Memory> {
+    let mut disk = short_disk_of(alloc, &[], CALLS, PIECE)?;
+    goes_on_from_each(alloc, &mut disk)
+}
+
+/// The moments are four steps of a birth, one of them in two pieces, and two of an entry, a sync behind each, and the sync at the start.
 #[test]
 fn a_crash_at_any_moment_loses_nothing(rt: HostRuntime) -> Result<(), Fail> {
-    let alloc = rt.alloc();
-    let mut disk = short_disk_of(alloc, &[], CALLS, PIECE)?;
-    assert!(rt; goes_on(alloc, &mut disk)?);
-    // Four steps of a birth, one of them in two pieces, and two of an entry, a sync behind each, and the sync at the start.
-    assert_eq!(rt; file_of(&disk).moment(), 14);
-    assert!(rt; images_go_on(alloc, &disk)?);
+    assert_eq!(rt; crashed(rt.alloc())?, (true, 14));
     Ok(())
 }
 
@@ -104,37 +126,58 @@ const UNBORN: [&[u8]; 6] = [
     b"\x02POOLJNL",
 ];
 
-/// The file that a run leaves over a file of these bytes; none where it doesn't print the certificate.
-fn file_after(alloc: Global, bytes: &[u8]) -> Result<Vec<u8>, Fail> {
-    let mut disk = disk_of(alloc, &[bytes], 1_000)?;
-    if goes_on(alloc, &mut disk)? {
-        let file = file_of(&disk);
-        Ok(file.image(file.moment(), 0)?)
+/// The file that a run leaves over this disk; none where it doesn't print the certificate.
+fn left(alloc: Global, disk: &mut TestDisk) -> Result<Vec<u8>, Memory> {
+    if goes_on(alloc, disk)? {
+        let file = file_of(disk);
+        file.image(file.moment(), 0)
     } else {
         Ok(Vec::new(alloc))
     }
 }
 
+/// The file that a run leaves over a file of these bytes.
+fn file_after(alloc: Global, bytes: &[u8]) -> Result<Vec<u8>, Memory> {
+    let mut disk = disk_of(alloc, &[bytes], 1_000)?;
+    left(alloc, &mut disk)
+}
+
+/// Whether a run leaves this file over one of these bytes.
+fn leaves(alloc: Global, whole: &[u8], torn: &[u8]) -> Result<bool, Memory> {
+    let file = file_after(alloc, torn)?;
+    Ok(file.as_slice() == whole)
+}
+
+/// The first file among these in which no journal has come to be over which a run leaves another file than over an empty one.
+fn left_otherwise(alloc: Global) -> Result<Option<&'static [u8]>, Memory> {
+    let whole = file_after(alloc, b"")?;
+    for torn in UNBORN {
+        if whole.is_empty() || !leaves(alloc, &whole, torn)? {
+            return Ok(Some(torn));
+        }
+    }
+    Ok(None)
+}
+
 #[test]
 fn a_torn_birth_is_begun_anew(rt: HostRuntime) -> Result<(), Fail> {
-    let alloc = rt.alloc();
-    let whole = file_after(alloc, b"")?;
-    assert!(rt; !whole.is_empty());
-    for torn in UNBORN {
-        let file = file_after(alloc, torn)?;
-        assert_eq!(rt; file.as_slice(), whole.as_slice(), "of {torn:?}");
-    }
+    assert_eq!(rt; left_otherwise(rt.alloc())?, None);
     Ok(())
 }
 
-/// How a run ends over a file of these parts: how many bytes it printed, its code, and the message.
-fn told(alloc: Global, parts: &[&[u8]]) -> Result<String, AllocError> {
-    let mut disk = disk_of(alloc, parts, 1_000)?;
+/// How a run ends over this disk: how many bytes it printed, its code, and the message.
+fn end_of(alloc: Global, disk: &mut TestDisk) -> Result<String, AllocError> {
     let mut sink = MemSink::new(alloc, Vec::new(alloc));
     let asked = "solve net --journal j";
-    let status = ended_on(alloc, asked, [ONE_DIRECT, ""], &mut sink, &mut disk)?;
+    let status = ended_on(alloc, asked, [ONE_DIRECT, ""], &mut sink, disk)?;
     let message = explained(alloc, &status)?;
     format!(in alloc; "{} {message}", sink.taken().len())
+}
+
+/// How a run ends over a file of these parts.
+fn told(alloc: Global, parts: &[&[u8]]) -> Result<String, AllocError> {
+    let mut disk = disk_of(alloc, parts, 1_000)?;
+    end_of(alloc, &mut disk)
 }
 
 /// How many of the file's first bytes come first, what stands behind them, from which place on the file's own follow, and how the run
@@ -160,18 +203,21 @@ fn told_of(alloc: Global, file: &[u8], tampered: &str) -> Result<String, Fail> {
     Ok(told(alloc, &[front, other, rest])?)
 }
 
+/// Each line of the table as a run over such a file ends.
+fn answers(alloc: Global) -> Result<String, Fail> {
+    let file = file_after(alloc, b"")?;
+    let mut answers = String::new(alloc);
+    for line in TAMPERED.lines() {
+        let (tampered, _told) = line.split_once(" = ").ok_or("an answer")?;
+        let told = told_of(alloc, &file, tampered)?;
+        answers.push_str(format!(in alloc; "{tampered} = {told}")?.as_str())?;
+    }
+    Ok(answers)
+}
+
 #[test]
 fn a_journal_that_was_tampered_with_is_refused(rt: HostRuntime) -> Result<(), Fail> {
-    let alloc = rt.alloc();
-    let file = file_after(alloc, b"")?;
-    for line in TAMPERED.lines() {
-        let (tampered, told) = line.split_once(" = ").ok_or("an answer")?;
-        let answer = told_of(alloc, file.as_slice(), tampered)?;
-        assert_eq!(rt;
-            answer.as_str().strip_suffix('\n'),
-            Some(told),
-            "of {tampered}"
-        );
-    }
+    let answers = answers(rt.alloc())?;
+    assert_eq!(rt; answers.as_str(), TAMPERED);
     Ok(())
 }

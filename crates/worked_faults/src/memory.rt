@@ -34,16 +34,39 @@ fn is_told(code: u8, taken: &[u8], text: &[u8]) -> bool {
     }
 }
 
+/// Whether a run of these words over this disk prints the text and ends with 0; None where it ends as it may not.
+fn prints(
+    alloc: Global,
+    asked: &str,
+    files: [&str; 2],
+    text: &str,
+    disk: &mut TestDisk,
+) -> Option<bool> {
+    let mut sink = MemSink::new(alloc, Vec::new(alloc));
+    match code_of(alloc, asked, files, &mut sink, disk) {
+        Ok(0) if sink.taken() == text.as_bytes() => Some(true),
+        Ok(code) if !is_told(code, sink.taken(), text.as_bytes()) => None,
+        _ => Some(false),
+    }
+}
+
 /// How many of three runs of these words over one disk do not print the text and end with 0; None where one ends as it may not.
 fn refused(alloc: Global, asked: &str, files: [&str; 2], text: &str) -> Option<u32> {
     let mut disk = empty_disk(alloc);
+    refused_on(alloc, asked, files, text, &mut disk)
+}
+
+fn refused_on(
+    alloc: Global,
+    asked: &str,
+    files: [&str; 2],
+    text: &str,
+    disk: &mut TestDisk,
+) -> Option<u32> {
     let mut refused: u32 = 0;
     for _ in 0..3 {
-        let mut sink = MemSink::new(alloc, Vec::new(alloc));
-        match code_of(alloc, asked, files, &mut sink, &mut disk) {
-            Ok(0) if sink.taken() == text.as_bytes() => {}
-            Ok(code) if !is_told(code, sink.taken(), text.as_bytes()) => return None,
-            _ => refused = refused.saturating_add(1),
+        if !prints(alloc, asked, files, text, disk)? {
+            refused = refused.saturating_add(1);
         }
     }
     Some(refused)
@@ -89,16 +112,20 @@ fn goes_on(alloc: Global, disk: &mut TestDisk) -> Option<bool> {
     }
 }
 
+/// Three runs over one disk.
+fn three_runs(alloc: Global) -> [Option<bool>; 3] {
+    let mut disk = empty_disk(alloc);
+    [
+        goes_on(alloc, &mut disk),
+        goes_on(alloc, &mut disk),
+        goes_on(alloc, &mut disk),
+    ]
+}
+
 /// The second run over a disk goes on from what the first recorded, and the third has nothing left to do.
 #[test]
 fn a_search_goes_on_where_memory_was_refused(rt: HostRuntime) {
-    let alloc = rt.alloc();
-    let mut disk = empty_disk(alloc);
-    let runs = [
-        goes_on(alloc, &mut disk),
-        goes_on(alloc, &mut disk),
-        goes_on(alloc, &mut disk),
-    ];
+    let runs = three_runs(rt.alloc());
     let refused = runs.iter().filter(|run| **run != Some(true)).count();
     assert!(rt;
         runs.iter().all(Option::is_some) && refused <= 1,

@@ -1,7 +1,8 @@
 //! Searches with a journal that are stopped in each call of the disk: what every image holds, and how a run goes on from it.
 
+use box_tree::Entry;
 use disk_calls::Disk;
-use disk_model::MemDisk;
+use edge_io::Memory;
 use node_journal::{Journal, JournalFault};
 use std::alloc::{AllocError, Global};
 use std::test::Fail;
@@ -25,16 +26,26 @@ fn solved(alloc: Global, asked: &str, disk: &mut TestDisk) -> Result<String, All
     answered(alloc, asked, [HAVERLY_1, ""], disk)
 }
 
-/// The entries of the journal that a file is, a line each.
-fn entries_of(alloc: Global, file: &[u8]) -> Result<String, JournalFault> {
-    let mut disk = disk_of(alloc, &[file], NEVER)?;
+/// The entries of the journal that the disk's file is, a line each.
+fn entries_on(alloc: Global, disk: &mut TestDisk) -> Result<String, JournalFault> {
     disk.attach("journal")?;
-    let opened = Journal::open(alloc, &mut disk, TEXT, 2_000)?;
+    let opened = Journal::open(alloc, disk, TEXT, 2_000)?;
+    Ok(lines_of(alloc, &opened.entries)?)
+}
+
+/// Entries, a line each.
+fn lines_of(alloc: Global, entries: &[Entry]) -> Result<String, AllocError> {
     let mut lines = String::new(alloc);
-    for entry in &opened.entries {
+    for entry in entries {
         lines.push_str(&format!(in alloc; "{entry:?}\n")?)?;
     }
     Ok(lines)
+}
+
+/// The entries of the journal that a file is.
+fn entries_of(alloc: Global, file: &[u8]) -> Result<String, JournalFault> {
+    let mut disk = disk_of(alloc, &[file], NEVER)?;
+    entries_on(alloc, &mut disk)
 }
 
 /// A run that is not stopped: what it answers, and the entries of its journal.
@@ -44,36 +55,49 @@ struct Unbroken {
     entries: String,
 }
 
-fn whole_run(alloc: Global, asked: &str) -> Result<Unbroken, Fail> {
-    let mut disk = disk_of(alloc, &[], NEVER)?;
+/// What a run answers over a file of these bytes, and the file that it leaves.
+fn run_over(alloc: Global, asked: &str, file: &[u8]) -> Result<(String, Vec<u8>), Memory> {
+    let mut disk = disk_of(alloc, &[file], NEVER)?;
     let answer = solved(alloc, asked, &mut disk)?;
-    let file = file_of(&disk);
-    let file = file.image(file.moment(), 0)?;
+    Ok((answer, last_image(&disk, 0)?))
+}
+
+/// An image of the last moment of a disk.
+fn last_image(disk: &TestDisk, choice: u64) -> Result<Vec<u8>, Memory> {
+    let file = file_of(disk);
+    file.image(file.moment(), choice)
+}
+
+fn whole_run(alloc: Global, asked: &str) -> Result<Unbroken, Fail> {
+    let (answer, file) = run_over(alloc, asked, b"")?;
     let entries = entries_of(alloc, &file)?;
     Ok(Unbroken { answer, entries })
 }
 
-/// Whether an image holds the first entries of the unbroken run, `least` of them or one more, and a run over it answers the same.
-fn goes_on(
+/// Whether a file holds the first entries of the unbroken run, `least` of them or one more.
+fn holds(alloc: Global, whole: &Unbroken, file: &[u8], least: usize) -> Result<bool, JournalFault> {
+    let found = entries_of(alloc, file)?;
+    let more = found.lines().count().wrapping_sub(least);
+    Ok(whole.entries.as_str().starts_with(found.as_str()) && more <= 1)
+}
+
+/// Whether a run over a file of these bytes answers as the unbroken one.
+fn answers_alike(
     alloc: Global,
     asked: &str,
     whole: &Unbroken,
-    image: Vec<u8>,
-    least: usize,
-) -> Result<bool, Fail> {
-    let found = entries_of(alloc, &image)?;
-    let more = found.lines().count().wrapping_sub(least);
-    let held = whole.entries.as_str().starts_with(found.as_str()) && more <= 1;
-    let mut disk = disk_of(alloc, &[image.as_slice()], NEVER)?;
+    file: &[u8],
+) -> Result<bool, AllocError> {
+    let mut disk = disk_of(alloc, &[file], NEVER)?;
     let answer = solved(alloc, asked, &mut disk)?;
-    Ok(held && answer.as_str() == whole.answer.as_str())
+    Ok(answer.as_str() == whole.answer.as_str())
 }
 
 /// How many images there are of the last moment: a write of so many bytes behind the file lands in twice as many ways and four, and
 /// one of a single byte in six.
-fn images(disk: &MemDisk) -> Result<u64, Fail> {
-    let synced = disk.image(disk.moment(), 0)?.len() as u64;
-    let written = disk.image(disk.moment(), 1)?.len() as u64;
+fn images(disk: &TestDisk) -> Result<u64, Memory> {
+    let synced = last_image(disk, 0)?.len() as u64;
+    let written = last_image(disk, 1)?.len() as u64;
     Ok(
         written
             .saturating_sub(synced)
@@ -82,20 +106,36 @@ fn images(disk: &MemDisk) -> Result<u64, Fail> {
     )
 }
 
-/// Whether a run that fails in this call prints nothing, and every image goes on.
-fn goes_on_after(alloc: Global, asked: &str, whole: &Unbroken, call: u64) -> Result<bool, Fail> {
-    let mut disk = disk_of(alloc, &[], call)?;
-    let stopped = solved(alloc, asked, &mut disk)?.as_str() == "22 ";
-    // Thirteen calls come before the first entry, and each entry takes four.
-    let least = (call.saturating_sub(13) / 4) as usize;
-    let file = file_of(&disk);
-    for choice in 0..images(file)? {
-        let image = file.image(file.moment(), choice)?;
-        if !goes_on(alloc, asked, whole, image, least)? {
+/// Whether every image of the last moment goes on.
+fn images_go_on(
+    alloc: Global,
+    asked: &str,
+    whole: &Unbroken,
+    disk: &TestDisk,
+    least: usize,
+) -> Result<bool, Fail> {
+    for choice in 0..images(disk)? {
+        let image = last_image(disk, choice)?;
+        if !holds(alloc, whole, &image, least)? || !answers_alike(alloc, asked, whole, &image)? {
             return Ok(false);
         }
     }
-    Ok(stopped)
+    Ok(true)
+}
+
+/// Whether a run over this disk is told that a call failed.
+fn is_stopped(alloc: Global, asked: &str, disk: &mut TestDisk) -> Result<bool, AllocError> {
+    let told = solved(alloc, asked, disk)?;
+    Ok(told.as_str() == "22 ")
+}
+
+/// Whether a run that fails in this call prints nothing, and every image goes on. Thirteen calls come before the first entry, and each
+/// entry takes four.
+fn goes_on_after(alloc: Global, asked: &str, whole: &Unbroken, call: u64) -> Result<bool, Fail> {
+    let mut disk = disk_of(alloc, &[], call)?;
+    let stopped = is_stopped(alloc, asked, &mut disk)?;
+    let least = (call.saturating_sub(13) / 4) as usize;
+    Ok(stopped && images_go_on(alloc, asked, whole, &disk, least)?)
 }
 
 /// Whether it is so of each call.

@@ -70,32 +70,40 @@ fn entries_of(
     moment: u64,
     choice: u64,
 ) -> Result<usize, JournalFault> {
-    let Ok(image) = file_of(disk).image(moment, choice) else {
-        return Err(JournalFault::Memory);
-    };
-    let mut disk = disk_of(alloc, &[image.as_slice()], 100)?;
+    match file_of(disk).image(moment, choice) {
+        Ok(image) => entries_in(alloc, &image),
+        Err(_) => Err(JournalFault::Memory),
+    }
+}
+
+/// How many entries the journal of a file of these bytes has.
+fn entries_in(alloc: Global, file: &[u8]) -> Result<usize, JournalFault> {
+    let mut disk = disk_of(alloc, &[file], 100)?;
     reopen(alloc, &mut disk)
 }
 
-/// Whether a run that is stopped in this call leaves no part of an entry: at each moment there is one or none, and one at the end of a
-/// run that is not stopped, which makes 17 calls.
-fn is_whole(alloc: Global, call: u64) -> Result<bool, Fail> {
-    let mut disk = disk_of(alloc, &[], call)?;
-    let recorded = record(alloc, &mut disk).is_ok();
-    let last = file_of(&disk).moment();
+/// Whether each moment of a disk leaves no part of an entry: at each there is one or none, and one at the end of a run that recorded it.
+fn is_whole(alloc: Global, disk: &TestDisk, recorded: bool) -> bool {
+    let last = file_of(disk).moment();
     for moment in 0..last {
-        if !holds(alloc, &disk, moment, 0) {
-            return Ok(false);
+        if !holds(alloc, disk, moment, 0) {
+            return false;
         }
     }
-    let least = if recorded { 1 } else { 0 };
-    Ok(recorded == (call == 17) && holds(alloc, &disk, last, least))
+    holds(alloc, disk, last, usize::from(recorded))
+}
+
+/// Whether a run that is stopped in this call leaves no part of an entry. One that is not stopped makes 17 calls.
+fn is_whole_after(alloc: Global, call: u64) -> Result<bool, AllocError> {
+    let mut disk = disk_of(alloc, &[], call)?;
+    let recorded = record(alloc, &mut disk).is_ok();
+    Ok(recorded == (call == 17) && is_whole(alloc, &disk, recorded))
 }
 
 #[test]
 fn a_stop_in_any_call_leaves_no_part_of_an_entry(rt: HostRuntime) -> Result<(), Fail> {
     for call in 0..18 {
-        assert!(rt; is_whole(rt.alloc(), call)?, "in call {call}");
+        assert!(rt; is_whole_after(rt.alloc(), call)?, "in call {call}");
     }
     Ok(())
 }

@@ -6,13 +6,14 @@ use std::test::Fail;
 
 /// Words, parted at each space, and behind the arrow what they ask.
 const ASKED: &str = "\
-solve net -> Solve(SolveWords { net: \"net\", form: Pq, nodes: 1000, gap: 10000000000, journal: None, rule: Widest })
-solve --nodes 07 net --form=q --gap 0.001 --rule=first --journal j -> Solve(SolveWords { net: \"net\", form: Q, nodes: 7, gap: 1000000000, journal: Some(\"j\"), rule: First })
-solve net --nodes=20001 --rule violated -> Solve(SolveWords { net: \"net\", form: Pq, nodes: 20001, gap: 10000000000, journal: None, rule: Violated })
-solve net --rule=fewest -> Solve(SolveWords { net: \"net\", form: Pq, nodes: 1000, gap: 10000000000, journal: None, rule: Fewest })
-solve --form p --gap=1000000 --nodes 18446744073709551615 --rule widest net -> \
-    Solve(SolveWords { net: \"net\", form: P, nodes: 18446744073709551615, gap: 1000000000000000000, journal: None, rule: Widest })
-solve solve --gap 0 --journal=a=b -> Solve(SolveWords { net: \"solve\", form: Pq, nodes: 1000, gap: 0, journal: Some(\"a=b\"), rule: Widest })
+solve net -> Solve(SolveWords { net: \"net\", form: Pq, nodes: 1000, gap: 10000000000, journal: None, rule: Widest, squeeze: false })
+solve --nodes 07 net --form=q --gap 0.001 --rule=first --journal j -> Solve(SolveWords { net: \"net\", form: Q, nodes: 7, gap: 1000000000, journal: Some(\"j\"), rule: First, squeeze: false })
+solve net --nodes=20001 --rule violated -> Solve(SolveWords { net: \"net\", form: Pq, nodes: 20001, gap: 10000000000, journal: None, rule: Violated, squeeze: false })
+solve net --rule=fewest -> Solve(SolveWords { net: \"net\", form: Pq, nodes: 1000, gap: 10000000000, journal: None, rule: Fewest, squeeze: false })
+solve net --squeeze=on --rule violated -> Solve(SolveWords { net: \"net\", form: Pq, nodes: 1000, gap: 10000000000, journal: None, rule: Violated, squeeze: true })
+solve --form p --gap=1000000 --nodes 18446744073709551615 --rule widest net --squeeze off -> \
+    Solve(SolveWords { net: \"net\", form: P, nodes: 18446744073709551615, gap: 1000000000000000000, journal: None, rule: Widest, squeeze: false })
+solve solve --gap 0 --journal=a=b -> Solve(SolveWords { net: \"solve\", form: Pq, nodes: 1000, gap: 0, journal: Some(\"a=b\"), rule: Widest, squeeze: false })
 check net cert -> Check(\"net\", \"cert\")
 report net cert -> Report(\"net\", \"cert\")
 formulate net -> Formulate(\"net\", Pq)

@@ -24,4 +24,4 @@ returns-clause-some c =
     let n = net_of c.args.net.now in
     let s = searched_of c.args.tree.now.kept in
     let fits : FitsSigned w128 c.args.target = search rules in
-    subst (λ (z : ℤ). IsSqueezeOf n c.args.form s c.args.leaf z (shown_entry c.in_ok-squeezed.squeezed.entry) c.in_ok-squeezed.squeezed.kept) (to_z-of_z fits) c.in_ok-squeezed.ensures.squeeze
+    subst (λ (z : ℤ). IsSqueezeOf n c.args.form s c.args.leaf z (shown_entry c.in_ok-found.found.squeezed.entry) c.in_ok-found.found.squeezed.kept) (to_z-of_z fits) c.in_ok-found.ensures.squeeze

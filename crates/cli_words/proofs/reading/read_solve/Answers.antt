@@ -2,7 +2,7 @@ use Rattle.std.proofs.Common.{Option, codes, refl, rules, subst, sym}
 use Rattle.clap.specs.Words.{first_of, found_of, rows_of}
 use Rattle.cli_words.specs.Requests.{Solving, solve}
 use Rattle.command_items.specs.Items.{Text}
-use Rattle.cli_words.specs.Asks.{IsForm, IsGap, IsNodes, IsRule}
+use Rattle.cli_words.specs.Asks.{IsForm, IsGap, IsNodes, IsRule, IsSwitch}
 use Rattle.cli_words.specs.Views.{shown_request}
 use Rattle.cli_words.proofs.Answering.{refused, solving, wanting}
 use Rattle.cli_words.proofs.reading.read_solve.Goals as goal
@@ -27,11 +27,16 @@ returns-in_err-rule c =
     let asked = solving (λ id. first_of id (rows_of (found_of c.args.matches.now))) in
     refused (λ x. x) _ shown_request _ _ _ (search rules) (λ a m. let s = asked a m in (s.0.rule, subst (λ o. IsRule o s.0.rule) (sym c.text_of-4.ensures) s.1.rule)) c.in_err-rule.ensures
 
+pub returns-in_err-squeeze : goal.returns-in_err-squeeze
+returns-in_err-squeeze c =
+    let asked = solving (λ id. first_of id (rows_of (found_of c.args.matches.now))) in
+    refused (λ x. x) _ shown_request _ _ _ (search rules) (λ a m. let s = asked a m in (s.0.squeeze, subst (λ o. IsSwitch o s.0.squeeze) (sym c.text_of-5.ensures) s.1.squeeze)) c.in_err-squeeze.ensures
+
 pub returns-in_err-journal : goal.returns-in_err-journal
 returns-in_err-journal c =
     let value : Text → Option Text = λ id. first_of id (rows_of (found_of c.args.matches.now)) in
     let asked : Solving =
-    record { net = c.in-Some.net.now; form = c.in_ok-form.form; nodes = c.in_ok-nodes.nodes; gap = c.in_ok-gap.gap; journal = value (codes "journal"); rule = c.in_ok-rule.rule } in
+    record { net = c.in-Some.net.now; form = c.in_ok-form.form; nodes = c.in_ok-nodes.nodes; gap = c.in_ok-gap.gap; journal = value (codes "journal"); rule = c.in_ok-rule.rule; squeeze = c.in_ok-squeeze.squeeze } in
     wanting (codes "solve") value c.in_err-journal.field-0.0 c.from_residual-in_err-journal.result (search rules) c.in_err-journal.ensures.err (solve asked) record {
       is = refl;
       says = record {
@@ -41,6 +46,7 @@ returns-in_err-journal c =
         gap = subst (λ o. IsGap o c.in_ok-gap.gap) c.text_of-3.ensures c.in_ok-gap.ensures;
         journal = refl;
         rule = subst (λ o. IsRule o c.in_ok-rule.rule) c.text_of-4.ensures c.in_ok-rule.ensures;
+        squeeze = subst (λ o. IsSwitch o c.in_ok-squeeze.squeeze) c.text_of-5.ensures c.in_ok-squeeze.ensures;
       };
     }
 
@@ -48,7 +54,7 @@ pub returns-in_err-copied : goal.returns-in_err-copied
 returns-in_err-copied c =
     let value : Text → Option Text = λ id. first_of id (rows_of (found_of c.args.matches.now)) in
     let asked : Solving =
-    record { net = c.in-Some.net.now; form = c.in_ok-form.form; nodes = c.in_ok-nodes.nodes; gap = c.in_ok-gap.gap; journal = value (codes "journal"); rule = c.in_ok-rule.rule } in
+    record { net = c.in-Some.net.now; form = c.in_ok-form.form; nodes = c.in_ok-nodes.nodes; gap = c.in_ok-gap.gap; journal = value (codes "journal"); rule = c.in_ok-rule.rule; squeeze = c.in_ok-squeeze.squeeze } in
     wanting (codes "solve") value c.in_err-copied.field-0.0 c.from_residual-in_err-copied.result (search rules) c.in_err-copied.ensures.err (solve asked) record {
       is = refl;
       says = record {
@@ -58,5 +64,6 @@ returns-in_err-copied c =
         gap = subst (λ o. IsGap o c.in_ok-gap.gap) c.text_of-3.ensures c.in_ok-gap.ensures;
         journal = refl;
         rule = subst (λ o. IsRule o c.in_ok-rule.rule) c.text_of-4.ensures c.in_ok-rule.ensures;
+        squeeze = subst (λ o. IsSwitch o c.in_ok-squeeze.squeeze) c.text_of-5.ensures c.in_ok-squeeze.ensures;
       };
     }

@@ -24,12 +24,12 @@ returns-clause-halving c = λ b ends.
     let least = c.args.leaf.now.bound in
     let held = to_z w128 (of_z w128 least) in
     let least_fits : FitsSigned w128 least = search rules in
-    let left = option_map shown_proof c.in_ok-left.left in
-    let right = option_map shown_proof c.in_ok-right.right in
+    let left = option_map shown_proof c.in_ok-left.left.proof in
+    let right = option_map shown_proof c.in_ok-right.right.proof in
     record {
       left = subst (λ (z : ℤ). IsGiven n form (left_of b c.args.coord (middle_at b c.args.coord)) (bound z) left) (to_z-of_z least_fits)
-          (left-given n form b e below above c.args.coord cut held ends c.requires.known c.requires.wide c.middle-cut.ensures halves c.in_ok-left.left c.in_ok-left.ensures.given);
+          (left-given n form b e below above c.args.coord cut held ends c.requires.known c.requires.wide c.middle-cut.ensures halves c.in_ok-left.left.proof c.in_ok-left.ensures.given);
       right = subst (λ (z : ℤ). IsGiven n form (right_of b c.args.coord (middle_at b c.args.coord)) (bound z) right) (to_z-of_z least_fits)
-          (right-given n form b e below above c.args.coord cut held ends c.requires.known c.requires.wide c.middle-cut.ensures halves c.in_ok-right.right
+          (right-given n form b e below above c.args.coord cut held ends c.requires.known c.requires.wide c.middle-cut.ensures halves c.in_ok-right.right.proof
           (λ x is. subst (λ (f : Form). IsGiven n f x (bound held) right) same (c.in_ok-right.ensures.given x is)));
     }

@@ -7,8 +7,7 @@ use Rattle.pool_model.specs.Network.{net_of}
 use Rattle.row_model.specs.Entries.{Searched, start, IsEntryInOrder}
 use Rattle.box_tree.specs.Views.{shown_entry}
 use Rattle.search_core.specs.Searches.{searched}
-use Rattle.search_run.proofs.Stepping.{way-start, way-more, next-step, next-closed, next-stopped, next-stuck, next-infeasible, next-undecided}
-use Rattle.search_run.proofs.Nearer.{nearer}
+use Rattle.search_run.proofs.Stepping.{way-start, way-more}
 use Rattle.recorded_run.proofs.Acknowledging.{so_far-start, keeps-more}
 use Rattle.recorded_run.proofs.Splitting.{few-more}
 use Rattle.recorded_run.proofs.Recording.{so_far-moments, in_order-more, begins-more, recorded-more, kept-stands, recorded-stands}
@@ -29,15 +28,14 @@ steps-preserved g c =
     let n = net_of c.args.net.now in
     let s = c.steps.self.search in
     let e = shown_entry c.in-Do.entry in
-    let in_order = rw c.in-Do.is at c.in_ok-due.ensures.in_order in
-    let due = rw c.in-Do.is at c.in_ok-due.ensures.next in
+    let due = rw c.in-Do.is at c.in_ok-next.ensures in
+    let in_order = due.0.in_order in
     let done = c.in_ok-record-in-Do.ensures in
     let then = c.record.new.self in
     record {
       session = done.session;
       way = way-more n c.args.orders (searched c.args.self.now.search) (searched s) (searched then.search) c.steps.invariant.way
-          (next-step n c.args.orders (searched s) s.options c.steps.invariant.session.options s.repaired s.tree.kept.cuts c.steps.invariant.session.search.tree.kept.counted _
-          (searched then.search) c.in-Do.entry due in_order done.taken);
+          record { entry = e; step = due.0; made = done.taken };
       left = λ tells.
           let was = c.steps.invariant.left (subst IsTrue c.record.ensures.same_disk.device.same_telling tells) in
           let put = done.recorded was.0 was.2 was.1 was.3 was.4 in
@@ -53,8 +51,7 @@ steps-preserved g c =
                 (c.record.ensures.any_moment text so.held.file so.last so.held.on_disk so.held.kept);
             acknowledged = keeps-more n text first so.last e c.steps.self.journal.next (searched c.steps.self.search) (g.D.Disk.told c.args.disk.now) (g.D.Disk.told c.steps.disk) (g.D.Disk.told c.record.new.disk) so.held
                 (in_order-more n start so.last e so.held.in_order order) so.acknowledged (c.record.ensures.any_moment text so.held.file so.last so.held.on_disk so.held.kept);
-            few = few-more n c.args.orders first so.last (searched s) s.options s.repaired _ s.tree.kept.cuts c.in-Do.entry c.steps.invariant.session.options
-                c.steps.invariant.session.search.tree.kept.counted due so.held.made so.few;
+            few = few-more n c.args.orders first so.last (searched s) e due.0 so.held.made so.few;
             held = recorded-more n text so.last e then.journal.next (searched s) (searched then.search) put.0 (g.D.Disk.told c.record.new.disk)
                 so.held.in_order so.held.made in_order done.taken put.1 put.2;
           };
@@ -66,17 +63,16 @@ steps-smaller g c =
     let n = net_of c.args.net.now in
     let s = c.steps.self.search in
     let e = shown_entry c.in-Do.entry in
-    let in_order = rw c.in-Do.is at c.in_ok-due.ensures.in_order in
-    let due = rw c.in-Do.is at c.in_ok-due.ensures.next in
+    let due = rw c.in-Do.is at c.in_ok-next.ensures in
+    let in_order = due.0.in_order in
     let done = c.in_ok-record-in-Do.ensures in
     let then = c.record.new.self.search in
-    nearer n s then c.steps.invariant.session.search done.session.search (done.session.options ∙ sym c.steps.invariant.session.options) _ _ c.in-Do.entry
-    done.taken done.repaired in_order due
+    due.1 then done.session.search (done.session.options ∙ sym c.steps.invariant.session.options) done.taken done.repaired
 
 -- ---- ends
 
-pub returns-in_err-due-clause-recorded : goal.returns-in_err-due-clause-recorded
-returns-in_err-due-clause-recorded g c =
+pub returns-in_err-next-clause-recorded : goal.returns-in_err-next-clause-recorded
+returns-in_err-next-clause-recorded g c =
     let p = err_from_is_err_and c.from_residual.result c.from_residual.ensures.1 in
     rw (p.1)
     (λ text first is.
@@ -95,8 +91,8 @@ returns-in_err-record-in-Do-clause-recorded g c =
     let n = net_of c.args.net.now in
     let s = c.steps.self.search in
     let e = shown_entry c.in-Do.entry in
-    let in_order = rw c.in-Do.is at c.in_ok-due.ensures.in_order in
-    let due = rw c.in-Do.is at c.in_ok-due.ensures.next in
+    let due = rw c.in-Do.is at c.in_ok-next.ensures in
+    let in_order = due.0.in_order in
     let p = err_from_is_err_and c.from_residual-in_err-record-in-Do.result c.from_residual-in_err-record-in-Do.ensures.1 in
     rw (p.1, p.2)
     (λ text first is.
@@ -109,8 +105,7 @@ returns-in_err-record-in-Do-clause-recorded g c =
           (c.record.ensures.any_moment text so.held.file so.last so.held.on_disk so.held.kept);
       acknowledged = keeps-more n text first so.last e c.steps.self.journal.next (searched c.steps.self.search) (g.D.Disk.told c.args.disk.now) (g.D.Disk.told c.steps.disk) (g.D.Disk.told c.record.new.disk) so.held
           (in_order-more n start so.last e so.held.in_order order) so.acknowledged (c.record.ensures.any_moment text so.held.file so.last so.held.on_disk so.held.kept);
-      few = few-more n c.args.orders first so.last (searched s) s.options s.repaired _ s.tree.kept.cuts c.in-Do.entry c.steps.invariant.session.options
-          c.steps.invariant.session.search.tree.kept.counted due so.held.made so.few;
+      few = few-more n c.args.orders first so.last (searched s) e due.0 so.held.made so.few;
       held = λ memory.
           let put = c.in_err-record-in-Do.ensures.kept (ap Err memory) text so.held.file so.last so.held.on_disk so.held.kept in
           kept-stands n text (so.last ++ e ∷ []) c.record.new.self.journal.next put.0 (g.D.Disk.told c.record.new.disk)
@@ -123,13 +118,11 @@ returns-in_err-record-in-Do-clause-same_disk g c =
 
 pub returns-in-Closed-clause-run : goal.returns-in-Closed-clause-run
 returns-in-Closed-clause-run g c =
-    let s = c.steps.self.search in
     record {
       entries = c.steps.invariant.way.entries;
       steps = c.steps.invariant.way.steps;
       made = c.steps.invariant.way.made;
-      end = next-closed (net_of c.args.net.now) c.args.orders (searched s) s.options c.steps.invariant.session.options s.repaired s.tree.kept.cuts
-          c.steps.invariant.session.search.tree.kept.counted (rw c.in-Closed.is at c.in_ok-due.ensures.next);
+      end = rw c.in-Closed.is at c.in_ok-next.ensures;
     }
 
 pub returns-in-Closed-clause-recorded : goal.returns-in-Closed-clause-recorded
@@ -139,13 +132,11 @@ returns-in-Closed-clause-recorded g c = λ text first is.
 
 pub returns-in-Stopped-clause-run : goal.returns-in-Stopped-clause-run
 returns-in-Stopped-clause-run g c =
-    let s = c.steps.self.search in
     record {
       entries = c.steps.invariant.way.entries;
       steps = c.steps.invariant.way.steps;
       made = c.steps.invariant.way.made;
-      end = next-stopped (net_of c.args.net.now) c.args.orders (searched s) s.options c.steps.invariant.session.options s.repaired s.tree.kept.cuts
-          c.steps.invariant.session.search.tree.kept.counted _ (rw c.in-Stopped.is at c.in_ok-due.ensures.next);
+      end = rw c.in-Stopped.is at c.in_ok-next.ensures;
     }
 
 pub returns-in-Stopped-clause-recorded : goal.returns-in-Stopped-clause-recorded
@@ -155,13 +146,11 @@ returns-in-Stopped-clause-recorded g c = λ text first is.
 
 pub returns-in-Stuck-clause-run : goal.returns-in-Stuck-clause-run
 returns-in-Stuck-clause-run g c =
-    let s = c.steps.self.search in
     record {
       entries = c.steps.invariant.way.entries;
       steps = c.steps.invariant.way.steps;
       made = c.steps.invariant.way.made;
-      end = next-stuck (net_of c.args.net.now) c.args.orders (searched s) s.options c.steps.invariant.session.options s.repaired s.tree.kept.cuts
-          c.steps.invariant.session.search.tree.kept.counted _ (rw c.in-Stuck.is at c.in_ok-due.ensures.next);
+      end = rw c.in-Stuck.is at c.in_ok-next.ensures;
     }
 
 pub returns-in-Stuck-clause-recorded : goal.returns-in-Stuck-clause-recorded
@@ -171,13 +160,11 @@ returns-in-Stuck-clause-recorded g c = λ text first is.
 
 pub returns-in-Infeasible-clause-run : goal.returns-in-Infeasible-clause-run
 returns-in-Infeasible-clause-run g c =
-    let s = c.steps.self.search in
     record {
       entries = c.steps.invariant.way.entries;
       steps = c.steps.invariant.way.steps;
       made = c.steps.invariant.way.made;
-      end = next-infeasible (net_of c.args.net.now) c.args.orders (searched s) s.options c.steps.invariant.session.options s.repaired s.tree.kept.cuts
-          c.steps.invariant.session.search.tree.kept.counted (rw c.in-Infeasible.is at c.in_ok-due.ensures.next);
+      end = rw c.in-Infeasible.is at c.in_ok-next.ensures;
     }
 
 pub returns-in-Infeasible-clause-recorded : goal.returns-in-Infeasible-clause-recorded
@@ -187,13 +174,11 @@ returns-in-Infeasible-clause-recorded g c = λ text first is.
 
 pub returns-in-Undecided-clause-run : goal.returns-in-Undecided-clause-run
 returns-in-Undecided-clause-run g c =
-    let s = c.steps.self.search in
     record {
       entries = c.steps.invariant.way.entries;
       steps = c.steps.invariant.way.steps;
       made = c.steps.invariant.way.made;
-      end = next-undecided (net_of c.args.net.now) c.args.orders (searched s) s.options c.steps.invariant.session.options s.repaired s.tree.kept.cuts c.steps.invariant.session.search.tree.kept.counted _
-          (rw c.in-Undecided.is at c.in_ok-due.ensures.next);
+      end = rw c.in-Undecided.is at c.in_ok-next.ensures;
     }
 
 pub returns-in-Undecided-clause-recorded : goal.returns-in-Undecided-clause-recorded

@@ -1,0 +1,19 @@
+-- Lemmas behind the proofs.
+pub mod Reduced
+pub mod Entries
+pub mod Merged
+pub mod Told
+pub mod Solving
+pub mod Exists
+pub mod Least
+pub mod PivotThere
+pub mod Memory
+pub mod Choosing
+pub mod Starting
+pub mod First
+pub mod Unchanged
+pub mod Stepping
+pub mod Writing
+pub mod Rowing
+pub mod Done
+pub mod Running

@@ -1,0 +1,11 @@
+pub mod Entries
+pub mod Factors
+pub mod Stops
+pub mod Views
+pub mod Fits
+pub mod Starts
+pub mod Choices
+pub mod Sizes
+pub mod Weighing
+pub mod Lines
+pub mod Runs
