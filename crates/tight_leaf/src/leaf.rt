@@ -1,0 +1,173 @@
+//! The mark of a leaf.
+
+ghost use Rattle.std.specs.Prelude.{◌≡◌, IfOk, IfErr, option_map};
+ghost use Rattle.pool_model.specs.Network.{net_of};
+ghost use Rattle.box_space.specs.Views.{IsView, shown_box};
+ghost use Rattle.plan_core.specs.Views.{shown_plan};
+ghost use Rattle.row_book.specs.Fitting.{Fits as FitsNetwork};
+ghost use Rattle.dual_rounding.specs.Programs.{form_rows};
+ghost use Rattle.exact_run.specs.Runs.{IsEmpty, IsSolved};
+ghost use Rattle.exact_pivots.specs.Runs.{Comes};
+ghost use Rattle.exact_pivots.specs.Views.{program_of, state_of};
+ghost use Rattle.tight_leaf.specs.Ends.{ComesOf, IsPlanGiven, IsRunMark, IsStop, IsRunStop};
+ghost use Rattle.tight_leaf.specs.Marks.{IsMark};
+ghost use Rattle.tight_leaf.specs.Programs.{IsBoxProgram};
+
+use crate::mark::{Mark, Reason};
+use crate::plan_point::plan_point;
+use crate::point::point_of;
+use crate::program::{LeafProgram, leaf_program};
+use crate::proof::{bound_proof, empty_proof};
+use crate::stop::Stop;
+use blend_network::Network;
+use box_space::{BoxView, Form, LinRow};
+use edge_io::Memory;
+use exact_pivots::{Leaving, Run, Tableau, run_of};
+use plan_core::WrittenPlan;
+use relaxation_points::{is_light, is_witness};
+use row_book::{ProofFault, Scratch, Shown, value};
+use std::alloc::Global;
+
+/// Whether multipliers on a form's rows can show more of a box than a bound, in picos. A plan that lies in the box and costs less than one
+/// pico above the bound decides; else the mark is what the exact run of the box gives, in at most so many pivots.
+pub fn mark_leaf(
+    alloc: Global,
+    net: &Network,
+    form: Form,
+    v: &BoxView,
+    bound: i128,
+    plan: Option<&WrittenPlan>,
+    pivots: u32,
+    scratch: &mut Scratch,
+) -> Result<Mark, Memory>
+    requires view { IsView (net_of net.now) v.now }
+    requires plan { IsPlanGiven (net_of net.now) (option_map (λ w. shown_plan w.now) plan) }
+    requires fits { FitsNetwork (net_of net.now) scratch.old }
+    // Promise: A mark says what it carries: a witness for the leaf's bound, a proof of a greater one with a witness, or a proof of no plan
+    ensures mark { IfOk result (IsMark (net_of net.now) form (shown_box v.now) bound pivots) }
+    // Promise: A leaf whose box holds the place of a plan that costs less than one pico above the bound is tight, and no leaf is loose but
+    //   for a reason that the exact run of its box gives
+    ensures comes { IfOk result (ComesOf (net_of net.now) form (shown_box v.now) bound (option_map (λ w. shown_plan w.now) plan) pivots) }
+    ensures fits { FitsNetwork (net_of net.now) scratch.new }
+{
+    match marked(alloc, net, form, v, bound, plan, pivots, scratch) {
+        Ok(mark) => Ok(mark),
+        Err(Stop::Loose(reason)) => Ok(Mark::Loose(reason)),
+        Err(Stop::Memory) => Err(Memory),
+    }
+}
+
+/// The mark by the plan, or else by the run.
+fn marked(
+    alloc: Global,
+    net: &Network,
+    form: Form,
+    v: &BoxView,
+    bound: i128,
+    plan: Option<&WrittenPlan>,
+    pivots: u32,
+    scratch: &mut Scratch,
+) -> Result<Mark, Stop>
+    requires view { IsView (net_of net.now) v.now }
+    requires plan { IsPlanGiven (net_of net.now) (option_map (λ w. shown_plan w.now) plan) }
+    requires fits { FitsNetwork (net_of net.now) scratch.old }
+    ensures mark { IfOk result (IsMark (net_of net.now) form (shown_box v.now) bound pivots) }
+    ensures comes { IfOk result (ComesOf (net_of net.now) form (shown_box v.now) bound (option_map (λ w. shown_plan w.now) plan) pivots) }
+    ensures stop { IfErr result (IsStop (net_of net.now) form (shown_box v.now) bound (option_map (λ w. shown_plan w.now) plan) pivots) }
+    ensures fits { FitsNetwork (net_of net.now) scratch.new }
+{
+    let mut row = LinRow::new(alloc)?;
+    if let Some(plan) = plan {
+        let point = plan_point(alloc, net, plan)?;
+        if is_witness(net, form, v, bound, &point, &mut row) {
+            return Ok(Mark::Tight(point));
+        }
+    }
+    let leaf = leaf_program(alloc, net, form, v)?;
+    match run_of(alloc, &leaf.program, pivots)? {
+        Run::Solved(tableau) => {
+            let row = &mut row;
+            solved(
+                alloc, net, form, v, bound, pivots, &leaf, &tableau, row, scratch,
+            )
+        }
+        Run::Empty(tableau, leaving) => {
+            empty(
+                alloc, net, form, v, bound, pivots, &leaf, &tableau, leaving, scratch,
+            )
+        }
+        Run::Pivots => Ok(Mark::Loose(Reason::Pivots(pivots))),
+        Run::Wide(wide) => Ok(Mark::Loose(Reason::Wide(wide))),
+    }
+}
+
+/// The mark of a run that ends with a point, within so many pivots.
+fn solved(
+    alloc: Global,
+    net: &Network,
+    form: Form,
+    v: &BoxView,
+    bound: i128,
+    pivots: u32,
+    leaf: &LeafProgram,
+    tableau: &Tableau,
+    row: &mut LinRow,
+    scratch: &mut Scratch,
+) -> Result<Mark, Stop>
+    requires view { IsView (net_of net.now) v.now }
+    requires program { IsBoxProgram (net_of net.now) form (shown_box v.now) (program_of leaf.now.program) }
+    requires rows { leaf.now.rows.items ≡ form_rows (net_of net.now) form }
+    requires comes { Comes (program_of leaf.now.program) pivots tableau.now }
+    requires solved { IsSolved (program_of leaf.now.program) (state_of tableau.now) }
+    requires fits { FitsNetwork (net_of net.now) scratch.old }
+    ensures mark { IfOk result (IsMark (net_of net.now) form (shown_box v.now) bound pivots) }
+    ensures run { IfOk result (IsRunMark (net_of net.now) form (program_of leaf.now.program) pivots) }
+    ensures stop { IfErr result (IsRunStop (net_of net.now) form (shown_box v.now) (program_of leaf.now.program) pivots) }
+    ensures fits { FitsNetwork (net_of net.now) scratch.new }
+{
+    let point = point_of(alloc, &leaf.program, tableau)?;
+    if !is_light(net, form, v, &point, row) {
+        return Ok(Mark::Loose(Reason::HeavyPoint(point)));
+    }
+    if is_witness(net, form, v, bound, &point, row) {
+        return Ok(Mark::Tight(point));
+    }
+    let proof = bound_proof(alloc, leaf, tableau)?;
+    match value(net, v, &proof, scratch) {
+        Ok(Shown::Bound(_)) => Ok(Mark::Raised(proof, point)),
+        Err(ProofFault::Wide) => Ok(Mark::Loose(Reason::HeavyProof(proof))),
+        _ => unreachable!(),
+    }
+}
+
+/// The mark of a run that ends without a point, within so many pivots.
+fn empty(
+    alloc: Global,
+    net: &Network,
+    form: Form,
+    v: &BoxView,
+    bound: i128,
+    pivots: u32,
+    leaf: &LeafProgram,
+    tableau: &Tableau,
+    leaving: Leaving,
+    scratch: &mut Scratch,
+) -> Result<Mark, Stop>
+    requires view { IsView (net_of net.now) v.now }
+    requires program { IsBoxProgram (net_of net.now) form (shown_box v.now) (program_of leaf.now.program) }
+    requires rows { leaf.now.rows.items ≡ form_rows (net_of net.now) form }
+    requires comes { Comes (program_of leaf.now.program) pivots tableau.now }
+    requires empty { IsEmpty (program_of leaf.now.program) (state_of tableau.now) leaving.place leaving.side leaving.end }
+    requires fits { FitsNetwork (net_of net.now) scratch.old }
+    ensures mark { IfOk result (IsMark (net_of net.now) form (shown_box v.now) bound pivots) }
+    ensures run { IfOk result (IsRunMark (net_of net.now) form (program_of leaf.now.program) pivots) }
+    ensures stop { IfErr result (IsRunStop (net_of net.now) form (shown_box v.now) (program_of leaf.now.program) pivots) }
+    ensures fits { FitsNetwork (net_of net.now) scratch.new }
+{
+    let proof = empty_proof(alloc, leaf, tableau, leaving)?;
+    match value(net, v, &proof, scratch) {
+        Ok(Shown::NoPlan) => Ok(Mark::Empty(proof)),
+        Err(ProofFault::Wide) => Ok(Mark::Loose(Reason::HeavyProof(proof))),
+        _ => unreachable!(),
+    }
+}
