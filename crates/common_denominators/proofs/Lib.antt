@@ -1,3 +1,0 @@
--- Lemmas behind the proofs.
-pub mod Least
-pub mod Lists

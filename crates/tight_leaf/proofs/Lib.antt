@@ -1,1 +1,0 @@
--- Lemmas behind the proofs.
