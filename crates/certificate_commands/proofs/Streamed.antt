@@ -23,7 +23,8 @@ use Rattle.cert_lengths.specs.Lengths.{most_bytes}
 use Rattle.certificate_commands.specs.CheckEnds.{AreRead, CheckEnds, JudgedUnder, JudgesAs, told_text}
 use Rattle.certificate_commands.specs.OpenedEnds.{AreRest, IsLongRest, JudgedRest, LineOnRest, OpenedEnds}
 use Rattle.run_status.specs.Reads.{Files, ReadsUnder}
-use Rattle.run_status.specs.Took.{Part, whole, front, nothing, printed_by, Took, TookPart}
+use Rattle.run_status.specs.Took.{printed_by, Took}
+use Rattle.run_status.proofs.Parts.{took-part}
 use Rattle.printed_lines.specs.Verdicts.{refused_line}
 use Rattle.run_status.specs.declared.status.Status.{Status}
 use Rattle.run_status.specs.declared.status.Status.TheVariants as statuses
@@ -78,13 +79,6 @@ refused-line telling network rest s r is other checked =
     (h.bytes, record { are = h.are; short = h.answer_is.1 }, record { refused = h.answer_is.0; own = own (net_of network) rest s r is other checked; spelled = refl })
 
 -- ---- the file under a name is what is read of it
-
-took-part : (A B : Status → List ℕ → Type 0) → ((status : Status) (text : List ℕ) → A status text → B status text)
-    → (part : Part) (status : Status) (old new : Option (List ℕ)) → TookPart part A status old new
-    → TookPart part B status old new
-took-part A B to whole status old new took = (took.0, to status took.0 took.1, took.2)
-took-part A B to front status old new took = (took.0, (took.1.0, to took.1.0 took.0 took.1.1), took.2)
-took-part A B to nothing status old new took = took
 
 has-file : (files : Option Files) (net cert : List ℕ) (network : Network) (rest : Option (List ℕ)) (bytes : List ℕ) → IsOpened files cert rest → ReadsUnder files net network → AreRest rest bytes
     → AreRead files net cert network bytes

@@ -3,3 +3,4 @@ pub mod Giving
 pub mod FormCoords
 pub mod Middles
 pub mod HalfProofs
+pub mod LeastSolved

@@ -1,11 +1,11 @@
-//! The least leaf, solved: where its program starts.
+//! A leaf, solved: where its program starts.
 
-ghost use Rattle.std.specs.Prelude.{◌≡◌, Some, IfOk, vec_len};
+ghost use Rattle.std.specs.Prelude.{◌≡◌, ◌<◌, Some, IfOk, vec_len};
 ghost use Rattle.pool_model.specs.Network.{net_of};
-ghost use Rattle.row_model.specs.Trees.{tree_bound};
+ghost use Rattle.row_model.specs.Trees.{nodes, tree_bound};
 ghost use Rattle.box_tree.specs.Kept.{searched_of, IsOf};
 ghost use Rattle.leaf_cuts.specs.Benches.{IsBench};
-ghost use Rattle.leaf_cuts.specs.Leaves.{IsSolvedLeaf};
+ghost use Rattle.leaf_cuts.specs.Leaves.{IsSolved, IsSolvedLeaf};
 
 use crate::bench::Bench;
 use blend_network::Network;
@@ -19,11 +19,11 @@ use std::alloc::Global;
 /// points of the same cost, and other plans come of these.
 const COLD_SPLITS: usize = 7;
 
-/// The least leaf, with advice on its program.
+/// A leaf, with advice on its program.
 #[derive(Drop)]
 pub struct Leaf {
     pub node: u32,
-    /// In picos.
+    /// What its halves are proved above, in picos.
     pub bound: i128,
     pub ends: BoxEnds,
     pub advice: Advice,
@@ -48,6 +48,26 @@ pub fn solve_leaf(
     let Some(node) = tree.least_leaf() else {
         unreachable!()
     };
+    solve_node(alloc, net, tree, node, form, pivots, bound)
+}
+
+/// A node of a tree, solved, with the bench on which its program of the form stands. Its halves will be proved above the bound, whichever
+/// that is.
+pub fn solve_node(
+    alloc: Global,
+    net: &Network,
+    tree: &Tree,
+    node: u32,
+    form: Form,
+    pivots: u32,
+    bound: i128,
+) -> Result<(Leaf, Bench), Memory>
+    requires tree { IsOf (net_of net.now) tree.now }
+    requires there { node < nodes tree.now.kept.splits.list }
+    ensures node { IfOk result (λ l. IsSolved (net_of net.now) tree.now.kept.splits.list node bound l.0) }
+    ensures bench { IfOk result (λ l. IsBench (net_of net.now) l.1) }
+    ensures form { IfOk result (λ l. l.1.form ≡ form) }
+{
     let ends = tree.box_of(net, node)?;
     let bench = Bench::new(alloc, net, form, pivots, &ends)?;
     let advice = advice_at(alloc, tree, node, &bench)?;

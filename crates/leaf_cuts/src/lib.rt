@@ -1,7 +1,8 @@
-//! What is proved of leaves: the proof of the root, and the least leaf of a tree with its cuts and the proofs of both halves.
+//! What is proved of leaves: the proof of the root, and a leaf of a tree with its cuts and the proofs of both halves.
 //!
 //! [`root_proof`] gives what rounding gives for the root. [`solve_leaf`] gives the least [`Leaf`] of a tree with advice on its program,
-//! and a [`Bench`], which holds that program and the memory of rounding, and on which one box after another is proved.
+//! and a [`Bench`], which holds that program and the memory of rounding, and on which one box after another is proved. [`solve_node`] gives
+//! the same of any node of a tree, above a bound that is told.
 //! [`Bench::look`] shows the leaf to a cut rule: its [`Looked`] has the view of the leaf, a row for each coordinate of the form, and the
 //! cuts whose halves are proved already. [`Bench::proved_at`] gives the [`Halving`] of the leaf in the middle of a coordinate: what
 //! rounding gives for both halves, above the leaf's bound.
@@ -12,7 +13,7 @@
 //!
 //! What makes it quick is promised by no clause, since no answer rests on it:
 //!
-//! - A program starts where the one above it ended. The least leaf's starts from the proof of the nearest node that has one, and
+//! - A program starts where the one above it ended. A leaf's starts from the proof of the nearest node that has one, and
 //!   those of its halves from the leaf's basis. The first seven are solved from nothing, since other vertices
 //!   give other plans.
 //! - Where a look is asked for, both halves of coordinates are solved, those first that are missed the most by what `cut_scores` says, up
@@ -40,7 +41,7 @@ mod view;
 
 pub use bench::Bench;
 pub use halving::Halving;
-pub use leaf::{Leaf, solve_leaf};
+pub use leaf::{Leaf, solve_leaf, solve_node};
 pub use looking::Looked;
 pub use root::root_proof;
 pub use solved::{SolvedCut, SolvedCuts};

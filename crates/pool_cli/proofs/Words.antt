@@ -7,7 +7,7 @@ use Rattle.run_status.specs.Reads.{Files}
 use Rattle.run_status.specs.Took.{Took}
 use Rattle.run_status.specs.declared.status.Status.{Status}
 use Rattle.run_status.specs.declared.status.Status.TheVariants as statuses
-use Rattle.solve_command.specs.Journaled.{IsUnopened}
+use Rattle.journal_status.specs.JournalEnds.{IsUnopened}
 use Rattle.pool_cli.specs.Ends.{EndsAs, IsUnanswered, words_status}
 
 pub words_took : (Answer : Status → List ℕ → Type 0) (fault : WordsFault) (taken : Option (List ℕ)) → Took Answer (words_status fault) taken taken

@@ -193,24 +193,28 @@ pub record SoFar (n : Net) (text : List ℕ) (o : Orders) (first : List Entry) (
   pub few : HasFewSplits o first last
   pub held : IsRecorded n text last place s now
 
+-- where nothing is called a crash leaves what is recorded, and nothing is lost
+pub still-moments : (n : Net) (text : List ℕ) (list : List Entry) (place : Place) (s : Searched) (d : DiskTold) → IsRecorded n text list place s d → LeavesOnly d d (IsBetween n text list list)
+still-moments n text list place s d is = started d (IsBetween n text list list) (λ k now. record {
+  list = list;
+  own = subst (IsNetworksOwn n text list) (sym (is.on_disk.only k now)) (kept-own_file n text list is.file (kept_of place text is.file list is.kept) is.in_order);
+  begins = begins-same list;
+  goes_on = begins-same list;
+})
+
+pub still-keeps : (n : Net) (text : List ℕ) (list : List Entry) (place : Place) (s : Searched) (d : DiskTold) → IsRecorded n text list place s d → KeepsAcknowledged n text list list d d
+still-keeps n text list place s d is = keeps-once n text list list d d (begins-same list) (omega arith)
+    (leaves-weaker d d (IsBetween n text list list) (λ c. d.may_leave c ⊎ IsBetween n text list list c) (λ c at. inr at) (still-moments n text list place s d is))
+
 pub so_far-start : (n : Net) (text : List ℕ) (o : Orders) (first : List Entry) (d : DiskTold) (place : Place) (s : Searched) → IsRecorded n text first place s d → SoFar n text o first d d place s
 so_far-start n text o first d place s is = record {
   last = first;
   begins = begins-same first;
-  any_moment = start;
-  acknowledged = keeps-once n text first first d d (begins-same first) (omega arith)
-      (leaves-weaker d d (IsBetween n text first first) (λ c. d.may_leave c ⊎ IsBetween n text first first c) (λ c at. inr at) start);
+  any_moment = still-moments n text first place s d is;
+  acknowledged = still-keeps n text first place s d is;
   few = few-same o first;
   held = is;
 }
-  where
-    start : LeavesOnly d d (IsBetween n text first first)
-    start = started d (IsBetween n text first first) (λ k now. record {
-      list = first;
-      own = subst (IsNetworksOwn n text first) (sym (is.on_disk.only k now)) (kept-own_file n text first is.file (kept_of place text is.file first is.kept) is.in_order);
-      begins = begins-same first;
-      goes_on = begins-same first;
-    })
 
 -- ---- from the file to the end
 

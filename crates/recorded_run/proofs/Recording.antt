@@ -1,5 +1,5 @@
 -- Lists that grow entry by entry, and what a crash leaves meanwhile.
-use Rattle.std.proofs.Common.{◌≡◌, ◌≢◌, ◌⊎◌, inl, inr, ℕ, suc, ◌<◌, ◌≤◌, map, get_or, take, drop, List, [], ◌∷◌, ◌++◌, length, Option, refl, sym, ap, subst, ◌∙◌, arith, append_assoc, length-append}
+use Rattle.std.proofs.Common.{◌≡◌, ◌≢◌, ◌⊎◌, inl, inr, ℕ, suc, ◌<◌, ◌≤◌, map, get_or, take, drop, List, [], ◌∷◌, ◌++◌, length, Option, Some, Result, Err, refl, sym, ap, subst, ◌∙◌, arith, append_assoc, length-append}
 use Rattle.std.proofs.lemmas.List.{append-nil, map-id, map-append, take-append-drop}
 use Rattle.std.proofs.Math.Seq.{drop-cons}
 use Rattle.disk_calls.specs.Disks.{DiskTold, LeavesOnly}
@@ -9,15 +9,16 @@ use Rattle.row_model.specs.Entries.{Entry, Searched, start, after, made_from, ma
 use Rattle.box_tree.specs.declared.entry.EntryFault.{EntryFault}
 use Rattle.box_tree.specs.declared.entry.EntryFault.TheVariants as entry_faults
 use Rattle.journal_format.specs.Histories.{record_of}
-use Rattle.journal_format.specs.Files.{IsKept, IsOwnFor}
+use Rattle.journal_format.specs.Files.{IsKept, IsOwnFor, Stands}
 use Rattle.node_journal.specs.Journals.{IsBeforeOrAfter}
 use Rattle.journal_format.specs.Records.{Place, IsKeptAt}
 use Rattle.node_journal.specs.Settled.{IsOnDisk}
 use Rattle.journal_format.specs.declared.fault.JournalFault.{JournalFault}
 use Rattle.journal_format.specs.declared.fault.JournalFault.TheVariants as journal_faults
-use Rattle.journal_format.proofs.OwnFiles.{kept-own, kept_of}
+use Rattle.journal_format.proofs.OwnFiles.{kept-own, kept_of, one_standing}
+use Rattle.recorded_run.specs.declared.fault.RunFault.{RunFault}
 use Rattle.recorded_run.specs.declared.fault.RunFault.TheVariants as faults
-use Rattle.recorded_run.specs.Recorded.{BeginsWith, IsNetworksOwn, IsBetween, IsRecorded, StandsNow, Ends, IsFirstOutOfOrder, IsReplayFault, refused_as}
+use Rattle.recorded_run.specs.Recorded.{BeginsWith, IsNetworksOwn, IsBetween, IsRecorded, IsRecovered, StandsNow, Ends, IsFirstOutOfOrder, IsReplayFault, refused_as}
 
 -- ---- one entry more
 
@@ -46,8 +47,12 @@ begins-length list front (rest, is) = omega (arith, ap length is, length-append 
 pub kept-own_file : (n : Net) (text : List ℕ) (list : List Entry) (file : List ℕ) → IsKept text list file → AreInOrder n list → IsNetworksOwn n text list file
 kept-own_file n text list file kept are = let own = kept-own text list file kept in record { own = own.0; stands = own.1; in_order = are }
 
+-- a list that goes on further
+pub between-wider : (n : Net) (text : List ℕ) (first last more : List Entry) (file : List ℕ) → BeginsWith more last → IsBetween n text first last file → IsBetween n text first more file
+between-wider n text first last more file on is = record { list = is.list; own = is.own; begins = is.begins; goes_on = begins-then more last is.list on is.goes_on }
+
 pub between-later : (n : Net) (text : List ℕ) (first last : List Entry) (e : Entry) (file : List ℕ) → IsBetween n text first last file → IsBetween n text first (last ++ e ∷ []) file
-between-later n text first last e file is = record { list = is.list; own = is.own; begins = is.begins; goes_on = begins-more last is.list e is.goes_on }
+between-later n text first last e file is = between-wider n text first last (last ++ e ∷ []) file (begins-more last last e (begins-same last)) is
 
 -- the file while an entry is recorded behind the last list
 pub between-recorded : (n : Net) (text : List ℕ) (first last : List Entry) (e : Entry) (file : List ℕ) → BeginsWith last first → AreInOrder n last → AreInOrder n (last ++ e ∷ [])
@@ -97,8 +102,9 @@ pub recorded-stands : (n : Net) (text : List ℕ) (list : List Entry) (place : P
 recorded-stands n text list place s d is = kept-stands n text list place is.file d is.in_order is.on_disk is.kept
 
 -- the fault of a run for want of memory is that of its journal
-pub memory-of : (fault : JournalFault) → faults.Journal fault ≡ faults.Journal journal_faults.Memory → fault ≡ journal_faults.Memory
-memory-of fault is = cc
+pub memory-of : {T : Type 0} (r : Result T RunFault) (fault : JournalFault) → r ≡ Err (faults.Journal fault) → r ≡ Err (faults.Journal journal_faults.Memory)
+    → fault ≡ journal_faults.Memory
+memory-of r fault is memory = cc
 
 pub so_far-moments : (n : Net) (text : List ℕ) (first last : List Entry) (e : Entry) (old mid new : DiskTold) → BeginsWith last first → AreInOrder n last → AreInOrder n (last ++ e ∷ [])
     → LeavesOnly old mid (IsBetween n text first last) → LeavesOnly mid new (IsBeforeOrAfter text last e) → LeavesOnly old new (IsBetween n text first (last ++ e ∷ []))
@@ -179,12 +185,18 @@ opening-moments n text first old new are opening =
     leaves-weaker old new P Q (λ k is. elim is [ inl before ↦ inl before | inr own ↦ inr (own-between n text first first k are (begins-same first) own) ]) opening
 
 -- and what the run behind it leaves
-pub run-moments : (n : Net) (text : List ℕ) (first last : List Entry) (old mid new : DiskTold) → AreInOrder n first → BeginsWith last first
-    → LeavesOnly old mid (λ c. old.may_leave c ⊎ IsOwnFor text first c) → LeavesOnly mid new (IsBetween n text first last)
+pub grown-moments : (n : Net) (text : List ℕ) (first last : List Entry) (old mid new : DiskTold) → BeginsWith last first
+    → LeavesOnly old mid (λ c. old.may_leave c ⊎ IsBetween n text first first c) → LeavesOnly mid new (IsBetween n text first last)
     → LeavesOnly old new (λ c. old.may_leave c ⊎ IsBetween n text first last c)
-run-moments n text first last old mid new are begins opening run =
-    let P : List ℕ → Type 0 = λ c. old.may_leave c ⊎ IsOwnFor text first c in
+grown-moments n text first last old mid new begins opening run =
+    let P : List ℕ → Type 0 = λ c. old.may_leave c ⊎ IsBetween n text first first c in
     let Q : List ℕ → Type 0 = λ c. old.may_leave c ⊎ IsBetween n text first last c in
     goes_further old mid new Q
-    (leaves-weaker old mid P Q (λ k is. elim is [ inl before ↦ inl before | inr own ↦ inr (own-between n text first last k are begins own) ]) opening)
+    (leaves-weaker old mid P Q (λ k is. elim is [ inl before ↦ inl before | inr at ↦ inr (between-wider n text first first last k begins at) ]) opening)
     (leaves-weaker mid new (IsBetween n text first last) Q (λ k is. inr is) run)
+
+-- what was recovered of a file that stands for this list
+pub recovered-held : (n : Net) (text : List ℕ) (first : List Entry) (place : Place) (s : Searched) (file : List ℕ) (old new : DiskTold) → IsRecovered n text place s old new
+    → old.reads ≡ Some file → Stands file text first → IsRecorded n text first place s new
+recovered-held n text first place s file old new found is stands =
+    subst (λ (l : List Entry). IsRecorded n text l place s new) (one_standing file text found.first first (found.stands file is) stands) (found.held file is)

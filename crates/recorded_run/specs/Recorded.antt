@@ -53,6 +53,15 @@ pub record IsRecorded (n : Net) (text : List ℕ) (list : List Entry) (place : P
   pub in_order : AreInOrder n list
   pub made : s ≡ made_by list
 
+-- What is recovered of a file: entries that are in order, and the tree of them. They are those that the file stands for, where it is known
+-- what a read of it gives, and the disk holds them then.
+pub record IsRecovered (n : Net) (text : List ℕ) (place : Place) (s : Searched) (old new : DiskTold) : Type 0 where
+  pub first : List Entry
+  pub in_order : AreInOrder n first
+  pub made : s ≡ made_by first
+  pub stands : (file : List ℕ) → old.reads ≡ Some file → Stands file text first
+  pub held : (file : List ℕ) → old.reads ≡ Some file → IsRecorded n text first place s new
+
 -- ---- entries that are replayed
 
 -- the entry of this number is the first that is not in order after those before it

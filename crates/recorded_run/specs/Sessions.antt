@@ -38,18 +38,25 @@ pub record IsRecordedRun (n : Net) (text : List ℕ) (o : Orders) (first : List 
       (λ _. IsRecorded n text last s.journal.next (searched s.search) new)
       (λ fault. fault ≡ Journal Memory → StandsNow n text last new)
 
--- A run on a file that is the network's own and stands for the first list. A crash at any moment leaves what it might have left before,
--- or the network's own file for a list between the first and the last, and no acknowledged entry is lost; none of these lists has more
--- splits than were asked for, or than the first. Of the last list more is known.
-pub record IsRunFrom (n : Net) (text : List ℕ) (o : Orders) (first : List Entry) (old new : DiskTold) (IsKnown : List Entry → Type 0) : Type 0 where
+-- What is recorded on a file that is the network's own and stands for the first list. A crash at any moment leaves what it might have left
+-- before, or the network's own file for a list between the first and the last, and no acknowledged entry is lost. Of the last list more is
+-- known.
+pub record IsGrownFrom (n : Net) (text : List ℕ) (first : List Entry) (old new : DiskTold) (IsKnown : List Entry → Type 0) : Type 0 where
   pub last : List Entry
   pub begins : BeginsWith last first
   pub any_moment : LeavesOnly old new (λ c. old.may_leave c ⊎ IsBetween n text first last c)
   pub acknowledged : KeepsAcknowledged n text first last old new
-  -- Promise: A run on the network's own file leaves no list with more splits than were asked for, or than it began with, also where it
-  --   fails or is stopped at any moment
-  pub few : (list : List Entry) → BeginsWith last list → HasFewSplits o first list
   pub known : IsKnown last
+
+-- no list that the last one begins with has more splits than were asked for, or than the first has
+-- Promise: A run on the network's own file leaves no list with more splits than were asked for, or than it began with, also where it
+--   fails or is stopped at any moment
+abbrev pub HaveFewSplits : Orders → (first last : List Entry) → Type 0
+HaveFewSplits o first last = (list : List Entry) → BeginsWith last list → HasFewSplits o first list
+
+-- so it is of a run that was asked for so many splits
+abbrev pub IsRunFrom : Net → List ℕ → Orders → (first : List Entry) → (old new : DiskTold) → (IsKnown : List Entry → Type 0) → Type 0
+IsRunFrom n text o first old new IsKnown = IsGrownFrom n text first old new (λ last. HaveFewSplits o first last × IsKnown last)
 
 -- What was found by going on from entries: they are in order, and the file stands for them, where it is known what a read of it gives;
 -- the run begins with the tree of them, and what follows of its tree holds.

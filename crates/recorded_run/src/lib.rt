@@ -4,20 +4,27 @@
 //! there to the end of the search. A crash at any moment leaves the file as it was, or the network's own file, which stands for
 //! a list that begins with the entries that were found; and what is answered is the tree of all that the file stands for then.
 //!
+//! [`recover`] is the first part of that alone, for a run that goes on in another way: it opens the journal and makes the tree. Such a run
+//! puts its entries into the journal by [`put`], each before its tree takes it.
+//!
 //! `specs/Sessions.antt` says what stands on the disk between two steps, which files a crash leaves, and how many splits their lists have at
-//! the most; `specs/Acknowledged.antt`, that no acknowledged entry is lost. What the steps are, is said in `search_run`, and what a journal
-//! is, in `node_journal` and `journal_format`. The layer above attaches the file, and prints what was found.
+//! the most; `specs/Recorded.antt`, what is recovered of a file; `specs/Acknowledged.antt`, that no acknowledged entry is lost. What the
+//! steps are, is said in `search_run`, and what a journal is, in `node_journal` and `journal_format`. The layer above attaches the file, and
+//! prints what was found.
 //!
 //! Proofs above may cite `proofs/Causes.antt` (a file has one cause to be refused at most, and none where its entries are in order),
-//! `proofs/Acknowledging.antt` (no acknowledged entry is lost over one run after another) and `proofs/Turning.antt` (an entry that is put
-//! into a journal, behind a Turn or not).
+//! `proofs/Acknowledging.antt` (no acknowledged entry is lost over one run after another), `proofs/Recording.antt` (lists that grow entry
+//! by entry, and what a crash leaves meanwhile) and `proofs/Turning.antt` (an entry that is put into a journal, behind a Turn or not).
 #![tactic(auto)]
 
 mod fault;
 mod putting;
+mod recovery;
 mod replay;
 mod rules;
 mod session;
 
 pub use fault::RunFault;
+pub use putting::put;
+pub use recovery::{Recovered, recover};
 pub use rules::run_recorded;

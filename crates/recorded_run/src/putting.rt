@@ -17,11 +17,7 @@ use disk_calls::{Disk, DiskFailed};
 use node_journal::Journal;
 
 /// Records an entry. Where the file has version 1 and no Turn yet, the Turn is recorded just before it.
-pub(crate) fn put<D: Disk>(
-    journal: &mut Journal,
-    disk: &mut D,
-    entry: &Entry,
-) -> Result<(), DiskFailed>
+pub fn put<D: Disk>(journal: &mut Journal, disk: &mut D, entry: &Entry) -> Result<(), DiskFailed>
     requires left { IsTrue (D.told disk.old).tells → IsLeft journal.old (D.told disk.old) }
     requires usable { journal.old.failed ≡ false }
     requires short { length (payload Two (shown_entry entry.now)) ≤ journal.old.largest }

@@ -14,11 +14,10 @@ ghost use Rattle.recorded_run.specs.Recorded.{IsNetworksOwn, IsCause, IsFreeFaul
 ghost use Rattle.recorded_run.specs.Sessions.{IsResumed, IsRunFrom};
 
 use crate::fault::RunFault;
-use crate::replay::replayed;
+use crate::recovery::{Recovered, recover};
 use crate::session::Session;
 use blend_network::Network;
 use disk_calls::Disk;
-use node_journal::{Journal, Opened, largest_payload};
 use search_core::Search;
 use search_run::{Orders, Outcome};
 use std::alloc::Global;
@@ -71,14 +70,8 @@ pub fn run_recorded<D: Disk>(
     ensures failed { IsErrOf result (RunFault.Journal journal_faults.Disk) → Rose (D.told disk.old).faults (D.told disk.new).faults }
     ensures same_disk { IsSameDisk (D.told disk.old) (D.told disk.new) }
 {
-    let largest = largest_payload(net);
-    let opened = Journal::open(alloc, disk, text, largest)?;
-    let Opened {
-        journal,
-        entries,
-        turn_at,
-    } = opened;
-    let tree = replayed(alloc, net, entries, turn_at)?;
+    let recovered = recover(alloc, net, text, disk)?;
+    let Recovered { journal, tree } = recovered;
     let search = Search::start(alloc, net, orders.options(), tree)?;
     let mut session = Session { journal, search };
     let ended = session.drive(alloc, net, orders, disk)?;

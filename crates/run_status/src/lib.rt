@@ -8,7 +8,8 @@
 //! (`From`). What a file says of its network is defined in `specs/Reads.antt`.
 //!
 //! The layer above may use all of these. Its proofs may cite `proofs/Networks.antt`: that a file is of one network at the most, and that a file
-//! which is refused is of none; and `proofs/Quiet.antt`: a count of faults that is as it was, unless a call failed. It leaves to others what the words ask, and when a command ends with which status.
+//! which is refused is of none; `proofs/Quiet.antt`: a count of faults that is as it was, unless a call failed; and
+//! `proofs/Parts.antt`: what the sink took, in the words of another answer. It leaves to others what the words ask, and when a command ends with which status.
 #![tactic(auto)]
 
 mod reading;

@@ -30,8 +30,12 @@ pub enum Status {
     NetworkRefused(ReadNet),
     /// More splits are asked for than there may be for this network.
     BudgetTooLarge,
-    /// The certificate is longer than may be.
+    /// The certificate, the jobs or the answers are longer than may be.
     CertTooLong,
+    /// The file of jobs is no text of jobs from this line on, or, with line 0, they are no jobs on leaves of a tree of the network.
+    JobsRefused(u64),
+    /// The jobs are of another tree than the journal's.
+    OtherTree,
     /// A plan was printed, its gap is above the asked one, and there are as many splits as were asked for.
     Stopped,
     /// A plan was printed, its gap is above the asked one, and the least leaf can't be cut.
@@ -72,6 +76,8 @@ impl Status {
             Status::NetworkRefused(_) => 3,
             Status::BudgetTooLarge => 4,
             Status::CertTooLong => 5,
+            Status::JobsRefused(_) => 6,
+            Status::OtherTree => 7,
             Status::Stopped => 10,
             Status::Stuck => 11,
             Status::Infeasible => 12,
@@ -121,6 +127,13 @@ fn put_message<K: Sink>(status: &Status, err: &mut K) -> Result<(), WriteFault>
         Status::NetworkRefused(cause) => write_refusal(cause, err),
         Status::BudgetTooLarge => { write_whole(err, b"pool: too many nodes for this network\n") }
         Status::CertTooLong => write_whole(err, b"pool: certificate too long\n"),
+        Status::JobsRefused(line) => write_between(
+            b"pool: jobs refused at line ",
+            *line,
+            b"\n",
+            err,
+        ),
+        Status::OtherTree => write_whole(err, b"pool: jobs of another tree\n"),
         Status::ReadFault => write_whole(err, b"pool: read fault\n"),
         Status::WriteFault => write_whole(err, b"pool: write fault\n"),
         Status::DiskFault => write_whole(err, b"pool: disk fault\n"),

@@ -23,7 +23,8 @@
 //! Trees and their entries are those of `box_tree`, cut rules those of `branching`. What a proof is that rounding gives, and how a leaf
 //! is solved, seen by the rule and cut, is left to `leaf_cuts`.
 //!
-//! Proofs above may cite, of `proofs/`: `Starting` (whether the cheapest starting plan is better than what a tree has).
+//! Proofs above may cite, of `proofs/`: `Starting` (whether the cheapest starting plan is better than what a tree has), `Opening` (the open rows
+//! of a leaf's view are the coordinates at which it can be cut) and `LeafSplits` (a pick on the view, with what is proved there).
 #![tactic(auto)]
 
 mod cases;

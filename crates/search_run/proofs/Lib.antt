@@ -4,7 +4,7 @@ mod Rooting
 mod Sound
 pub mod Covering
 mod Reaching
-mod Choosing
+pub mod Choosing
 pub mod Stepping
 mod Nearer
 pub mod Ending

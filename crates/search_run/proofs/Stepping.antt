@@ -40,7 +40,7 @@ use Rattle.search_run.proofs.Choosing.{pick-chosen}
 
 -- ---- a split that comes next is a cut
 
-half-of : (n : Net) (form : Form) (b : Box) (o : Option ℤ) (least : ℤ) (proof : Option Proof) → o ≡ Some least → IsGiven n form b (bound least) proof → IsHalf n form b o proof
+pub half-of : (n : Net) (form : Form) (b : Box) (o : Option ℤ) (least : ℤ) (proof : Option Proof) → o ≡ Some least → IsGiven n form b (bound least) proof → IsHalf n form b o proof
 half-of n form b o least proof e given = record {
   named = given.in_form;
   priced = subst (λ (z : Option ℤ). IsPriced n b (raised z (option_map (shown_by n b) proof))) (sym e) (priced-raised n b least proof given.price);
@@ -131,7 +131,7 @@ module _ (n : Net) (o : Orders) (s : Searched) (options : Options) (asked : opti
 
 -- ---- a closure that keeps to the rule
 
-pick-weaker : (rule : RuleName) (cuts : List ℕ) (post : Bor View → ℕ → Type 0) (v : View) (split : Split) → Keeps rule cuts post → IsPick post v split → IsPick (picked rule cuts) v split
+pub pick-weaker : (rule : RuleName) (cuts : List ℕ) (post : Bor View → ℕ → Type 0) (v : View) (split : Split) → Keeps rule cuts post → IsPick post v split → IsPick (picked rule cuts) v split
 pick-weaker rule cuts post v split is pick =
     let a = pick.answered in
     record {

@@ -12,8 +12,9 @@
 //! What the next step is, is left to `search_core`; which row a rule picks, to `branching`; what is printed of a tree, to the crates
 //! above.
 //!
-//! Proofs above may cite, of `proofs/`: `Stepping` (steps one after another), `Growing` (what a split of the least leaf adds), `Covering`
-//! (no starting plan is better than the best plan) and `Ending` (what holds at the end of a run).
+//! Proofs above may cite, of `proofs/`: `Choosing` (which coordinate the rule of a name picks), `Stepping` (picks that keep to a rule, halves with
+//! their bounds, and steps one after another), `Growing` (what a split of the least leaf adds), `Covering` (no starting plan is better than
+//! the best plan) and `Ending` (what holds at the end of a run).
 #![tactic(auto)]
 
 mod deciding;
@@ -25,5 +26,5 @@ mod rules;
 pub use deciding::due;
 pub use driving::run_search;
 pub use ended::{Ended, Outcome};
-pub use orders::Orders;
+pub use orders::{Orders, PIVOTS};
 pub use rules::next_by;

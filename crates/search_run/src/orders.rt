@@ -8,7 +8,7 @@ use branching::RuleName;
 use search_core::Options;
 
 /// How often the simplex method may change its basis, for one program.
-const PIVOTS: u32 = 10_000;
+pub const PIVOTS: u32 = 10_000;
 
 /// Of how many coordinates both halves are solved before one is cut, at the most, where the rule goes by what they leave to be done.
 const LOOKS: u32 = 12;

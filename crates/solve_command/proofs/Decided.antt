@@ -6,7 +6,8 @@ use Rattle.pool_model.specs.Plan.{plan_of}
 use Rattle.pool_model.specs.Claim.{HasNoPlan}
 use Rattle.search_run.specs.Found.{HasNoStart}
 use Rattle.run_status.specs.Reads.{Files, ReadsUnder}
-use Rattle.solve_command.specs.SolveEnds.{IsJournalEnd, IsPlanned, IsPrinted, IsWithinBudget, JournalUnder, NoPlanUnder, NoStartUnder, OverUnder}
+use Rattle.journal_status.specs.JournalEnds.{IsJournalEnd}
+use Rattle.solve_command.specs.SolveEnds.{IsPlanned, IsPrinted, IsWithinBudget, JournalUnder, NoPlanUnder, NoStartUnder, OverUnder}
 use Rattle.solve_command.specs.SolveEnds.{SolveDecided, SolveEnds, StartUnder, WithinUnder}
 use Rattle.run_status.specs.declared.status.Status.{Status}
 use Rattle.run_status.specs.declared.status.Status.TheVariants as statuses

@@ -1,7 +1,6 @@
 -- A run with a journal: from what the search with it leaves to what the program leaves.
-use Rattle.std.proofs.Common.{◌≡◌, ◌⊎◌, inl, inr, ℕ, List, [], ◌∷◌, ◌++◌, length, Option, Some, Ok, Err, refl, sym, ap, subst, ◌∙◌, arith}
-use Rattle.disk_calls.specs.Disks.{DiskTold, Finds, LeavesOnly, IsWithin}
-use Rattle.disk_calls.proofs.Moments.{goes_further, leaves-weaker, now-has}
+use Rattle.std.proofs.Common.{◌≡◌, ◌⊎◌, inl, inr, ℕ, List, [], ◌∷◌, ◌++◌, length, Option, Some, Ok, Err, refl, sym, subst, ◌∙◌}
+use Rattle.disk_calls.specs.Disks.{DiskTold}
 use Rattle.edge_io.specs.Writing.{behind}
 use Rattle.pool_model.specs.Network.{Net, Network, IsLimited, net_of}
 use Rattle.row_model.specs.Entries.{Entry, Searched, made_by, AreInOrder}
@@ -14,12 +13,9 @@ use Rattle.network_text.specs.Canonical.{canonical_text}
 use Rattle.cert_lengths.specs.Lengths.{HasFewRows}
 use Rattle.cert_lengths.proofs.ValidTexts.{few_rows-grown}
 use Rattle.tree_certificate.specs.Certificates.{cert_of}
-use Rattle.journal_format.specs.Files.{Stands}
-use Rattle.journal_format.specs.declared.fault.JournalFault.{JournalFault}
 use Rattle.journal_format.specs.declared.fault.JournalFault.TheVariants as journal_faults
 use Rattle.journal_format.proofs.OwnFiles.{one_standing}
 use Rattle.node_journal.specs.Settled.{IsQuiet}
-use Rattle.node_journal.proofs.Runs.{quiet-then}
 use Rattle.search_run.specs.Runs.{IsRun}
 use Rattle.search_run.specs.Found.{IsFound}
 use Rattle.search_run.specs.declared.orders.Orders.{Orders}
@@ -31,74 +27,20 @@ use Rattle.recorded_run.specs.Sessions.{IsResumed, IsRunFrom}
 use Rattle.recorded_run.specs.declared.fault.RunFault.{RunFault}
 use Rattle.recorded_run.specs.declared.fault.RunFault.TheVariants as faults
 use Rattle.recorded_run.proofs.Acknowledging.{behind-keeps}
-use Rattle.recorded_run.proofs.Causes.{no_cause}
-use Rattle.solve_command.specs.Journaled.{IsJournalRefused, IsForeign, IsFailed, IsUnopened, IsJournalCause, HoldsOnDisk, IsPrintOf, IsAttached, Journaled}
+use Rattle.journal_status.specs.JournalEnds.{IsJournalRefused, IsFailed, IsUnopened, HoldsOnDisk, fault_status}
+use Rattle.journal_status.proofs.Attaching.{behind-attach}
+use Rattle.journal_status.proofs.Causes.{attached-fault, attached-sound, cause-fault}
+use Rattle.journal_status.proofs.Faults.{memory_fault_is}
+use Rattle.solve_command.specs.Journaled.{IsPrintOf, IsAttached, Journaled}
 use Rattle.run_status.specs.Reads.{Files, ReadsUnder}
 use Rattle.solve_command.specs.Recorded.{IsOpened}
 use Rattle.solve_command.specs.Solution.{status_of}
-use Rattle.solve_command.specs.SolveEnds.{EndsWith, IsEnded, IsPrinted, IsWithinBudget, fault_status, orders_of}
+use Rattle.solve_command.specs.SolveEnds.{EndsWith, IsEnded, IsPrinted, IsWithinBudget, orders_of}
 use Rattle.solve_command.specs.declared.solution.Solution.{Solution}
 use Rattle.run_status.specs.declared.status.Status.{Status}
 use Rattle.run_status.specs.declared.status.Status.TheVariants as statuses
 use Rattle.solve_command.proofs.Resuming.{no_worse}
 use Rattle.solve_command.proofs.Solutions.{solved-from}
-
--- ---- the file that an attach reads
-
-pub finds-reaches : (old new : DiskTold) → Finds old new → IsWithin new.reads 0
-finds-reaches old new at = subst (λ (r : Option (List ℕ)). IsWithin r 0) (sym at.read) (omega arith)
-
--- what follows an attach leaves no more than was there before, beside its own
-pub behind-attach : (old mid new : DiskTold) (Q : List ℕ → Type 0) → IsQuiet old mid → LeavesOnly mid new (λ c. mid.may_leave c ⊎ Q c) → LeavesOnly old new (λ c. old.may_leave c ⊎ Q c)
-behind-attach old mid new Q attach run =
-    let P : List ℕ → Type 0 = λ c. mid.may_leave c ⊎ Q c in
-    let R : List ℕ → Type 0 = λ c. old.may_leave c ⊎ Q c in
-    goes_further old mid new R (leaves-weaker old mid old.may_leave R (λ c h. inl h) attach)
-    (leaves-weaker mid new P R (λ c h. elim h [ inl now ↦ inl (now-has old mid old.may_leave attach c now) | inr q ↦ inr q ]) run)
-
--- ---- causes
-
--- the cause of a fault is that of its status
-status-cause : (n : Net) (text file : List ℕ) (fault : RunFault) → IsCause n text file fault → IsJournalCause n text file (fault_status fault)
-status-cause n text file (faults.Journal journal_faults.Disk) h = absurd h
-status-cause n text file (faults.Journal journal_faults.NotAJournal) h = h
-status-cause n text file (faults.Journal (journal_faults.UnknownVersion version)) h = h
-status-cause n text file (faults.Journal journal_faults.OtherNetwork) h = h
-status-cause n text file (faults.Journal (journal_faults.BadRecord number)) h = inl h
-status-cause n text file (faults.Journal journal_faults.Memory) h = absurd h
-status-cause n text file (faults.OutOfOrder number) h = inr h
-
--- a cause of a status is that of a fault
-cause-fault : (n : Net) (text file : List ℕ) (status : Status) → IsJournalCause n text file status → (fault : RunFault) × (fault_status fault ≡ status) × IsCause n text file fault
-cause-fault n text file statuses.OtherNetwork h = (faults.Journal journal_faults.OtherNetwork, refl, h)
-cause-fault n text file (statuses.BadJournal number) (inl h) = (faults.Journal (journal_faults.BadRecord number), refl, h)
-cause-fault n text file (statuses.BadJournal number) (inr h) = (faults.OutOfOrder number, refl, h)
-cause-fault n text file (statuses.UnknownVersion version) h = (faults.Journal (journal_faults.UnknownVersion version), refl, h)
-cause-fault n text file statuses.NotAJournal h = (faults.Journal journal_faults.NotAJournal, refl, h)
-cause-fault n text file status h = absurd h
-
--- disk or memory failed
-failed-status : (fault : RunFault) → IsFreeFault fault → IsFailed (fault_status fault)
-failed-status (faults.Journal fault) (inl e) = subst (λ (f : JournalFault). IsFailed (fault_status (faults.Journal f))) (sym e) tt
-failed-status (faults.Journal fault) (inr e) = subst (λ (f : JournalFault). IsFailed (fault_status (faults.Journal f))) (sym e) tt
-failed-status (faults.OutOfOrder number) h = absurd h
-
-failed-not-refused : (status : Status) → IsFailed status → ¬ IsJournalRefused status
-failed-not-refused statuses.DiskFault h r = r
-failed-not-refused statuses.OutOfMemory h r = r
-failed-not-refused status h r = h
-
-foreign-refused : (status : Status) → IsForeign status → IsJournalRefused status
-foreign-refused statuses.OtherNetwork h = tt
-foreign-refused (statuses.UnknownVersion version) h = tt
-foreign-refused statuses.NotAJournal h = tt
-foreign-refused status h = absurd h
-
--- a file that stands for entries in order is not refused
-no-refusal : (n : Net) (text file : List ℕ) (status : Status) → (IsJournalRefused status → IsJournalCause n text file status) → (list : List Entry) → Stands file text list → AreInOrder n list → ¬ IsJournalRefused status
-no-refusal n text file status caused list stands are refused =
-    let cause = cause-fault n text file status (caused refused) in
-    no_cause n text file list cause.0 stands are cause.2
 
 -- a search that ended is neither refused nor failed
 ended-not-refused : (ended : Ended) → ¬ IsJournalRefused (status_of ended)
@@ -164,16 +106,6 @@ fault-not-ended (faults.Journal (journal_faults.BadRecord number)) h = h
 fault-not-ended (faults.Journal journal_faults.Memory) h = h
 fault-not-ended (faults.OutOfOrder number) h = h
 
--- memory ran out exactly where the fault says so
-memory-fault : (fault : RunFault) → fault_status fault ≡ statuses.OutOfMemory → fault ≡ faults.Journal journal_faults.Memory
-memory-fault (faults.Journal journal_faults.Disk) is = absurd (cc)
-memory-fault (faults.Journal journal_faults.NotAJournal) is = absurd (cc)
-memory-fault (faults.Journal (journal_faults.UnknownVersion version)) is = absurd (cc)
-memory-fault (faults.Journal journal_faults.OtherNetwork) is = absurd (cc)
-memory-fault (faults.Journal (journal_faults.BadRecord number)) is = absurd (cc)
-memory-fault (faults.Journal journal_faults.Memory) is = refl
-memory-fault (faults.OutOfOrder number) is = absurd (cc)
-
 ended-printed : (status : Status) → IsEnded status → IsPrinted status
 ended-printed statuses.Closed h = tt
 ended-printed statuses.Stopped h = tt
@@ -194,17 +126,10 @@ module _ (n : Net) (text : List ℕ) (o : Orders) (file : List ℕ) (old mid new
   goes-few : (first : List Entry) (IsKnown : List Entry → Type 0) (goes : Goes first IsKnown) → HasFewRows n o.nodes → HasFewRows n (length (made_by first).tree.splits)
       → (list : List Entry) → BeginsWith goes.last list → HasFewRows n (length (made_by list).tree.splits)
   goes-few first IsKnown goes asked there list begins =
-      few_rows-grown n (length (made_by list).tree.splits) o.nodes (length (made_by first).tree.splits) (goes.few list begins) asked there
+      few_rows-grown n (length (made_by list).tree.splits) o.nodes (length (made_by first).tree.splits) (goes.known.0 list begins) asked there
 
   abbrev Attached : Status → (Cert → Type 0) → Type 0
   Attached status Prints = IsAttached n text o old new status Prints
-
-  left-alone : (fault : RunFault) → IsForeign (fault_status fault) → IsLeftAlone fault (IsQuiet mid new) → IsQuiet old new
-  left-alone (faults.Journal fault) foreign (inl free) = absurd (failed-not-refused (fault_status (faults.Journal fault))
-      (failed-status (faults.Journal fault) free) (foreign-refused (fault_status (faults.Journal fault)) foreign))
-  left-alone (faults.Journal fault) foreign (inr left) =
-      quiet-then old mid new attach left
-  left-alone (faults.OutOfOrder number) foreign h = absurd foreign
 
   -- the run gave no answer
   pub attached-unsolved : (fault : RunFault) (Prints : Cert → Type 0) → IsFreeFault fault ⊎ IsCause n text file fault →
@@ -214,18 +139,9 @@ module _ (n : Net) (text : List ℕ) (o : Orders) (file : List ℕ) (old mid new
       Attached (fault_status fault) Prints
   attached-unsolved fault Prints refused decided alone own =
       let status = fault_status fault in
-      let caused : IsJournalRefused status → IsJournalCause n text file status =
-      λ r. elim refused [ inl free ↦ absurd (failed-not-refused status (failed-status fault free) r) | inr cause ↦ status-cause n text file fault cause ] in
       record {
         file = file;
-        image = image;
-        found = found_is;
-        caused = caused;
-        decided = λ other has.
-            let cause = cause-fault n text file other has in
-            elim (decided cause.0 cause.2) [ inl free ↦ inr (failed-status fault free) | inr e ↦ inl (ap fault_status e ∙ cause.1) ];
-        taken = no-refusal n text file status caused;
-        untouched = λ foreign. left-alone fault foreign alone;
+        attached = attached-fault n text file old mid new image found_is attach fault refused decided alone;
         resumed = λ ended. absurd (fault-not-ended fault (ended-printed status ended));
         own = λ first is.
             let goes = own first is in
@@ -236,7 +152,7 @@ module _ (n : Net) (text : List ℕ) (o : Orders) (file : List ℕ) (old mid new
               acknowledged = goes-keeps first _ goes;
               few = goes-few first _ goes;
               held = λ printed. absurd (fault-not-ended fault printed);
-              stands = λ memory. goes.known (memory-fault fault memory);
+              stands = λ memory. goes.known.1 (memory_fault_is fault memory);
               printed = λ ended. absurd (fault-not-ended fault (ended-printed status ended));
             };
       }
@@ -247,12 +163,7 @@ module _ (n : Net) (text : List ℕ) (o : Orders) (file : List ℕ) (old mid new
       → ((first : List Entry) → IsNetworksOwn n text first file → Goes first (λ last. Ends n text last found new)) → Attached (status_of ended) Prints
   attached-solved limited found ended Prints is sound resumed valid prints own = record {
     file = file;
-    image = image;
-    found = found_is;
-    caused = λ r. absurd (ended-not-refused ended r);
-    decided = λ other has. let cause = cause-fault n text file other has in absurd (sound cause.0 cause.2);
-    taken = λ list stands are r. ended-not-refused ended r;
-    untouched = λ foreign. absurd (ended-not-refused ended (foreign-refused (status_of ended) foreign));
+    attached = attached-sound n text file old mid new image found_is (status_of ended) (ended-not-refused ended) sound;
     resumed = λ whole. record {
       first = resumed.first;
       stands = resumed.stands file is;
@@ -268,9 +179,9 @@ module _ (n : Net) (text : List ℕ) (o : Orders) (file : List ℕ) (old mid new
           any_moment = behind-attach old mid new (IsBetween n text first goes.last) attach goes.any_moment;
           acknowledged = goes-keeps first _ goes;
           few = goes-few first _ goes;
-          held = λ printed. ends-holds n text o first file limited at goes.last found new goes.known;
+          held = λ printed. ends-holds n text o first file limited at goes.last found new goes.known.1;
           stands = λ memory. absurd (ended-not-failed ended (subst IsFailed (sym memory) tt));
-          printed = λ whole. print-of n text o first file limited at mid found ended goes.last Prints is resumed goes.known.made valid prints;
+          printed = λ whole. print-of n text o first file limited at mid found ended goes.last Prints is resumed goes.known.1.made valid prints;
         };
   }
 
@@ -291,12 +202,7 @@ module _ (n : Net) (text : List ℕ) (o : Orders) (old new : DiskTold) (Found Pr
       IsAttached n text o old new status Prints
   attached-as status at prints = record {
     file = at.file;
-    image = at.image;
-    found = at.found;
-    caused = at.caused;
-    decided = at.decided;
-    taken = at.taken;
-    untouched = at.untouched;
+    attached = at.attached;
     resumed = λ whole.
         let from = at.resumed whole in
         record {
@@ -324,15 +230,17 @@ module _ (n : Net) (text : List ℕ) (o : Orders) (old new : DiskTold) (Found Pr
   attached-cut : (ended : Ended) → IsAttached n text o old new (status_of ended) Found → IsAttached n text o old new statuses.WriteFault Prints
   attached-cut ended at = record {
     file = at.file;
-    image = at.image;
-    found = at.found;
-    caused = λ r. absurd r;
-    decided = λ cause has. elim (at.decided cause has) [
-      | inl is ↦ let fault = cause-fault n text at.file cause has in absurd (fault-not-ended fault.0 (subst IsPrinted (is ∙ sym fault.1) (ended-printed (status_of ended) (ended-whole ended))))
-      | inr failed ↦ absurd (ended-not-failed ended failed)
-    ];
-    taken = λ list stands are r. r;
-    untouched = λ foreign. absurd foreign;
+    attached = record {
+      image = at.attached.image;
+      found = at.attached.found;
+      caused = λ r. absurd r;
+      decided = λ cause has. elim (at.attached.decided cause has) [
+        | inl is ↦ let fault = cause-fault n text at.file cause has in absurd (fault-not-ended fault.0 (subst IsPrinted (is ∙ sym fault.1) (ended-printed (status_of ended) (ended-whole ended))))
+        | inr failed ↦ absurd (ended-not-failed ended failed)
+      ];
+      taken = λ list stands are r. r;
+      untouched = λ foreign. absurd foreign;
+    };
     resumed = λ whole. absurd whole;
     own = λ first is.
         let run = at.own first is in

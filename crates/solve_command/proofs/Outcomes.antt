@@ -17,15 +17,10 @@ use Rattle.tree_certificate.specs.Certificates.{claim_of}
 use Rattle.run_status.specs.Reads.{Files, ReadsUnder}
 use Rattle.edge_io.specs.Writing.{behind}
 use Rattle.solve_command.specs.Solution.{IsSolutionFrom, end_by, status_of}
-use Rattle.run_status.specs.Took.{IsCutShort, Part, whole, printed_by, Took, TookPart, unread_status}
-use Rattle.solve_command.specs.Journaled.{IsUnopened}
-use Rattle.journal_format.specs.declared.fault.JournalFault.TheVariants as journal_faults
-use Rattle.recorded_run.specs.declared.fault.RunFault.{RunFault}
-use Rattle.recorded_run.specs.declared.fault.RunFault.TheVariants as faults
-use Rattle.run_status.specs.declared.reading.Unread.{Unread}
-use Rattle.run_status.specs.declared.reading.Unread.TheVariants as unread
-use Rattle.solve_command.specs.SolveEnds.{EndsWith, IsHeldUp, IsJournalEnd, IsWithinBudget, JournalUnder}
-use Rattle.solve_command.specs.SolveEnds.{SolveEnds, SolvesAs, WithinUnder, fault_status, orders_of}
+use Rattle.run_status.specs.Took.{IsCutShort, Part, whole, printed_by, Took, TookPart}
+use Rattle.journal_status.specs.JournalEnds.{IsJournalEnd}
+use Rattle.solve_command.specs.SolveEnds.{EndsWith, IsHeldUp, IsWithinBudget, JournalUnder}
+use Rattle.solve_command.specs.SolveEnds.{SolveEnds, SolvesAs, WithinUnder, orders_of}
 use Rattle.run_status.specs.declared.status.Status.{Status}
 use Rattle.run_status.specs.declared.status.Status.TheVariants as statuses
 
@@ -83,46 +78,6 @@ module _ (files : Option Files) (s : Solving) (network : Network) (reads : Reads
     | inr is ↦ subst (SolveEnds files s before after) (sym is) here
   ]
 
--- ---- a search gave no answer
-
--- nothing was printed
-pub took_nothing : (Answer : Status → List ℕ → Type 0) (fault : RunFault) (taken : Option (List ℕ)) → Took Answer (fault_status fault) taken taken
-took_nothing Answer (faults.Journal journal_faults.Disk) taken = refl
-took_nothing Answer (faults.Journal journal_faults.NotAJournal) taken = refl
-took_nothing Answer (faults.Journal (journal_faults.UnknownVersion version)) taken = refl
-took_nothing Answer (faults.Journal journal_faults.OtherNetwork) taken = refl
-took_nothing Answer (faults.Journal (journal_faults.BadRecord number)) taken = refl
-took_nothing Answer (faults.Journal journal_faults.Memory) taken = refl
-took_nothing Answer (faults.OutOfOrder number) taken = refl
-
--- only a failed disk is told as such, and no fault is told as one of shelf or sink
-pub disk_fault_is : (fault : RunFault) → fault_status fault ≡ statuses.DiskFault → fault ≡ faults.Journal journal_faults.Disk
-disk_fault_is (faults.Journal journal_faults.Disk) e = refl
-disk_fault_is (faults.Journal journal_faults.NotAJournal) e = cc
-disk_fault_is (faults.Journal (journal_faults.UnknownVersion version)) e = cc
-disk_fault_is (faults.Journal journal_faults.OtherNetwork) e = cc
-disk_fault_is (faults.Journal (journal_faults.BadRecord number)) e = cc
-disk_fault_is (faults.Journal journal_faults.Memory) e = cc
-disk_fault_is (faults.OutOfOrder number) e = cc
-
-pub no_read_fault : (fault : RunFault) → fault_status fault ≢ statuses.ReadFault
-no_read_fault (faults.Journal journal_faults.Disk) e = cc
-no_read_fault (faults.Journal journal_faults.NotAJournal) e = cc
-no_read_fault (faults.Journal (journal_faults.UnknownVersion version)) e = cc
-no_read_fault (faults.Journal journal_faults.OtherNetwork) e = cc
-no_read_fault (faults.Journal (journal_faults.BadRecord number)) e = cc
-no_read_fault (faults.Journal journal_faults.Memory) e = cc
-no_read_fault (faults.OutOfOrder number) e = cc
-
-pub no_write_fault : (fault : RunFault) → fault_status fault ≢ statuses.WriteFault
-no_write_fault (faults.Journal journal_faults.Disk) e = cc
-no_write_fault (faults.Journal journal_faults.NotAJournal) e = cc
-no_write_fault (faults.Journal (journal_faults.UnknownVersion version)) e = cc
-no_write_fault (faults.Journal journal_faults.OtherNetwork) e = cc
-no_write_fault (faults.Journal (journal_faults.BadRecord number)) e = cc
-no_write_fault (faults.Journal journal_faults.Memory) e = cc
-no_write_fault (faults.OutOfOrder number) e = cc
-
 -- a search that ended is told as a failure of nothing, and as no want of memory
 pub no_end_fault : (ended : Ended) (status : Status) → EndsWith (status_of ended) status → status ≢ statuses.DiskFault
 no_end_fault ended status (inr e) f = cc (e, f)
@@ -140,30 +95,7 @@ no_end_want ends.Stuck status (inl e) f = cc (e, f)
 no_end_want ends.Infeasible status (inl e) f = cc (e, f)
 no_end_want ends.Undecided status (inl e) f = cc (e, f)
 
--- only want of memory is told as such
-pub memory_fault_is : (fault : RunFault) → fault_status fault ≡ statuses.OutOfMemory → fault ≡ faults.Journal journal_faults.Memory
-memory_fault_is (faults.Journal journal_faults.Disk) e = cc
-memory_fault_is (faults.Journal journal_faults.NotAJournal) e = cc
-memory_fault_is (faults.Journal (journal_faults.UnknownVersion version)) e = cc
-memory_fault_is (faults.Journal journal_faults.OtherNetwork) e = cc
-memory_fault_is (faults.Journal (journal_faults.BadRecord number)) e = cc
-memory_fault_is (faults.Journal journal_faults.Memory) e = refl
-memory_fault_is (faults.OutOfOrder number) e = cc
-
-pub unread_memory_is : (why : Unread) → unread_status why ≡ statuses.OutOfMemory → why ≡ unread.Memory
-unread_memory_is (unread.Refused cause) e = cc
-unread_memory_is unread.Failed e = cc
-unread_memory_is unread.Memory e = refl
-
-pub no_unread_disk : (why : Unread) → unread_status why ≢ statuses.DiskFault
-no_unread_disk (unread.Refused cause) e = cc
-no_unread_disk unread.Failed e = cc
-no_unread_disk unread.Memory e = cc
-
-pub unread_unopened : (why : Unread) → IsUnopened (unread_status why)
-unread_unopened (unread.Refused cause) = tt
-unread_unopened unread.Failed = tt
-unread_unopened unread.Memory = tt
+-- ---- a search gave no answer
 
 -- it ends so where a network is read, what is asked is within the budget, and a journal is named
 module _ (files : Option Files) (s : Solving) (before after : ℕ) where

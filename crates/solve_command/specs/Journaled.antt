@@ -1,5 +1,5 @@
 -- What a run with a journal leaves on the disk, and what it prints of it.
-use Rattle.std.specs.Prelude.{◌≡◌, ◌⊎◌, ℕ, List, [], ◌∷◌, ◌++◌, length, Option}
+use Rattle.std.specs.Prelude.{◌≡◌, ◌⊎◌, ℕ, List, length, Option}
 use Rattle.disk_calls.specs.Disks.{DiskTold, LeavesOnly}
 use Rattle.pool_model.specs.Network.{Net, Network, net_of}
 use Rattle.row_model.specs.Entries.{Entry, Searched, made_by, AreInOrder}
@@ -9,69 +9,17 @@ use Rattle.tree_certificate.specs.Certificates.{cert_of}
 use Rattle.cli_words.specs.Requests.{Solving}
 use Rattle.network_text.specs.Canonical.{canonical_text}
 use Rattle.journal_format.specs.Files.{Stands}
-use Rattle.journal_format.specs.Faults.{Has}
-use Rattle.journal_format.specs.Longest.{longest}
-use Rattle.node_journal.specs.Settled.{IsOnDisk, IsQuiet}
-use Rattle.journal_format.specs.declared.fault.JournalFault.TheVariants as faults
 use Rattle.search_run.specs.Found.{IsGrown}
 use Rattle.search_run.specs.declared.orders.Orders.{Orders}
-use Rattle.recorded_run.specs.Recorded.{BeginsWith, HasOutOfOrder, IsBetween, IsNetworksOwn, StandsNow}
+use Rattle.recorded_run.specs.Recorded.{BeginsWith, IsBetween, IsNetworksOwn, StandsNow}
 use Rattle.recorded_run.specs.Acknowledged.{KeepsAcknowledged}
+use Rattle.journal_status.specs.JournalEnds.{CameToNoFile, HoldsOnDisk, IsAttachedTo}
 use Rattle.run_status.specs.Reads.{Files, ReadsUnder}
 use Rattle.solve_command.specs.Resumed.{IsNoWorse}
 use Rattle.solve_command.specs.Solution.{IsSolutionFrom}
 use Rattle.solve_command.specs.SolveEnds.{IsEnded, IsPrinted, IsWithinBudget, orders_of}
 use Rattle.run_status.specs.declared.status.Status.{Status}
 use Rattle.run_status.specs.declared.status.Status.TheVariants as statuses
-
--- ---- statuses
-
--- the journal is refused
-abbrev pub IsJournalRefused : Status → Type 0
-IsJournalRefused statuses.OtherNetwork = Unit {0}
-IsJournalRefused (statuses.BadJournal number) = Unit {0}
-IsJournalRefused (statuses.UnknownVersion version) = Unit {0}
-IsJournalRefused statuses.NotAJournal = Unit {0}
-IsJournalRefused status = ⊥
-
--- no journal of this network stands in the file
-abbrev pub IsForeign : Status → Type 0
-IsForeign statuses.OtherNetwork = Unit {0}
-IsForeign (statuses.UnknownVersion version) = Unit {0}
-IsForeign statuses.NotAJournal = Unit {0}
-IsForeign status = ⊥
-
--- the disk failed, or memory ran out
-abbrev pub IsFailed : Status → Type 0
-IsFailed statuses.DiskFault = Unit {0}
-IsFailed statuses.OutOfMemory = Unit {0}
-IsFailed status = ⊥
-
--- the run came to no file: the network is refused, or what is asked is over the budget; or shelf, disk or memory failed
-abbrev pub IsUnopened : Status → Type 0
-IsUnopened (statuses.NetworkRefused cause) = Unit {0}
-IsUnopened statuses.BudgetTooLarge = Unit {0}
-IsUnopened statuses.ReadFault = Unit {0}
-IsUnopened status = IsFailed status
-
--- ---- causes
-
--- The file is a cause of this status. A record is bad where it holds no entry's bytes, or else where it is the first of an entry that
--- is not in order after those before it.
-abbrev pub IsJournalCause : Net → List ℕ → List ℕ → Status → Type 0
-IsJournalCause n text file statuses.OtherNetwork = Has text (longest n) file faults.OtherNetwork
-IsJournalCause n text file (statuses.BadJournal number) = Has text (longest n) file (faults.BadRecord number) ⊎ HasOutOfOrder n text file number
-IsJournalCause n text file (statuses.UnknownVersion version) = Has text (longest n) file (faults.UnknownVersion version)
-IsJournalCause n text file statuses.NotAJournal = Has text (longest n) file faults.NotAJournal
-IsJournalCause n text file status = ⊥
-
--- ---- what stands on the disk
-
--- the file is the only image, and it is the network's own for the list
-pub record HoldsOnDisk (n : Net) (text : List ℕ) (list : List Entry) (d : DiskTold) : Type 0 where
-  pub file : List ℕ
-  pub on_disk : IsOnDisk file d
-  pub own : IsNetworksOwn n text list file
 
 -- What is printed of the tree that was found: its certificate. The search went on from the tree that it began with: the splits and
 -- proofs there stand, and bound and plan are no worse.
@@ -120,23 +68,11 @@ pub record IsResumedFrom (n : Net) (text : List ℕ) (o : Orders) (file : List �
   pub found : Searched
   pub print : IsPrintOf n o (made_by first) found status Prints
 
--- A run that attached one file, once, which was one of the images of before. A refusal has its cause in that file, and a cause that is there
--- is answered, unless disk or memory failed; a file that stands for entries in order is never refused. A foreign file is left as it is.
+-- A run that attached a file: what is printed comes of that file's entries.
 pub record IsAttached (n : Net) (text : List ℕ) (o : Orders) (old new : DiskTold)
     (status : Status) (Prints : Cert → Type 0) : Type 0 where
   pub file : List ℕ
-  pub image : old.may_leave file
-  -- Promise: With `--journal`, over a disk that tells, a run attaches one file, once, and what is said of the file that was attached is said
-  --   of that one
-  pub found : new.attached ≡ old.attached ++ file ∷ []
-  -- Promise: 30, 31, 32 and 33 come only where the file that was attached is their cause
-  pub caused : IsJournalRefused status → IsJournalCause n text file status
-  -- Promise: Where the file that was attached is the cause of 30, 31, 32 or 33, that status comes, or disk or memory failed
-  pub decided : (cause : Status) → IsJournalCause n text file cause → (status ≡ cause) ⊎ IsFailed status
-  -- Promise: 30, 31, 32 and 33 never come where the file stands for entries in order
-  pub taken : (list : List Entry) → Stands file text list → AreInOrder n list → ¬ IsJournalRefused status
-  -- Promise: Under 30, 32 and 33 the file is left as it is
-  pub untouched : IsForeign status → IsQuiet old new
+  pub attached : IsAttachedTo n text file old new status
   -- Promise: With `--journal`, over a disk that tells, what is printed comes of a run that went on from the entries that the file stood for
   --   which was attached, all of them, whether or not that file is the network's own
   pub resumed : IsEnded status → IsResumedFrom n text o file status Prints
@@ -152,14 +88,6 @@ pub record AttachedUnder (files : Option Files) (s : Solving) (old new : DiskTol
   pub read : ReadsUnder files s.net network
   pub within : IsWithinBudget (net_of network) s.nodes
   pub attached : IsAttached (net_of network) (canonical_text network) (orders_of s) old new status Prints
-
--- The run came to no file: it attached none, and no image is new.
-pub record CameToNoFile (old new : DiskTold) (status : Status) : Type 0 where
-  pub unopened : IsUnopened status
-  -- Promise: A run that came to no journal, for whatever reason, leaves what a crash might have left before
-  pub quiet : IsQuiet old new
-  -- Promise: A run that attached a file is never told as one that came to none
-  pub none_attached : new.attached ≡ old.attached
 
 -- A run whose words name a journal, from the old state of the disk to the new one: it came to no file, or it read one.
 abbrev pub Journaled : Option Files → Solving → (old new : DiskTold) → Status → (Cert → Type 0) → Type 0

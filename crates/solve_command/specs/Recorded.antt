@@ -7,9 +7,9 @@ use Rattle.cert_format.specs.Cert.{Cert}
 use Rattle.cert_format.specs.Views.{shown_cert}
 use Rattle.search_run.specs.declared.orders.Orders.{Orders}
 use Rattle.recorded_run.specs.declared.fault.RunFault.{RunFault}
-use Rattle.solve_command.specs.Journaled.{CameToNoFile, IsAttached}
+use Rattle.journal_status.specs.JournalEnds.{CameToNoFile, fault_status}
+use Rattle.solve_command.specs.Journaled.{IsAttached}
 use Rattle.solve_command.specs.Solution.{IsSolutionFrom, status_of}
-use Rattle.solve_command.specs.SolveEnds.{fault_status}
 use Rattle.solve_command.specs.declared.solution.Solution.{Solution}
 use Rattle.run_status.specs.declared.status.Status.{Status}
 

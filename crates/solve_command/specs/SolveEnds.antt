@@ -14,8 +14,8 @@ use Rattle.cli_words.specs.Requests.{Solving}
 use Rattle.search_run.specs.Found.{HasNoStart}
 use Rattle.search_run.specs.declared.orders.Orders.{Orders}
 use Rattle.journal_format.specs.declared.fault.JournalFault.TheVariants as journal_faults
-use Rattle.recorded_run.specs.declared.fault.RunFault.{RunFault}
 use Rattle.recorded_run.specs.declared.fault.RunFault.TheVariants as faults
+use Rattle.journal_status.specs.JournalEnds.{IsJournalEnd, fault_status}
 use Rattle.solve_command.specs.Solution.{IsSolutionFrom, status_of}
 use Rattle.run_status.specs.Reads.{Files, IsRefusedAs, ReadsNone, ReadsUnder}
 use Rattle.run_status.specs.Took.{IsCutShort, IsNetworkRefused, unread_status}
@@ -23,16 +23,6 @@ use Rattle.solve_command.specs.declared.solving.SolveOutcome.{SolveOutcome}
 use Rattle.solve_command.specs.declared.solving.SolveOutcome.TheVariants as outcomes
 use Rattle.run_status.specs.declared.status.Status.{Status}
 use Rattle.run_status.specs.declared.status.Status.TheVariants as statuses
-
--- the status of a search that gives no answer
-abbrev pub fault_status : RunFault → Status
-fault_status (faults.Journal journal_faults.Disk) = statuses.DiskFault
-fault_status (faults.Journal journal_faults.NotAJournal) = statuses.NotAJournal
-fault_status (faults.Journal (journal_faults.UnknownVersion version)) = statuses.UnknownVersion version
-fault_status (faults.Journal journal_faults.OtherNetwork) = statuses.OtherNetwork
-fault_status (faults.Journal (journal_faults.BadRecord number)) = statuses.BadJournal number
-fault_status (faults.Journal journal_faults.Memory) = statuses.OutOfMemory
-fault_status (faults.OutOfOrder number) = statuses.BadJournal number
 
 -- the status that it ends with
 abbrev pub solve_status : SolveOutcome → Status
@@ -162,15 +152,6 @@ IsPlanned statuses.Stopped = Unit {0}
 IsPlanned statuses.Stuck = Unit {0}
 IsPlanned statuses.WriteFault = Unit {0}
 IsPlanned status = ⊥
-
--- the disk failed, or the journal is refused
-abbrev pub IsJournalEnd : Status → Type 0
-IsJournalEnd statuses.DiskFault = Unit {0}
-IsJournalEnd statuses.OtherNetwork = Unit {0}
-IsJournalEnd (statuses.BadJournal number) = Unit {0}
-IsJournalEnd (statuses.UnknownVersion version) = Unit {0}
-IsJournalEnd statuses.NotAJournal = Unit {0}
-IsJournalEnd status = ⊥
 
 -- the shelf failed, or memory ran out; or it ended at the journal that is named
 abbrev pub IsHeldUp : Option (List ℕ) → Status → Type 0

@@ -11,6 +11,7 @@ ghost use Rattle.cli_words.specs.Requests.{Solving};
 ghost use Rattle.cli_words.specs.Views.{shown_solving};
 ghost use Rattle.network_text.specs.Canonical.{canonical_text};
 ghost use Rattle.journal_format.specs.declared.fault.JournalFault.TheVariants as journal_faults;
+ghost use Rattle.journal_status.specs.JournalEnds.{fault_status};
 ghost use Rattle.search_core.specs.Searches.{IsAsked};
 ghost use Rattle.search_run.specs.Orders.{options_of};
 ghost use Rattle.solve_command.specs.Gaps.{IsGapAsked};
@@ -18,11 +19,11 @@ ghost use Rattle.solve_command.specs.Journaled.{Journaled};
 ghost use Rattle.run_status.specs.Reads.{Files, ReadsUnder};
 ghost use Rattle.solve_command.specs.Recorded.{IsBegun, IsOpened};
 ghost use Rattle.solve_command.specs.Solution.{status_of};
-ghost use Rattle.solve_command.specs.SolveEnds.{EndsWith, IsEnded, IsHeldUp, SolveEnds, SolvesAs, WantUnder, fault_status, solve_status};
+ghost use Rattle.solve_command.specs.SolveEnds.{EndsWith, IsEnded, IsHeldUp, SolveEnds, SolvesAs, WantUnder, solve_status};
 ghost use Rattle.run_status.specs.Took.{Took};
 
 use crate::budget::orders_within;
-use crate::ended::{ended_status, unsolved_status};
+use crate::ended::ended_status;
 use crate::recorded::recorded_solution;
 use crate::solution::{Solution, solution_of};
 use blend_network::Network;
@@ -30,6 +31,7 @@ use cert_format::write_cert;
 use cli_words::SolveWords;
 use disk_calls::Disk;
 use edge_io::Sink;
+use journal_status::run_status_of;
 use recorded_run::RunFault;
 use run_status::{Status, Unread, network_under};
 use search_run::{Ended, Orders};
@@ -59,7 +61,7 @@ impl From<SolveOutcome> for Status {
             SolveOutcome::Ended(ended) => ended_status(ended),
             SolveOutcome::OverBudget => Status::BudgetTooLarge,
             SolveOutcome::Unread(why) => Status::from(why),
-            SolveOutcome::Unsolved(fault) => unsolved_status(fault),
+            SolveOutcome::Unsolved(fault) => run_status_of(fault),
             SolveOutcome::WriteFault => Status::WriteFault,
         }
     }

@@ -1,5 +1,10 @@
-//! A desk over a small network: answers that fit, and those that a desk has no use for, against judgements worked out by hand.
+//! Jobs on the leaves of trees over a small network: a desk's judgements of answers that fit and of those that it has no use for; the texts of
+//! jobs and answers; and which jobs fit the network. All are worked out and written by hand.
 #![tactic(auto)]
 
 #[cfg(test)]
 mod desks;
+#[cfg(test)]
+mod handed;
+#[cfg(test)]
+mod texts;

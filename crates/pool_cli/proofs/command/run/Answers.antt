@@ -6,7 +6,8 @@ use Rattle.cert_format.specs.Text.{text_of}
 use Rattle.cli_words.specs.Asks.{Asks}
 use Rattle.cli_words.specs.Requests.{solve}
 use Rattle.cli_words.specs.Views.{shown_request}
-use Rattle.solve_command.specs.Journaled.{Journaled, IsUnopened}
+use Rattle.journal_status.specs.JournalEnds.{IsUnopened}
+use Rattle.solve_command.specs.Journaled.{Journaled}
 use Rattle.pool_cli.specs.Ends.{AnswersAs, EndsAs, HasNoJournal, IsUnanswered, JournalsAs}
 use Rattle.pool_cli.proofs.Commands.{admitted, ends_as, no_usage, nothing_told, took_as}
 use Rattle.pool_cli.proofs.Decided.{decided}

@@ -12,7 +12,8 @@ use Rattle.node_journal.proofs.Runs.{quiet-start, quiet-call}
 use Rattle.journal_format.specs.declared.fault.JournalFault.TheVariants as journal_faults
 use Rattle.recorded_run.specs.declared.fault.RunFault.TheVariants as faults
 use Rattle.solve_command.specs.Recorded.{IsOpened, shows}
-use Rattle.solve_command.proofs.Journaling.{finds-reaches, attached-unsolved, attached-solved}
+use Rattle.journal_status.proofs.Attaching.{finds-reaches}
+use Rattle.solve_command.proofs.Journaling.{attached-unsolved, attached-solved}
 use Rattle.solve_command.proofs.Solutions.{solved-from}
 use Rattle.solve_command.proofs.recorded.recorded_solution.Goals as goal
 
@@ -103,6 +104,5 @@ returns-in_err-certificate-clause-journal g c =
       begins = goes.begins;
       any_moment = goes.any_moment;
       acknowledged = goes.acknowledged;
-      few = goes.few;
-      known = λ memory. record { file = goes.known.file; read = goes.known.on_disk.read; own = goes.known.own };
+      known = (goes.known.0, λ memory. record { file = goes.known.1.file; read = goes.known.1.on_disk.read; own = goes.known.1.own });
     }))))

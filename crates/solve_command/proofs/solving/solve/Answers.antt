@@ -4,7 +4,7 @@ use Rattle.run_status.specs.Reads.{ReadsUnder}
 use Rattle.run_status.specs.Took.{unread_status}
 use Rattle.run_status.proofs.Quiet.{failed_told, quiet_behind}
 use Rattle.solve_command.specs.declared.solving.SolveOutcome.TheVariants.{Unread}
-use Rattle.solve_command.proofs.Outcomes.{no_unread_disk, unread_memory_is, unread_unopened}
+use Rattle.journal_status.proofs.Faults.{no_unread_disk, unread_memory_is, unread_unopened}
 use Rattle.solve_command.proofs.solving.solve.Goals as goal
 
 pub returns-in-Ok-clause-took : goal.returns-in-Ok-clause-took

@@ -6,12 +6,14 @@ use Rattle.cli_words.specs.Views.{shown_solving}
 use Rattle.network_text.specs.Canonical.{canonical_text}
 use Rattle.node_journal.proofs.Runs.{quiet-start}
 use Rattle.search_run.specs.declared.orders.Orders.{Orders}
+use Rattle.journal_status.specs.JournalEnds.{fault_status}
 use Rattle.solve_command.specs.Recorded.{IsOpened}
 use Rattle.solve_command.specs.Solution.{IsSolutionFrom, status_of}
-use Rattle.solve_command.specs.SolveEnds.{SolvesAs, fault_status, solve_status}
+use Rattle.solve_command.specs.SolveEnds.{SolvesAs, solve_status}
 use Rattle.solve_command.specs.declared.solving.SolveOutcome.TheVariants.{Unsolved}
+use Rattle.journal_status.proofs.Faults.{disk_fault_is, memory_fault_is, no_read_fault, no_write_fault, took_nothing}
 use Rattle.solve_command.proofs.Journaling.{journaled-printed, journaled-unsolved}
-use Rattle.solve_command.proofs.Outcomes.{disk_fault_is, memory_fault_is, no_end_fault, no_end_want, no_read_fault, no_write_fault, printed_short, solution_ends, took_nothing, unsolved_ends}
+use Rattle.solve_command.proofs.Outcomes.{no_end_fault, no_end_want, printed_short, solution_ends, unsolved_ends}
 use Rattle.solve_command.proofs.solving.solve_network.Goals as goal
 
 pub returns-in-Ok-clause-took : goal.returns-in-Ok-clause-took

@@ -1,0 +1,3 @@
+-- Lemmas behind the proofs.
+pub mod Least
+pub mod Lists

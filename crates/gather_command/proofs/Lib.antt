@@ -1,0 +1,4 @@
+pub mod Decided
+mod Journaling
+mod Outcomes
+mod Saying

@@ -1,0 +1,5 @@
+pub mod Told
+pub mod Answers
+pub mod Journaled
+pub mod GatherEnds
+pub mod Brought

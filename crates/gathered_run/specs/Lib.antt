@@ -1,0 +1,5 @@
+pub mod Files
+pub mod Events
+pub mod Gatherings
+pub mod Steps
+pub mod Causes

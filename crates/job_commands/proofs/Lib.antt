@@ -1,0 +1,4 @@
+pub mod Decided
+pub mod JobFiles
+mod Keeping
+mod WorkDone

@@ -1,0 +1,7 @@
+-- Lemmas behind the laws.
+pub mod JobLaws
+pub mod Heads
+pub mod AnswerLaws
+pub mod Wholes
+mod Outcomes
+mod Pieces

@@ -1,0 +1,3 @@
+-- Lemmas behind the contracts.
+mod Bare
+mod Free

@@ -1,0 +1,4 @@
+-- Lemmas behind the contracts.
+pub mod Working
+pub mod Answering
+pub mod OnLeaves

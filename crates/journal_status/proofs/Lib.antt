@@ -1,0 +1,3 @@
+pub mod Attaching
+pub mod Causes
+pub mod Faults

@@ -1,0 +1,14 @@
+pub mod Times
+pub mod Sums
+pub mod Tables
+pub mod Pivots
+pub mod Steps
+pub mod Signs
+pub mod Reached
+pub mod Ends
+pub mod Points
+pub mod Weighing
+pub mod Solved
+pub mod Empty
+pub mod Best
+pub mod Parts

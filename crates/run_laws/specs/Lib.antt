@@ -1,0 +1,3 @@
+pub mod Points
+pub mod Multipliers
+pub mod Parts
