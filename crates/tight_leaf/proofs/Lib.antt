@@ -1,0 +1,21 @@
+-- Lemmas behind the proofs.
+pub mod Multiples
+pub mod Values
+pub mod Places
+pub mod Parts
+pub mod EndFactors
+pub mod PlanValues
+pub mod RowCaps
+pub mod Rewriting
+pub mod Stops
+pub mod BoxPoints
+pub mod PlanMeets
+pub mod Ordered
+pub mod EndParts
+pub mod EndMarks
+pub mod PlanLies
+pub mod PlanLight
+pub mod PlanDecides
+pub mod SolvedEnd
+pub mod LeafStops
+pub mod LeafComes

@@ -1,0 +1,9 @@
+pub mod Programs
+pub mod Rewritten
+pub mod Points
+pub mod Proofs
+pub mod Parts
+pub mod PlanPoints
+pub mod Stops
+pub mod Causes
+pub mod Ends
