@@ -1,0 +1,3 @@
+-- Lemmas behind the answers.
+mod Naming
+mod Fitting
