@@ -1,3 +1,0 @@
--- Lemmas behind the answers.
-mod Naming
-mod Fitting
