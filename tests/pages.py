@@ -117,14 +117,15 @@ def help_apart():
 
     A line that begins with an option goes on with the command above it.
     """
-    rows = re.findall(r"(?m)^\|\s*(?:`(\w+)`)?\s*\|\s*([A-Z ]*?)\s*\|\s*(`--.*?|)\s*\|[^|]*\|$", (TOP / "docs" / "FORMATS.md").read_text())
+    rows = re.findall(r"(?m)^\|\s*(?:`(\w+)`)?\s*\|\s*([A-Z. ]*?)\s*\|\s*(`--.*?|)\s*\|[^|]*\|$", (TOP / "docs" / "FORMATS.md").read_text())
     wanted = []
     for command, positionals, option in rows:
         if command:
             wanted.append(f"{command} {positionals.strip()}")
-        named = re.match(r"`(--\w+)` (.*?): ", option)
+        named = re.match(r"`(--\w+)` (.*?): (has to stand)?", option)
         if named and wanted:
-            wanted[-1] += f" [{named[1]} {'|'.join(re.findall(r'`([a-z]+)`', named[2])) or named[2]}]"
+            option = f"{named[1]} {'|'.join(re.findall(r'`([a-z]+)`', named[2])) or named[2]}"
+            wanted[-1] += f" {option}" if named[3] else f" [{option}]"
     told = re.sub(r"\n +(?=\[--)", " ", (TOP / "tools" / "help.txt").read_text())
     shown = re.findall(r"(?m)^  ((?:[a-z]+) [A-Z][^\n]*?)(?: {3,}.*)?$", told)
     if not wanted or shown != wanted:

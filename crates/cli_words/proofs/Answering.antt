@@ -3,10 +3,11 @@ use Rattle.std.proofs.Common.{◌≡◌, ◌∙◌, ◌^◌, true≢false, Bool,
 use Rattle.std.specs.Prelude.{Result, IsSomeAnd}
 use Rattle.std.specs.Str.{bytes_eq}
 use Rattle.std.proofs.lemmas.Slice.Eq.{bytes_eq-Decides}
+use Rattle.clap.specs.Words.{Row, first_of}
 use Rattle.quantity.proofs.Laws.{quantity-only}
 use Rattle.command_items.specs.Items.{Text}
-use Rattle.cli_words.specs.Requests.{Asked, Solving, line_of, solve, check, report, formulate, make, trial}
-use Rattle.cli_words.specs.Asks.{Asks, IsForm, IsGap, IsNodes, IsNumber, IsRule, IsSolving, IsSwitch, Says, form_name, rule_name, switch_name}
+use Rattle.cli_words.specs.Requests.{Asked, Solving, line_of, solve, check, report, formulate, make, trial, jobs, work, gather}
+use Rattle.cli_words.specs.Asks.{Asks, IsCount, IsForm, IsGap, IsNodes, IsNumber, IsRule, IsSolving, IsSwitch, Says, form_name, rule_name, switch_name}
 use Rattle.cli_words.specs.Views.{Answers, Means, Reads, Takes, shown_request}
 use Rattle.box_space.specs.declared.coordinates.Form.{Form}
 use Rattle.box_space.specs.declared.coordinates.Form.TheVariants.{P, Q, Pq}
@@ -15,10 +16,10 @@ use Rattle.branching.specs.declared.name.RuleName.TheVariants.{First, Widest, Vi
 use Rattle.cli_words.specs.declared.request.Request.{Request}
 use Rattle.cli_words.specs.declared.request.WordsFault.{WordsFault}
 use Rattle.cli_words.specs.declared.request.WordsFault.TheVariants.{Usage, Memory}
-use Rattle.command_items.specs.Lines.{Line, line_named}
-use Rattle.command_items.specs.Commands.{labelled, value_in}
+use Rattle.command_items.specs.Lines.{line_named}
+use Rattle.command_items.specs.Commands.{labelled, value_in, values_in}
 use Rattle.command_items.proofs.Entering.{same_parts, some_same}
-use Rattle.cli_words.proofs.Meanings.{line_named-command}
+use Rattle.cli_words.proofs.Meanings.{SaysIn, line_named-command}
 
 -- a part that is refused refuses the whole, where the whole needs it
 pub refused : {A B C D : Type 0} (shown : A → B) (Meant : B → Type 0) (whole : C → D) (WholeMeant : D → Type 0) (e : WordsFault) (r : Result C WordsFault)
@@ -30,21 +31,29 @@ refused shown Meant whole WholeMeant e r is part h = subst (Takes whole WholeMea
     go Memory h = absurd h
 
 -- where something is asked and a text is not copied, memory is wanted
-pub wanting : (command : Text) (value : Text → Option Text) (e : WordsFault) (r : Result Request WordsFault) → r ≡ Err e → e ≡ Memory
-    → (asked : Asked) → Means command value asked → Takes shown_request (Means command value) r
-wanting command value e r is memory asked means = subst (Takes shown_request (Means command value)) (sym (is ∙ ap (λ f. Err f) memory)) (asked, means)
+pub wanting : (command : Text) (rows : List Row) (e : WordsFault) (r : Result Request WordsFault) → r ≡ Err e → e ≡ Memory
+    → (asked : Asked) → Means command rows asked → Takes shown_request (Means command rows) r
+wanting command rows e r is memory asked means = subst (Takes shown_request (Means command rows)) (sym (is ∙ ap (λ f. Err f) memory)) (asked, means)
 
 -- texts that a test tells apart
 apart : (a b : Text) → bytes_eq a b ≡ false → a ≡ b → ⊥
 apart a b differ e = true≢false (sym ((bytes_eq-Decides a b).1 e) ∙ differ)
 
-pub solving : (value : Text → Option Text) (asked : Asked) → Means (codes "solve") value asked → (s : Solving) × IsSolving value s
-solving value (solve s) m = (s, m.says)
-solving value asked m = absurd (apart _ _ refl m.is)
+pub solving : (rows : List Row) (asked : Asked) → Means (codes "solve") rows asked → (s : Solving) × IsSolving (λ name. first_of name rows) s
+solving rows (solve s) m = (s, m.says)
+solving rows asked m = absurd (apart _ _ refl m.is)
 
-pub formulating : (value : Text → Option Text) (asked : Asked) → Means (codes "formulate") value asked → (form : Form) × IsForm (value (codes "form")) form
-formulating value (formulate net form) m = (form, m.says.1)
-formulating value asked m = absurd (apart _ _ refl m.is)
+pub formulating : (rows : List Row) (asked : Asked) → Means (codes "formulate") rows asked → (form : Form) × IsForm (first_of (codes "form") rows) form
+formulating rows (formulate net form) m = (form, m.says.1)
+formulating rows asked m = absurd (apart _ _ refl m.is)
+
+pub counting : (rows : List Row) (asked : Asked) → Means (codes "jobs") rows asked → (n : ℕ) × IsCount (first_of (codes "count") rows) n
+counting rows (jobs net journal n) m = (n, m.says.2)
+counting rows asked m = absurd (apart _ _ refl m.is)
+
+pub working : (rows : List Row) (asked : Asked) → Means (codes "work") rows asked → (form : Form) × IsForm (first_of (codes "form") rows) form
+working rows (work net file form) m = (form, m.says.2)
+working rows asked m = absurd (apart _ _ refl m.is)
 
 -- what is meant twice is answered twice
 pub answers_same : {A B : Type 0} (shown : A → B) (M N : B → Type 0) (r : Result A WordsFault) → ((b : B) → M b → N b) → ((b : B) → N b → M b) → Takes shown M r → Answers shown N r
@@ -88,6 +97,10 @@ one_nodes : (o : Option Text) (m n : ℕ) → IsNodes o m → IsNodes o n → m 
 one_nodes None m n h k = h ∙ sym k
 one_nodes (Some text) m n h k = sym h.amount ∙ k.amount
 
+one_count : (o : Option Text) (m n : ℕ) → IsCount o m → IsCount o n → m ≡ n
+one_count None m n h k = h ∙ sym k
+one_count (Some text) m n h k = sym h.0.amount ∙ k.0.amount
+
 one_number : (o : Option Text) (m n : ℕ) → IsSomeAnd o (λ text. IsNumber text m) → IsSomeAnd o (λ text. IsNumber text n) → m ≡ n
 one_number None m n h k = absurd h
 one_number (Some text) m n h k = sym h.amount ∙ k.amount
@@ -109,23 +122,39 @@ one_solving value s t h k =
     let squeeze = one_switch (value (codes "squeeze")) s.squeeze t.squeeze h.squeeze k.squeeze in
     λ i. record { net = net i; form = form i; nodes = nodes i; gap = gap i; journal = journal i; rule = rule i; squeeze = squeeze i }
 
-one_said : (value : Text → Option Text) (a b : Asked) → (line_of a).command ≡ (line_of b).command → Says value a → Says value b → a ≡ b
-one_said value (solve s) (solve t) e h k = ap solve (one_solving value s t h k)
-one_said value (check a b) (check c d) e h k = ap₂ check (some_same _ _ (sym h.0 ∙ k.0)) (some_same _ _ (sym h.1 ∙ k.1))
-one_said value (report a b) (report c d) e h k = ap₂ report (some_same _ _ (sym h.0 ∙ k.0)) (some_same _ _ (sym h.1 ∙ k.1))
-one_said value (formulate n f) (formulate m g) e h k = ap₂ formulate (some_same _ _ (sym h.0 ∙ k.0)) (one_form (value (codes "form")) f g h.1 k.1)
-one_said value (make m) (make n) e h k = ap make (one_number (value (codes "number")) m n h k)
-one_said value (trial m) (trial n) e h k = ap trial (one_number (value (codes "number")) m n h k)
-one_said value a b e h k = absurd (apart _ _ refl e)
+one_said : (value : Text → Option Text) (values : Text → List Text) (a b : Asked) → (line_of a).command ≡ (line_of b).command → Says value values a → Says value values b → a ≡ b
+one_said value values (solve s) (solve t) e h k = ap solve (one_solving value s t h k)
+one_said value values (check a b) (check c d) e h k = ap₂ check (some_same _ _ (sym h.0 ∙ k.0)) (some_same _ _ (sym h.1 ∙ k.1))
+one_said value values (report a b) (report c d) e h k = ap₂ report (some_same _ _ (sym h.0 ∙ k.0)) (some_same _ _ (sym h.1 ∙ k.1))
+one_said value values (formulate n f) (formulate m g) e h k = ap₂ formulate (some_same _ _ (sym h.0 ∙ k.0)) (one_form (value (codes "form")) f g h.1 k.1)
+one_said value values (make m) (make n) e h k = ap make (one_number (value (codes "number")) m n h k)
+one_said value values (trial m) (trial n) e h k = ap trial (one_number (value (codes "number")) m n h k)
+one_said value values (jobs a b m) (jobs c d n) e h k =
+    let net = some_same _ _ (sym h.0 ∙ k.0) in
+    let journal = some_same _ _ (sym h.1 ∙ k.1) in
+    let count = one_count (value (codes "count")) m n h.2 k.2 in
+    λ i. jobs (net i) (journal i) (count i)
+one_said value values (work a b f) (work c d g) e h k =
+    let net = some_same _ _ (sym h.0 ∙ k.0) in
+    let file = some_same _ _ (sym h.1 ∙ k.1) in
+    let form = one_form (value (codes "form")) f g h.2 k.2 in
+    λ i. work (net i) (file i) (form i)
+one_said value values (gather a b xs j) (gather c d ys l) e h k =
+    let net = some_same _ _ (sym h.0 ∙ k.0) in
+    let file = some_same _ _ (sym h.1 ∙ k.1) in
+    let answers = sym h.2 ∙ k.2 in
+    let journal = some_same _ _ (sym h.3 ∙ k.3) in
+    λ i. gather (net i) (file i) (answers i) (journal i)
+one_said value values a b e h k = absurd (apart _ _ refl e)
 
 -- words ask one request at most
 pub one_asked : (words : List Text) (a b : Asked) → Asks words a → Asks words b → a ≡ b
 one_asked words a b h k =
     let s = same_parts words (line_of a) (line_of b) h.items k.items h.commands k.commands in
     let line = some_same _ _ (sym (line_named-command a) ∙ ap line_named s.command ∙ line_named-command b) in
-    let values : value_in (labelled (line_of b).places k.items) ≡ value_in (labelled (line_of a).places h.items) =
-    ap (λ (x : Line). value_in (labelled x.places k.items)) (sym line) ∙ ap (λ gs. value_in (labelled (line_of a).places gs)) (sym s.items) in
-    one_said (value_in (labelled (line_of a).places h.items)) a b s.command h.says (subst (λ v. Says v b) values k.says)
+    let values : labelled (line_of b) k.items ≡ labelled (line_of a) h.items = ap₂ labelled (sym line) (sym s.items) in
+    let given = labelled (line_of a) h.items in
+    one_said (value_in given) (values_in given) a b s.command h.says (subst (SaysIn b) values k.says)
 
 pub only_answer : (words : List Text) (r : Result Request WordsFault) → Answers shown_request (Asks words) r → IfOk r (λ request. (asked : Asked) → Asks words asked → asked ≡ shown_request request)
 only_answer words (Ok request) h = λ asked a. one_asked words asked (shown_request request) a h

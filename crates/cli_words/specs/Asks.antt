@@ -3,8 +3,8 @@ use Rattle.std.specs.Prelude.{◌≡◌, ◌<◌, ◌≤◌, ◌^◌, ℕ, Bool,
 use Rattle.std.specs.Str.Parse.{IsNumeral, digits_value}
 use Rattle.pool_model.specs.Quantity.{StandsFor}
 use Rattle.command_items.specs.Items.{Text, Given}
-use Rattle.command_items.specs.Commands.{Commands, labelled, value_in}
-use Rattle.cli_words.specs.Requests.{Asked, Solving, line_of, solve, check, report, formulate, make, trial}
+use Rattle.command_items.specs.Commands.{Commands, labelled, value_in, values_in}
+use Rattle.cli_words.specs.Requests.{Asked, Solving, line_of, solve, check, report, formulate, make, trial, jobs, work, gather}
 use Rattle.box_space.specs.declared.coordinates.Form.{Form}
 use Rattle.box_space.specs.declared.coordinates.Form.TheVariants.{P, Q, Pq}
 use Rattle.branching.specs.declared.name.RuleName.{RuleName}
@@ -54,6 +54,11 @@ abbrev pub IsNodes : Option Text → ℕ → Type 0
 IsNodes None n = n ≡ 1000
 IsNodes (Some text) n = IsNumber text n
 
+-- the number of jobs that is written, from 1 to 1,000; 16 where none is
+abbrev pub IsCount : Option Text → ℕ → Type 0
+IsCount None n = n ≡ 16
+IsCount (Some text) n = IsNumber text n × (1 ≤ n) × (n ≤ 1000)
+
 -- a quantity of money from 0 to 10^12 millionths, as this many picos
 pub record IsMoney (text : Text) (picos : ℤ) : Type 0 where
   pub quantity : ℤ
@@ -79,17 +84,21 @@ pub record IsSolving (value : Text → Option Text) (s : Solving) : Type 0 where
   pub rule : IsRule (value (codes "rule")) s.rule
   pub squeeze : IsSwitch (value (codes "squeeze")) s.squeeze
 
--- the values say this, where the value under each name is given
-abbrev pub Says : (Text → Option Text) → Asked → Type 0
-Says value (solve s) = IsSolving value s
-Says value (check net cert) = (value (codes "net") ≡ Some net) × (value (codes "cert") ≡ Some cert)
-Says value (report net cert) = (value (codes "net") ≡ Some net) × (value (codes "cert") ≡ Some cert)
-Says value (formulate net form) = (value (codes "net") ≡ Some net) × IsForm (value (codes "form")) form
-Says value (make n) = IsSomeAnd (value (codes "number")) (λ text. IsNumber text n)
-Says value (trial n) = IsSomeAnd (value (codes "number")) (λ text. IsNumber text n)
+-- the values say this, where the value under each name is given, and all values under it
+abbrev pub Says : (Text → Option Text) → (Text → List Text) → Asked → Type 0
+Says value values (solve s) = IsSolving value s
+Says value values (check net cert) = (value (codes "net") ≡ Some net) × (value (codes "cert") ≡ Some cert)
+Says value values (report net cert) = (value (codes "net") ≡ Some net) × (value (codes "cert") ≡ Some cert)
+Says value values (formulate net form) = (value (codes "net") ≡ Some net) × IsForm (value (codes "form")) form
+Says value values (make n) = IsSomeAnd (value (codes "number")) (λ text. IsNumber text n)
+Says value values (trial n) = IsSomeAnd (value (codes "number")) (λ text. IsNumber text n)
+Says value values (jobs net journal n) = (value (codes "net") ≡ Some net) × (value (codes "journal") ≡ Some journal) × IsCount (value (codes "count")) n
+Says value values (work net file form) = (value (codes "net") ≡ Some net) × (value (codes "jobs") ≡ Some file) × IsForm (value (codes "form")) form
+Says value values (gather net file answers journal) =
+    (value (codes "net") ≡ Some net) × (value (codes "jobs") ≡ Some file) × (values (codes "answers") ≡ answers) × (value (codes "journal") ≡ Some journal)
 
 -- the words ask this: they are its command and items that fit, and it is what the items say
 pub record Asks (words : List Text) (asked : Asked) : Type 0 where
   pub items : List Given
   pub commands : Commands words (line_of asked) items
-  pub says : Says (value_in (labelled (line_of asked).places items)) asked
+  pub says : Says (value_in (labelled (line_of asked) items)) (values_in (labelled (line_of asked) items)) asked

@@ -1,7 +1,7 @@
 -- What words can ask.
-use Rattle.std.specs.Prelude.{ℕ, Bool, ℤ, Option}
+use Rattle.std.specs.Prelude.{ℕ, Bool, ℤ, List, Option}
 use Rattle.command_items.specs.Items.{Text}
-use Rattle.command_items.specs.Lines.{Line, solve_line, check_line, report_line, formulate_line, make_line, trial_line}
+use Rattle.command_items.specs.Lines.{Line, solve_line, check_line, report_line, formulate_line, make_line, trial_line, jobs_line, work_line, gather_line}
 use Rattle.box_space.specs.declared.coordinates.Form.{Form}
 use Rattle.branching.specs.declared.name.RuleName.{RuleName}
 
@@ -23,6 +23,9 @@ pub data Asked : Type 0 where
   formulate : (net : Text) (form : Form) → Asked
   make : (number : ℕ) → Asked
   trial : (number : ℕ) → Asked
+  jobs : (net journal : Text) (count : ℕ) → Asked
+  work : (net jobs : Text) (form : Form) → Asked
+  gather : (net jobs : Text) (answers : List Text) (journal : Text) → Asked
 
 -- the line of its command
 abbrev pub line_of : Asked → Line
@@ -32,3 +35,6 @@ line_of (report net cert) = report_line
 line_of (formulate net form) = formulate_line
 line_of (make n) = make_line
 line_of (trial n) = trial_line
+line_of (jobs net journal count) = jobs_line
+line_of (work net file form) = work_line
+line_of (gather net file answers journal) = gather_line

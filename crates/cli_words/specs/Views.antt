@@ -1,11 +1,13 @@
 -- The values of the program, without where they lie in memory.
-use Rattle.std.specs.Prelude.{◌≡◌, Option, Ok, Err, Result, option_map, string_bytes}
+use Rattle.std.specs.Prelude.{◌≡◌, List, Ok, Err, Result, map, option_map, string_bytes}
+use Rattle.clap.specs.Words.{Row, first_of}
 use Rattle.command_items.specs.Items.{Text}
-use Rattle.cli_words.specs.Requests.{Asked, Solving, line_of, solve, check, report, formulate, make, trial}
+use Rattle.command_items.specs.Views.{values_under}
+use Rattle.cli_words.specs.Requests.{Asked, Solving, line_of, solve, check, report, formulate, make, trial, jobs, work, gather}
 use Rattle.cli_words.specs.Asks.{Says}
 use Rattle.cli_words.specs.declared.request.SolveWords.{SolveWords}
 use Rattle.cli_words.specs.declared.request.Request.{Request}
-use Rattle.cli_words.specs.declared.request.Request.TheVariants.{Solve, Check, Report, Formulate, Make, Trial}
+use Rattle.cli_words.specs.declared.request.Request.TheVariants.{Solve, Check, Report, Formulate, Make, Trial, Jobs, Work, Gather}
 use Rattle.cli_words.specs.declared.request.WordsFault.{WordsFault}
 use Rattle.cli_words.specs.declared.request.WordsFault.TheVariants.{Usage, Memory}
 
@@ -21,13 +23,16 @@ shown_request (Report net cert) = report (string_bytes net) (string_bytes cert)
 shown_request (Formulate net form) = formulate (string_bytes net) form
 shown_request (Make n) = make n
 shown_request (Trial n) = trial n
+shown_request (Jobs net journal count) = jobs (string_bytes net) (string_bytes journal) count
+shown_request (Work net file form) = work (string_bytes net) (string_bytes file) form
+shown_request (Gather net file answers journal) = gather (string_bytes net) (string_bytes file) (map string_bytes answers.items) (string_bytes journal)
 
 -- ---- words of the inner contracts
 
--- the command with these values asks this
-pub record Means (command : Text) (value : Text → Option Text) (asked : Asked) : Type 0 where
+-- the command with the values of these rows asks this
+pub record Means (command : Text) (rows : List Row) (asked : Asked) : Type 0 where
   pub is : command ≡ (line_of asked).command
-  pub says : Says value asked
+  pub says : Says (λ name. first_of name rows) (values_under rows) asked
 
 -- the answer is a value that is meant, or usage where none is; where it is that memory is wanted, this holds
 abbrev pub AnswersOr : Type 0 → {A B : Type 0} → (A → B) → (B → Type 0) → Result A WordsFault → Type 0

@@ -1,16 +1,18 @@
 //! From words to a request.
 
-ghost use Rattle.std.specs.Prelude.{◌≡◌, IfOk, true, map, string_bytes, option_map, codes, Some, Err, IfErr};
-ghost use Rattle.clap.specs.Words.{first_of, found_of, rows_of};
+ghost use Rattle.std.specs.Prelude.{◌≡◌, [], IfOk, true, map, string_bytes, option_map, unwrap_or, codes, Some, Err, IfErr};
+ghost use Rattle.clap.specs.Words.{found_of, rows_of};
 ghost use Rattle.command_items.specs.Views.{has_form};
 ghost use Rattle.cli_words.specs.Requests.{Asked};
 ghost use Rattle.cli_words.specs.Asks.{Asks};
 ghost use Rattle.cli_words.specs.Views.{Answers, Means, Reads, Takes, shown_request};
 
-use crate::values::{read_form, read_gap, read_nodes, read_number, read_rule, read_switch};
+use crate::values::{
+    read_count, read_form, read_gap, read_nodes, read_number, read_rule, read_switch,
+};
 use crate::{Request, SolveWords, WordsFault};
 use clap::ArgMatches;
-use command_items::{entered, has_form, matches_of, text_of};
+use command_items::{entered, has_form, matches_of, text_of, texts_of};
 use std::alloc::Global;
 
 /// The request that the words ask. `words` leaves out the program's name.
@@ -50,7 +52,7 @@ fn read_command(
     matches: &ArgMatches<'_>,
 ) -> Result<Request, WordsFault>
     // Promise: Of words that `clap` has read want of memory is told only where they ask something: a value that means nothing is usage (2)
-    ensures { Takes shown_request (Means command.now (λ id. first_of id (rows_of (found_of matches.now)))) result }
+    ensures { Takes shown_request (Means command.now (rows_of (found_of matches.now))) result }
 {
     match command {
         "solve" => read_solve(alloc, matches),
@@ -59,12 +61,15 @@ fn read_command(
         "formulate" => read_formulate(alloc, matches),
         "make" => read_make(matches),
         "trial" => read_trial(matches),
+        "jobs" => read_jobs(alloc, matches),
+        "work" => read_work(alloc, matches),
+        "gather" => read_gather(alloc, matches),
         _ => Err(WordsFault::Usage),
     }
 }
 
 fn read_solve(alloc: Global, matches: &ArgMatches<'_>) -> Result<Request, WordsFault>
-    ensures { Takes shown_request (Means (codes "solve") (λ id. first_of id (rows_of (found_of matches.now)))) result }
+    ensures { Takes shown_request (Means (codes "solve") (rows_of (found_of matches.now))) result }
 {
     let form = read_form(text_of(matches, "form"))?;
     let nodes = read_nodes(text_of(matches, "nodes"))?;
@@ -87,7 +92,7 @@ fn read_solve(alloc: Global, matches: &ArgMatches<'_>) -> Result<Request, WordsF
 }
 
 fn read_check(alloc: Global, matches: &ArgMatches<'_>) -> Result<Request, WordsFault>
-    ensures { Takes shown_request (Means (codes "check") (λ id. first_of id (rows_of (found_of matches.now)))) result }
+    ensures { Takes shown_request (Means (codes "check") (rows_of (found_of matches.now))) result }
 {
     let Some(net) = text_of(matches, "net") else {
         return Err(WordsFault::Usage);
@@ -99,7 +104,7 @@ fn read_check(alloc: Global, matches: &ArgMatches<'_>) -> Result<Request, WordsF
 }
 
 fn read_report(alloc: Global, matches: &ArgMatches<'_>) -> Result<Request, WordsFault>
-    ensures { Takes shown_request (Means (codes "report") (λ id. first_of id (rows_of (found_of matches.now)))) result }
+    ensures { Takes shown_request (Means (codes "report") (rows_of (found_of matches.now))) result }
 {
     let Some(net) = text_of(matches, "net") else {
         return Err(WordsFault::Usage);
@@ -111,7 +116,7 @@ fn read_report(alloc: Global, matches: &ArgMatches<'_>) -> Result<Request, Words
 }
 
 fn read_formulate(alloc: Global, matches: &ArgMatches<'_>) -> Result<Request, WordsFault>
-    ensures { Takes shown_request (Means (codes "formulate") (λ id. first_of id (rows_of (found_of matches.now)))) result }
+    ensures { Takes shown_request (Means (codes "formulate") (rows_of (found_of matches.now))) result }
 {
     let form = read_form(text_of(matches, "form"))?;
     let Some(net) = text_of(matches, "net") else {
@@ -121,17 +126,61 @@ fn read_formulate(alloc: Global, matches: &ArgMatches<'_>) -> Result<Request, Wo
 }
 
 fn read_make(matches: &ArgMatches<'_>) -> Result<Request, WordsFault>
-    ensures { Reads shown_request (Means (codes "make") (λ id. first_of id (rows_of (found_of matches.now)))) result }
+    ensures { Reads shown_request (Means (codes "make") (rows_of (found_of matches.now))) result }
 {
     let number = read_number(text_of(matches, "number"))?;
     Ok(Request::Make(number))
 }
 
 fn read_trial(matches: &ArgMatches<'_>) -> Result<Request, WordsFault>
-    ensures { Reads shown_request (Means (codes "trial") (λ id. first_of id (rows_of (found_of matches.now)))) result }
+    ensures { Reads shown_request (Means (codes "trial") (rows_of (found_of matches.now))) result }
 {
     let number = read_number(text_of(matches, "number"))?;
     Ok(Request::Trial(number))
+}
+
+fn read_jobs(alloc: Global, matches: &ArgMatches<'_>) -> Result<Request, WordsFault>
+    ensures { Takes shown_request (Means (codes "jobs") (rows_of (found_of matches.now))) result }
+{
+    let count = read_count(text_of(matches, "count"))?;
+    let Some(net) = text_of(matches, "net") else {
+        return Err(WordsFault::Usage);
+    };
+    let Some(file) = text_of(matches, "journal") else {
+        return Err(WordsFault::Usage);
+    };
+    Ok(Request::Jobs(copied(alloc, net)?, copied(alloc, file)?, count))
+}
+
+fn read_work(alloc: Global, matches: &ArgMatches<'_>) -> Result<Request, WordsFault>
+    ensures { Takes shown_request (Means (codes "work") (rows_of (found_of matches.now))) result }
+{
+    let form = read_form(text_of(matches, "form"))?;
+    let Some(net) = text_of(matches, "net") else {
+        return Err(WordsFault::Usage);
+    };
+    let Some(jobs) = text_of(matches, "jobs") else {
+        return Err(WordsFault::Usage);
+    };
+    Ok(Request::Work(copied(alloc, net)?, copied(alloc, jobs)?, form))
+}
+
+fn read_gather(alloc: Global, matches: &ArgMatches<'_>) -> Result<Request, WordsFault>
+    ensures { Takes shown_request (Means (codes "gather") (rows_of (found_of matches.now))) result }
+{
+    let Some(net) = text_of(matches, "net") else {
+        return Err(WordsFault::Usage);
+    };
+    let Some(jobs) = text_of(matches, "jobs") else {
+        return Err(WordsFault::Usage);
+    };
+    let Some(journal) = text_of(matches, "journal") else {
+        return Err(WordsFault::Usage);
+    };
+    let net = copied(alloc, net)?;
+    let jobs = copied(alloc, jobs)?;
+    let answers = copied_texts(alloc, texts_of(matches, "answers"))?;
+    Ok(Request::Gather(net, jobs, answers, copied(alloc, journal)?))
 }
 
 /// The value, if there is one, as a text of its own.
@@ -151,4 +200,28 @@ fn copied(alloc: Global, text: &str) -> Result<String, WordsFault>
     ensures err { IfErr result (λ e. e ≡ WordsFault.Memory) }
 {
     String::from_str(alloc, text).map_err(|_| WordsFault::Memory)
+}
+
+/// The texts, if there are any, each as one of its own.
+fn copied_texts(alloc: Global, texts: Option<&[&str]>) -> Result<Vec<String>, WordsFault>
+    ensures ok { IfOk result (λ v. map string_bytes v.items ≡ unwrap_or (option_map (λ s. map (λ t. t.now) s.now) texts.entry) []) }
+    ensures err { IfErr result (λ e. e ≡ WordsFault.Memory) }
+{
+    match texts {
+        None => Ok(Vec::new(alloc)),
+        Some(texts) => copied_each(alloc, texts),
+    }
+}
+
+/// The texts, each as one of its own.
+fn copied_each(alloc: Global, texts: &[&str]) -> Result<Vec<String>, WordsFault>
+    ensures ok { IfOk result (λ v. map string_bytes v.items ≡ map (λ t. t.now) texts.now) }
+    ensures err { IfErr result (λ e. e ≡ WordsFault.Memory) }
+{
+    let mut all = Vec::new(alloc);
+    for text in texts {
+        let own = copied(alloc, *text)?;
+        all.push(own).map_err(|_| WordsFault::Memory)?;
+    }
+    Ok(all)
 }

@@ -34,6 +34,12 @@ pub enum Request {
     Make(u64),
     /// To try the network of this number.
     Trial(u64),
+    /// To write jobs of the tree in a journal: the names of the network's file and of the journal's, and how many jobs at the most.
+    Jobs(String, String, u32),
+    /// To work jobs: the names of the network's file and of that of the jobs, and the form of the program.
+    Work(String, String, Form),
+    /// To gather answers to jobs: the names of the network's file, of that of the jobs, of those of the answers and of the journal's.
+    Gather(String, String, Vec<String>, String),
 }
 
 /// Why there is no request.

@@ -1,7 +1,7 @@
 //! What the values of words say.
 
-ghost use Rattle.std.specs.Prelude.{option_map, IsSomeAnd};
-ghost use Rattle.cli_words.specs.Asks.{IsForm, IsGap, IsMoney, IsNodes, IsNumber, IsRule, IsSwitch};
+ghost use Rattle.std.specs.Prelude.{option_map, IsSomeAnd, Some};
+ghost use Rattle.cli_words.specs.Asks.{IsCount, IsForm, IsGap, IsMoney, IsNodes, IsNumber, IsRule, IsSwitch};
 ghost use Rattle.cli_words.specs.Views.{Reads};
 
 use crate::WordsFault;
@@ -68,6 +68,27 @@ pub(crate) fn read_gap(text: Option<&str>) -> Result<i128, WordsFault>
     }
 }
 
+/// The number of jobs that is written, from 1 to 1000; 16 where none is.
+pub(crate) fn read_count(text: Option<&str>) -> Result<u32, WordsFault>
+    ensures { Reads (λ n. n) (IsCount (option_map (λ s. s.now) text.entry)) result }
+{
+    match text {
+        Some(text) => count_of(text),
+        None => Ok(DEFAULT_COUNT),
+    }
+}
+
+/// A number from 1 to 1000.
+fn count_of(text: &str) -> Result<u32, WordsFault>
+    ensures { Reads (λ n. n) (IsCount (Some text.now)) result }
+{
+    let count = digits_of(text)?;
+    if count < 1 || count > MOST_COUNT {
+        return Err(WordsFault::Usage);
+    }
+    Ok(count as u32)
+}
+
 /// The number that is written; usage where none is.
 pub(crate) fn read_number(text: Option<&str>) -> Result<u64, WordsFault>
     ensures { Reads (λ n. n) (λ n. IsSomeAnd (option_map (λ s. s.now) text.entry) (λ t. IsNumber t n)) result }
@@ -106,6 +127,12 @@ fn read_money(text: &str) -> Result<i128, WordsFault>
 
 /// How many splits `solve` may make unless it is told.
 const DEFAULT_NODES: u64 = 1000;
+
+/// How many jobs `jobs` writes at the most unless it is told.
+const DEFAULT_COUNT: u32 = 16;
+
+/// The most jobs that `jobs` may be told to write.
+const MOST_COUNT: u64 = 1000;
 
 /// The gap that closes `solve` unless it is told, in picos: 0.01 of money.
 const DEFAULT_GAP: i128 = 10_000_000_000;

@@ -6,10 +6,10 @@ use Rattle.clap.specs.declared.ArgMatches.{ArgMatches}
 use Rattle.clap.specs.Words.{Row, first_of, found_of, rows_of, subcommand_of, subcommand_rows_of}
 use Rattle.command_items.specs.Items.{Text, Given, items_of}
 use Rattle.command_items.specs.Lines.{Line, program_app}
-use Rattle.command_items.specs.Commands.{Commands, labelled, value_in}
-use Rattle.command_items.specs.Views.{has_form}
+use Rattle.command_items.specs.Commands.{Commands, labelled, value_in, values_in}
+use Rattle.command_items.specs.Views.{has_form, values_under}
 use Rattle.command_items.proofs.Walks.{rows_for}
-use Rattle.command_items.proofs.ItemLemmas.{first_of-rows_for}
+use Rattle.command_items.proofs.ItemLemmas.{first_of-rows_for, under-rows_for}
 use Rattle.command_items.proofs.Readings.{read_items}
 use Rattle.command_items.proofs.Tables.{Formed, formed, rows_words}
 
@@ -39,7 +39,7 @@ same_parts words l k items others a b =
 pub record Met (words : List Text) (command : Text) (rows : List Row) : Type 0 where
   pub formed : Formed words
   pub is : command ≡ formed.line.command
-  pub are : rows ≡ rows_for (labelled formed.line.places formed.items)
+  pub are : rows ≡ rows_for (labelled formed.line formed.items)
 
 met : (words : List Text) (command : Text) (rows : List Row) → has_form words ≡ true → Some (command, rows) ≡ subcommand_of program_app words → Met words command rows
 met words command rows form e =
@@ -53,8 +53,11 @@ values_of rows name = first_of name rows
 
 module _ (words : List Text) (command : Text) (rows : List Row) (m : Met words command rows) where
   -- the values of the rows are those of the items
-  pub same_values : values_of rows ≡ value_in (labelled m.formed.line.places m.formed.items)
-  same_values = λ i. λ name. (ap (first_of name) m.are ∙ first_of-rows_for (labelled m.formed.line.places m.formed.items) name) i
+  pub same_values : values_of rows ≡ value_in (labelled m.formed.line m.formed.items)
+  same_values = λ i. λ name. (ap (first_of name) m.are ∙ first_of-rows_for (labelled m.formed.line m.formed.items) name) i
+
+  pub all_same_values : values_under rows ≡ values_in (labelled m.formed.line m.formed.items)
+  all_same_values = λ i. λ name. (ap (λ r. values_under r name) m.are ∙ under-rows_for (labelled m.formed.line m.formed.items) name) i
 
 -- the command that was met, as its text and rows
 abbrev pub shown : Bor Text × Bor ArgMatches → Text × List Row

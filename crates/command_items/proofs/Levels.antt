@@ -35,11 +35,11 @@ no_defaults (a ∷ c) rows e =
     ap (λ r. fold with_default r c) (one_default rows a p.0) ∙ no_defaults c rows p.1
 
 -- a subcommand takes the words, and has a row for each item
-pub leaf_passes : (name : Text) (c : List Rule) (words : List Text) (given : List (Text × Text)) → IsBare c → Ends name c (standing nothing_held 1) words given
+pub leaf_passes : (name : Text) (c : List Rule) (words : List Text) (given : List (Text × Text)) → IsBare c → Ends name c (standing false nothing_held 1) words given
     → level_passes (leaf name c) [] nothing_held words false ≡ true
 leaf_passes name c words given bare e = rw (e.passes, e.end, e.holds.passes, bare.passes) (bare.valid _)
 
-pub leaf_rows : (name : Text) (c : List Rule) (words : List Text) (given : List (Text × Text)) → IsBare c → Ends name c (standing nothing_held 1) words given
+pub leaf_rows : (name : Text) (c : List Rule) (words : List Text) (given : List (Text × Text)) → IsBare c → Ends name c (standing false nothing_held 1) words given
     → Rattle.clap.specs.Walk.rows_after c [] words ≡ rows_for given
 leaf_rows name c words given bare e = rw e.end (no_defaults c _ bare.defaults ∙ e.holds.rows)
 
@@ -58,7 +58,7 @@ root name subs = record {
 }
 
 abbrev stopped_at : Text → List Text → Walk
-stopped_at name words = record (standing nothing_held 1) { stopped = Some (name, words) }
+stopped_at name words = record (standing false nothing_held 1) { stopped = Some (name, words) }
 
 stopped_walk : (names : Names) (name : Text) (words rest : List Text) → fold (walked [] names) (stopped_at name words) rest ≡ stopped_at name (words ++ rest)
 unfolding walked
@@ -74,18 +74,18 @@ module _ (name command : Text) (subs : List Shape) (c : List Rule) (named : find
   label_found : find (answers_to command) (map label_of subs) ≡ Some (command, [])
   label_found = sym (find-map (answers_to command) label_of subs) ∙ ap (option_map label_of) named
 
-  enters : walked [] (map label_of subs) (standing nothing_held 1) command ≡ stopped_at command []
+  enters : walked [] (map label_of subs) (standing false nothing_held 1) command ≡ stopped_at command []
   unfolding walked
   enters = rw label_found refl
 
-  root_walk : (rest : List Text) → fold (walked [] (map label_of subs)) (standing nothing_held 1) (command ∷ rest) ≡ stopped_at command rest
+  root_walk : (rest : List Text) → fold (walked [] (map label_of subs)) (standing false nothing_held 1) (command ∷ rest) ≡ stopped_at command rest
   root_walk rest = ap (λ w. fold (walked [] (map label_of subs)) w rest) enters ∙ stopped_walk (map label_of subs) command [] rest
 
-  root_passes : (rest : List Text) → walk_passes (root name subs).top (map label_of subs) (standing nothing_held 1) (command ∷ rest) ≡ true
+  root_passes : (rest : List Text) → walk_passes (root name subs).top (map label_of subs) (standing false nothing_held 1) (command ∷ rest) ≡ true
   unfolding walk_passes
   root_passes rest = rw (label_found, or_true (not (bytes_eq command (codes "help"))), enters) (stopped_passes (root name subs).top (map label_of subs) command [] rest refl)
 
-  module _ (app : App) (bare : IsBare c) (rest : List Text) (given : List (Text × Text)) (e : Ends command c (standing nothing_held 1) rest given)
+  module _ (app : App) (bare : IsBare c) (rest : List Text) (given : List (Text × Text)) (e : Ends command c (standing false nothing_held 1) rest given)
       (simple : is_simple app ≡ true) (is : built app ≡ root name subs) (bin : app.top.no_binary_name ≡ true) where
     pub takes_form : takes app (command ∷ rest) ≡ true
     takes_form = rw (simple, is, bin, root_walk rest, named, leaf_passes command c rest given bare e, root_passes rest) refl

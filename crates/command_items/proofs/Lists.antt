@@ -1,6 +1,6 @@
 -- Tests of a list of items, at what they show.
-use Rattle.std.proofs.Common.{◌≡◌, ◌∙◌, ◌&&◌, ◌||◌, ◌+◌, ◌==◌, false, ap, ap₂, refl, sym, map, List, [], ◌∷◌, ℕ, Bool, true, not, cond, Option, Some, None, length, arith}
-use Rattle.std.specs.Prelude.{option_map, count_by, is_some}
+use Rattle.std.proofs.Common.{◌≡◌, ◌∙◌, ◌&&◌, ◌||◌, ◌+◌, false, ap, ap₂, refl, sym, map, List, [], ◌∷◌, ℕ, Bool, true, not, cond, Option, Some, None, length, arith}
+use Rattle.std.specs.Prelude.{option_map, count_by, is_some, nat_le}
 use Rattle.std.specs.List.{list_any, list_all}
 use Rattle.std.specs.Option.{option_map_or}
 use Rattle.std.specs.Borrow.{Bor}
@@ -31,10 +31,11 @@ only_shown os (x ∷ xs) = ap₂ (λ a b. a && b) (go x.name) (only_shown os xs)
     go None = refl
     go (Some n) = any_map (λ o. bytes_eq o n.now) (λ o. o.now) os
 
-pub fits_shown : (n : ℕ) (os : List (Bor Text)) (xs : List Item)
-    → ((count_by (λ x. not (is_some x.name)) xs == n) && (list_all (λ x. option_map_or (λ n. list_any (λ o. bytes_eq o.now n.now) os) x.name true) xs && once (shown_items xs)))
-    ≡ fits n (map (λ o. o.now) os) (shown_items xs)
-fits_shown n os xs = ap₂ (λ a b. (a == n) && (b && once (shown_items xs))) (count_positionals xs) (only_shown os xs)
+pub fits_shown : (least most : ℕ) (os : List (Bor Text)) (xs : List Item)
+    → ((nat_le least (count_by (λ x. not (is_some x.name)) xs) && nat_le (count_by (λ x. not (is_some x.name)) xs) most)
+    && (list_all (λ x. option_map_or (λ n. list_any (λ o. bytes_eq o.now n.now) os) x.name true) xs && once (shown_items xs)))
+    ≡ fits least most (map (λ o. o.now) os) (shown_items xs)
+fits_shown least most os xs = ap₂ (λ a b. (nat_le least a && nat_le a most) && (b && once (shown_items xs))) (count_positionals xs) (only_shown os xs)
 
 -- the first item's option stands again among the rest, or not
 pub once_by : (ys : List Item) (x : Item) (xs : List Item) (b : Bool) → ys ≡ x ∷ xs → b ≡ option_map_or (λ n. list_any (λ y. is_named n.now (shown_item y)) xs) x.name false

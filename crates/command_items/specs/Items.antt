@@ -1,5 +1,5 @@
 -- The items of a list of words: its positionals and its options, in order.
-use Rattle.std.specs.Prelude.{◌==◌, ℕ, Bool, true, false, not, ◌≡◌, List, [], ◌∷◌, ◌++◌, Option, Some, None, if◌then◌else◌, option_map, ◌&&◌, length}
+use Rattle.std.specs.Prelude.{◌==◌, ℕ, Bool, true, false, not, ◌≡◌, List, [], ◌∷◌, ◌++◌, Option, Some, None, if◌then◌else◌, option_map, ◌&&◌, length, nat_le}
 use Rattle.std.specs.List.{list_all, list_any}
 use Rattle.std.specs.Option.{option_map_or}
 use Rattle.std.specs.Str.{bytes_eq}
@@ -62,9 +62,10 @@ abbrev pub once : List Given → Bool
 once [] = true
 once (g ∷ gs) = not (option_map_or (λ name. list_any (is_named name) gs) g.name false) && once gs
 
--- so many positionals, and of these options each at most once
-abbrev pub fits : ℕ → List Text → List Given → Bool
-fits count options items = (length (positionals items) == count) && (has_only options items && once items)
+-- from the least to the most of so many positionals, and of these options each at most once
+abbrev pub fits : ℕ → ℕ → List Text → List Given → Bool
+fits least most options items =
+    (nat_le least (length (positionals items)) && nat_le (length (positionals items)) most) && (has_only options items && once items)
 
 -- ---- the items, computed word by word
 

@@ -1,39 +1,59 @@
 -- The commands: each with its positionals and its options, and what `clap` is told of them.
-use Rattle.std.specs.Prelude.{true, codes, List, [], ◌∷◌, ◌++◌, Option, Some, map, find, fold}
+use Rattle.std.specs.Prelude.{ℕ, true, codes, List, [], ◌∷◌, ◌++◌, ◌+◌, Option, Some, None, map, find, fold, length}
+use Rattle.std.specs.Option.{option_map_or}
 use Rattle.std.specs.Str.{bytes_eq}
 use Rattle.clap.specs.Words.{App, Rule, new_app, new_rule, with_rule, with_subcommand}
+use Rattle.clap.specs.declared.builder.action.ArgAction.TheVariants.{Append}
 use Rattle.command_items.specs.Items.{Text}
 
--- a command, the names of its positionals in order, and those of its options
+-- a command, the names of its positionals in order, the name of those behind them that are 1 to 64, and the names of its options
 pub record Line : Type 0 where
   pub command : Text
   pub places : List Text
+  pub many : Option Text
   pub options : List Text
+
+-- the fewest positionals of the command, and the most
+abbrev pub least_places : Line → ℕ
+least_places l = length l.places + option_map_or (λ name. 1) l.many 0
+
+abbrev pub most_places : Line → ℕ
+most_places l = length l.places + option_map_or (λ name. 64) l.many 0
 
 abbrev pub solve_line : Line
 solve_line = record {
   command = codes "solve";
   places = codes "net" ∷ [];
+  many = None;
   options = codes "form" ∷ codes "nodes" ∷ codes "gap" ∷ codes "journal" ∷ codes "rule" ∷ codes "squeeze" ∷ [];
 }
 
 abbrev pub check_line : Line
-check_line = record { command = codes "check"; places = codes "net" ∷ codes "cert" ∷ []; options = [] }
+check_line = record { command = codes "check"; places = codes "net" ∷ codes "cert" ∷ []; many = None; options = [] }
 
 abbrev pub report_line : Line
-report_line = record { command = codes "report"; places = codes "net" ∷ codes "cert" ∷ []; options = [] }
+report_line = record { command = codes "report"; places = codes "net" ∷ codes "cert" ∷ []; many = None; options = [] }
 
 abbrev pub formulate_line : Line
-formulate_line = record { command = codes "formulate"; places = codes "net" ∷ []; options = codes "form" ∷ [] }
+formulate_line = record { command = codes "formulate"; places = codes "net" ∷ []; many = None; options = codes "form" ∷ [] }
 
 abbrev pub make_line : Line
-make_line = record { command = codes "make"; places = codes "number" ∷ []; options = [] }
+make_line = record { command = codes "make"; places = codes "number" ∷ []; many = None; options = [] }
 
 abbrev pub trial_line : Line
-trial_line = record { command = codes "trial"; places = codes "number" ∷ []; options = [] }
+trial_line = record { command = codes "trial"; places = codes "number" ∷ []; many = None; options = [] }
+
+abbrev pub jobs_line : Line
+jobs_line = record { command = codes "jobs"; places = codes "net" ∷ []; many = None; options = codes "journal" ∷ codes "count" ∷ [] }
+
+abbrev pub work_line : Line
+work_line = record { command = codes "work"; places = codes "net" ∷ codes "jobs" ∷ []; many = None; options = codes "form" ∷ [] }
+
+abbrev pub gather_line : Line
+gather_line = record { command = codes "gather"; places = codes "net" ∷ codes "jobs" ∷ []; many = Some (codes "answers"); options = codes "journal" ∷ [] }
 
 abbrev pub lines : List Line
-lines = solve_line ∷ check_line ∷ report_line ∷ formulate_line ∷ make_line ∷ trial_line ∷ []
+lines = solve_line ∷ check_line ∷ report_line ∷ formulate_line ∷ make_line ∷ trial_line ∷ jobs_line ∷ work_line ∷ gather_line ∷ []
 
 -- the line of the command
 abbrev pub line_named : Text → Option Line
@@ -44,9 +64,17 @@ line_named command = find (λ l. bytes_eq command l.command) lines
 abbrev pub long_rule : Text → Rule
 long_rule name = record (new_rule name) { long = Some name }
 
+-- a positional that may stand several times
+abbrev pub many_rule : Text → Rule
+many_rule name = record (new_rule name) { action = Some Append }
+
+abbrev pub many_rules : Option Text → List Rule
+many_rules None = []
+many_rules (Some name) = many_rule name ∷ []
+
 -- a subcommand with its arguments
 abbrev pub line_app : Line → App
-line_app l = fold with_rule (new_app l.command) (map new_rule l.places ++ map long_rule l.options)
+line_app l = fold with_rule (new_app l.command) (map new_rule l.places ++ (many_rules l.many ++ map long_rule l.options))
 
 -- the program with no command: words without its name, and no help
 abbrev pub bare_app : App

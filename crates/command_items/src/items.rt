@@ -1,6 +1,6 @@
 //! The items of a list of words, and whether a command takes them.
 
-ghost use Rattle.std.specs.Prelude.{◌≡◌, true, false, IfOk, List, Option, count_by, is_some, not, option_map, map, string_bytes};
+ghost use Rattle.std.specs.Prelude.{◌≡◌, ◌&&◌, true, false, IfOk, List, Option, count_by, is_some, nat_le, not, option_map, map, string_bytes};
 ghost use Rattle.std.specs.List.{list_all, list_any};
 ghost use Rattle.std.specs.Option.{option_map_or};
 ghost use Rattle.std.specs.Str.{bytes_eq};
@@ -129,36 +129,42 @@ fn is_value(word: &str) -> bool
 fn fits_command(command: &str, items: &[Item<'_>]) -> bool
     ensures { result ≡ fits_command command.now (shown_items items.now) }
 {
-    if command == "solve" {
-        return fits(
-            items,
-            1,
-            &["form", "nodes", "gap", "journal", "rule", "squeeze"],
-        );
+    match command {
+        "solve" => {
+            let options = ["form", "nodes", "gap", "journal", "rule", "squeeze"];
+            fits(items, 1, 1, &options)
+        }
+        "check" | "report" => fits(items, 2, 2, &[]),
+        "formulate" => fits(items, 1, 1, &["form"]),
+        "make" | "trial" => fits(items, 1, 1, &[]),
+        "jobs" => fits(items, 1, 1, &["journal", "count"]),
+        "work" => fits(items, 2, 2, &["form"]),
+        "gather" => fits(items, 3, 2 + MOST_ANSWERS, &["journal"]),
+        _ => false,
     }
-    if command == "check" || command == "report" {
-        return fits(items, 2, &[]);
-    }
-    if command == "formulate" {
-        return fits(items, 1, &["form"]);
-    }
-    if command == "make" || command == "trial" {
-        return fits(items, 1, &[]);
-    }
-    false
 }
 
-/// Whether the items are so many positionals, and of these options each at most once.
-fn fits(items: &[Item<'_>], count: usize, options: &[&str]) -> bool
-    ensures { result ≡ fits count (map (λ o. o.now) options.now) (shown_items items.now) }
+/// How many files of answers `gather` takes.
+const MOST_ANSWERS: usize = 64;
+
+/// Whether the items are from the least to the most of so many positionals, and of these options each at most once.
+fn fits(items: &[Item<'_>], least: usize, most: usize, options: &[&str]) -> bool
+    ensures { result ≡ fits least most (map (λ o. o.now) options.now) (shown_items items.now) }
 {
-    if count_positionals(items) != count {
+    if !has_count(items, least, most) {
         return false;
     }
     if !has_only(items, options) {
         return false;
     }
     once(items)
+}
+
+fn has_count(items: &[Item<'_>], least: usize, most: usize) -> bool
+    ensures { result ≡ (nat_le least (count_by (λ x. not (is_some x.name)) items.now) && nat_le (count_by (λ x. not (is_some x.name)) items.now) most) }
+{
+    let count = count_positionals(items);
+    least <= count && count <= most
 }
 
 fn count_positionals(items: &[Item<'_>]) -> usize

@@ -1,13 +1,14 @@
 //! The items of the words of the command line: which words are a command with items that fit it, and what `clap` makes of them.
 //!
 //! The first word is the command; behind it stand positionals and options in any order, an option as `--name value` or
-//! `--name=value`, each at most once. `clap` reads the words of this form, and no others reach it.
+//! `--name=value`, each at most once. A command may end with 1 to 64 positionals of one name. `clap` reads the words of this form, and no
+//! others reach it.
 //!
 //! The layer above may use:
 //!
 //! - [`has_form`]: whether the words are a command and items that fit it.
 //! - [`matches_of`]: what `clap` makes of the words. Of words of the form it fails only for want of memory.
-//! - [`entered`], [`text_of`]: the command that was met, and the value under a name.
+//! - [`entered`], [`text_of`], [`texts_of`]: the command that was met, the value under a name, and all values under a name.
 //!
 //! `specs/Items.antt` has the items of words, `specs/Lines.antt` the table of commands, each with its positionals and its options,
 //! and what `clap` is told of it, and `specs/Commands.antt` which words are a command of the table, with the value under each name.
@@ -21,4 +22,4 @@ mod items;
 mod program;
 
 pub use items::has_form;
-pub use program::{entered, matches_of, text_of};
+pub use program::{entered, matches_of, text_of, texts_of};

@@ -1,12 +1,12 @@
 //! The commands, as `clap` is told of them, and what it makes of words.
 ghost use Rattle.std.specs.Prelude.{◌≡◌, [], ◌∷◌, IfErr, IfOk, Some, None, false, fold, map, string_bytes, true, option_map};
-ghost use Rattle.clap.specs.Words.{app_of, new_rule, with_rule, with_subcommand, first_of, found_of, kind_of, rows_of, subcommand_of, subcommand_rows_of};
+ghost use Rattle.clap.specs.Words.{app_of, new_rule, with_rule, with_subcommand, all_of, first_of, found_of, kind_of, rows_of, subcommand_of, subcommand_rows_of};
 ghost use Rattle.clap.specs.declared.builder.command.Command.TheViews.{out-Command as fields_of};
 ghost use Rattle.command_items.specs.Views.{has_form, line};
-ghost use Rattle.command_items.specs.Lines.{app_with, bare_app, check_line, line_app, long_rule, program_app, report_line, solve_line};
+ghost use Rattle.command_items.specs.Lines.{app_with, bare_app, check_line, formulate_line, line_app, long_rule, make_line, many_rules, program_app, report_line, solve_line, trial_line};
 
 use clap::error::ErrorKind;
-use clap::{Arg, ArgMatches, Command, Error};
+use clap::{Arg, ArgAction, ArgMatches, Command, Error};
 use std::alloc::{AllocError, Global};
 
 /// What `clap` makes of the words. Of words of the form it fails only for want of memory.
@@ -26,6 +26,13 @@ pub fn text_of<'a>(matches: &ArgMatches<'a>, id: &str) -> Option<&'a str>
     matches.get_str(id)
 }
 
+/// All values under the name of an argument, in order, if it has one.
+pub fn texts_of<'m, 'a>(matches: &'m ArgMatches<'a>, id: &str) -> Option<&'m [&'a str]>
+    ensures { option_map (λ s. map (λ v. v.now) s.now) result ≡ all_of id.now (rows_of (found_of matches.now)) }
+{
+    matches.get_strs(id)
+}
+
 /// The subcommand that was met, with its matches.
 pub fn entered<'m, 'a>(matches: &'m ArgMatches<'a>) -> Option<(&'a str, &'m ArgMatches<'a>)>
     ensures { option_map (λ p. (p.0.now, rows_of (found_of p.1.now))) result ≡ subcommand_rows_of matches.entry.now }
@@ -37,14 +44,39 @@ pub fn entered<'m, 'a>(matches: &'m ArgMatches<'a>) -> Option<(&'a str, &'m ArgM
 fn program<'a>(alloc: Global) -> Result<Command<'a>, AllocError>
     ensures { IfOk result (λ c. app_of c ≡ program_app) }
 {
-    let program = first_lines(alloc)?;
-    let program = with_line(alloc, program, "formulate", &["net"], &["form"])?;
-    let program = with_line(alloc, program, "make", &["number"], &[])?;
-    with_line(alloc, program, "trial", &["number"], &[])
+    let program = six_lines(alloc)?;
+    let program = with_line(
+        alloc,
+        program,
+        "jobs",
+        &["net"],
+        None,
+        &["journal", "count"],
+    )?;
+    let program = with_line(alloc, program, "work", &["net", "jobs"], None, &["form"])?;
+    let answers = Some("answers");
+    with_line(
+        alloc,
+        program,
+        "gather",
+        &["net", "jobs"],
+        answers,
+        &["journal"],
+    )
 }
 
-/// The program with the first three commands. A chain of more proves slowly.
-fn first_lines<'a>(alloc: Global) -> Result<Command<'a>, AllocError>
+/// The program with the first six commands. A chain of more than three proves slowly.
+fn six_lines<'a>(alloc: Global) -> Result<Command<'a>, AllocError>
+    ensures { IfOk result (λ c. app_of c ≡ app_with bare_app (solve_line ∷ check_line ∷ report_line ∷ formulate_line ∷ make_line ∷ trial_line ∷ [])) }
+{
+    let program = three_lines(alloc)?;
+    let program = with_line(alloc, program, "formulate", &["net"], None, &["form"])?;
+    let program = with_line(alloc, program, "make", &["number"], None, &[])?;
+    with_line(alloc, program, "trial", &["number"], None, &[])
+}
+
+/// The program with the first three commands.
+fn three_lines<'a>(alloc: Global) -> Result<Command<'a>, AllocError>
     ensures { IfOk result (λ c. app_of c ≡ app_with bare_app (solve_line ∷ check_line ∷ report_line ∷ [])) }
 {
     let program = with_line(
@@ -52,10 +84,11 @@ fn first_lines<'a>(alloc: Global) -> Result<Command<'a>, AllocError>
         bare(alloc),
         "solve",
         &["net"],
+        None,
         &["form", "nodes", "gap", "journal", "rule", "squeeze"],
     )?;
-    let program = with_line(alloc, program, "check", &["net", "cert"], &[])?;
-    with_line(alloc, program, "report", &["net", "cert"], &[])
+    let program = with_line(alloc, program, "check", &["net", "cert"], None, &[])?;
+    with_line(alloc, program, "report", &["net", "cert"], None, &[])
 }
 
 /// The program with no command: its words leave out its name, and it has no help.
@@ -68,31 +101,35 @@ fn bare<'a>(alloc: Global) -> Command<'a>
         .disable_help_subcommand(true)
 }
 
-/// The program with one command more, of this name, with these positionals and these options.
+/// The program with one command more, of this name, with these positionals, those of a name that may stand several times, and these
+/// options.
 fn with_line<'a>(
     alloc: Global,
     program: Command<'a>,
     name: &'a str,
     places: &[&'a str],
+    many: Option<&'a str>,
     options: &[&'a str],
 ) -> Result<Command<'a>, AllocError>
-    ensures { IfOk result (λ c. app_of c ≡ with_subcommand (app_of program.entry) (line_app (line name.entry.now places.now options.now)).top) }
+    ensures { IfOk result (λ c. app_of c ≡ with_subcommand (app_of program.entry) (line_app (line name.entry.now places.now many.entry options.now)).top) }
 {
-    let command = line_command(alloc, name, places, options)?;
+    let command = line_command(alloc, name, places, many, options)?;
     program.subcommand(command)
 }
 
-/// The command of this name, with these positionals and these options.
+/// The command of this name, with these positionals, those of a name that may stand several times, and these options.
 fn line_command<'a>(
     alloc: Global,
     name: &'a str,
     places: &[&'a str],
+    many: Option<&'a str>,
     options: &[&'a str],
 ) -> Result<Command<'a>, AllocError>
-    ensures app { IfOk result (λ c. app_of c ≡ line_app (line name.entry.now places.now options.now)) }
+    ensures app { IfOk result (λ c. app_of c ≡ line_app (line name.entry.now places.now many.entry options.now)) }
     ensures local { IfOk result (λ c. (fields_of c).has_globals ≡ false) }
 {
-    let command = with_places(alloc, Command::new(alloc, name), places)?;
+    let placed = with_places(alloc, Command::new(alloc, name), places)?;
+    let command = with_many(alloc, placed, many)?;
     with_options(alloc, command, options)
 }
 
@@ -122,6 +159,21 @@ fn with_place<'a>(
     ensures local { (fields_of command.entry).has_globals ≡ false → IfOk result (λ c. (fields_of c).has_globals ≡ false) }
 {
     command.arg(Arg::new(alloc, name))
+}
+
+/// The command with the positionals of one name more that may stand several times, if there are such.
+fn with_many<'a>(
+    alloc: Global,
+    command: Command<'a>,
+    many: Option<&'a str>,
+) -> Result<Command<'a>, AllocError>
+    ensures app { IfOk result (λ c. app_of c ≡ fold with_rule (app_of command.entry) (many_rules (option_map (λ n. n.now) many.entry))) }
+    ensures local { (fields_of command.entry).has_globals ≡ false → IfOk result (λ c. (fields_of c).has_globals ≡ false) }
+{
+    match many {
+        Some(name) => command.arg(Arg::new(alloc, name).action(ArgAction::Append)),
+        None => Ok(command),
+    }
 }
 
 /// The command with these options more.

@@ -1,22 +1,29 @@
 -- What is asked is one thing, and a run on it is what it was.
-use Rattle.std.proofs.Common.{◌≡◌, ◌⊎◌, ℕ, List, Option, Some, inl, inr, sym, subst, ◌∙◌}
-use Rattle.pool_model.specs.Network.{Network}
+use Rattle.std.proofs.Common.{◌≡◌, ◌⊎◌, ℕ, List, Option, String, inl, inr, map, string_bytes, refl, sym, subst, ◌∙◌}
+use Rattle.std.specs.declared.alloc.Global.{Global}
 use Rattle.box_space.specs.declared.coordinates.Form.{Form}
-use Rattle.cli_words.specs.Requests.{Asked, Solving, solve, check, report, formulate, make, trial}
-use Rattle.run_status.specs.Reads.{Files, ReadsUnder}
+use Rattle.disk_calls.specs.Disks.{DiskTold}
+use Rattle.cli_words.specs.Requests.{Asked, solve, check, report, formulate, make, trial, jobs, work, gather}
+use Rattle.run_status.specs.Reads.{Files}
 use Rattle.run_status.specs.Took.{Took}
 use Rattle.run_status.specs.declared.status.Status.{Status}
 use Rattle.run_status.specs.declared.status.Status.TheVariants as statuses
 use Rattle.certificate_commands.specs.CheckEnds.{CheckEnds}
 use Rattle.certificate_commands.specs.ReportEnds.{ReportEnds}
-use Rattle.solve_command.specs.Gaps.{IsGapAsked}
 use Rattle.solve_command.specs.SolveEnds.{SolveEnds}
-use Rattle.pool_cli.specs.Ends.{AnswersAs, EndsAs, IsAdmitted, IsUnanswered, JournalsAs}
+use Rattle.job_commands.specs.JobsEnds.{JobsEnds}
+use Rattle.job_commands.specs.WorkEnds.{WorkEnds}
+use Rattle.gather_command.specs.GatherEnds.{GatherEnds}
+use Rattle.pool_cli.specs.Ends.{AnswersAs, EndsAs, IsAdmitted, IsUnanswered, LeavesAs, named}
 use Rattle.pool_cli.specs.FormulateEnds.{FormulateEnds}
 use Rattle.pool_cli.specs.MakeEnds.{MakeEnds}
 use Rattle.pool_cli.specs.TrialEnds.{TrialEnds}
 
 -- ---- the same of what is asked, and of the status
+
+-- what may be asked of shelf and disk
+pub admitted_as : (asked other : Asked) (Shelf Disk : List ℕ → Type 0) (files : Option Files) → asked ≡ other → IsAdmitted Shelf Disk files asked → IsAdmitted Shelf Disk files other
+admitted_as asked other Shelf Disk files same h = subst (λ (x : Asked). IsAdmitted Shelf Disk files x) same h
 
 module _ (asked other : Asked) (status end : Status) (same : asked ≡ other) (is : status ≡ end) where
   pub took_as : (files : Option Files) (old new : Option (List ℕ)) → Took (AnswersAs files other) end old new → Took (AnswersAs files asked) status old new
@@ -25,32 +32,25 @@ module _ (asked other : Asked) (status end : Status) (same : asked ≡ other) (i
   pub ends_as : (files : Option Files) (before after : ℕ) → EndsAs files before after other end → EndsAs files before after asked status
   ends_as files before after h = subst (λ (x : Asked). EndsAs files before after x status) (sym same) (subst (λ (x : Status). EndsAs files before after other x) (sym is) h)
 
-  pub journals_as : (Holds : Status → Solving → Type 0) → JournalsAs (Holds end) other → JournalsAs (Holds status) asked
-  journals_as Holds h = subst (λ (x : Asked). JournalsAs (Holds status) x) (sym same) (subst (λ (x : Status). JournalsAs (Holds x) other) (sym is) h)
+  pub leaves_as : (files : Option Files) (old new : DiskTold) (before after : Option (List ℕ)) → LeavesAs files old new before after other end → LeavesAs files old new before after asked status
+  leaves_as files old new before after h =
+      subst (λ (x : Asked). LeavesAs files old new before after x status) (sym same) (subst (λ (x : Status). LeavesAs files old new before after other x) (sym is) h)
+
+-- the same jobs, the same work and the same gathering, by names that were handed on
+pub handing : (net journal a d : List ℕ) (count : ℕ) → a ≡ net → d ≡ journal → jobs net journal count ≡ jobs a d count
+handing net journal a d count e f = rw (e, f) refl
+
+pub working : (net file a b : List ℕ) (form : Form) → a ≡ net → b ≡ file → work net file form ≡ work a b form
+working net file a b form e f = rw (e, f) refl
+
+pub gathering : (net file journal a b d : List ℕ) (answers given : List (String Global)) → a ≡ net → b ≡ file → given ≡ answers → d ≡ journal
+    → gather net file (map string_bytes answers) journal ≡ gather a b (map string_bytes given) d
+gathering net file journal a b d answers given e f h i = rw (e, f, h, i) refl
 
 -- the shelf failed, or its count of faults is as it was
 pub quiet_as : {status end : Status} {Same : Type 0} → status ≡ end → (end ≡ statuses.ReadFault) ⊎ Same → (status ≡ statuses.ReadFault) ⊎ Same
 quiet_as is (inl failed) = inl (is ∙ failed)
 quiet_as is (inr same) = inr same
-
--- ---- what a run may be asked
-
-module _ (Asks : Asked → Type 0) (Shelf Disk : List ℕ → Type 0) (files : Option Files)
-    (gap : (s : Solving) → Asks (solve s) → IsGapAsked s.gap)
-    (solved : (s : Solving) → Asks (solve s) → Shelf s.net)
-    (journal : (s : Solving) (file : List ℕ) → Asks (solve s) → s.journal ≡ Some file → Disk file)
-    (checked : (net cert : List ℕ) → Asks (check net cert) → Shelf net)
-    (certificate : (net cert : List ℕ) (network : Network) → Asks (check net cert) → ReadsUnder files net network → Shelf cert)
-    (told : (net cert : List ℕ) → Asks (report net cert) → Shelf net)
-    (reported : (net cert : List ℕ) (network : Network) → Asks (report net cert) → ReadsUnder files net network → Shelf cert)
-    (formulated : (net : List ℕ) (form : Form) → Asks (formulate net form) → Shelf net) where
-  pub admitted : (asked : Asked) → Asks asked → IsAdmitted Shelf Disk files asked
-  admitted (solve s) asks = (gap s asks, solved s asks, λ file named. journal s file asks named)
-  admitted (check net cert) asks = (checked net cert asks, λ network reads. certificate net cert network asks reads)
-  admitted (report net cert) asks = (told net cert asks, λ network reads. reported net cert network asks reads)
-  admitted (formulate net form) asks = formulated net form asks
-  admitted (make number) asks = tt
-  admitted (trial number) asks = tt
 
 -- ---- what a run on a request is not
 
@@ -62,6 +62,9 @@ no_usage files before after (report net cert) status h e = subst (ReportEnds fil
 no_usage files before after (formulate net form) status h e = subst (FormulateEnds files net before after) e h
 no_usage files before after (make number) status h e = subst MakeEnds e h
 no_usage files before after (trial number) status h e = subst TrialEnds e h
+no_usage files before after (jobs net journal count) status h e = subst (JobsEnds files net before after) e h
+no_usage files before after (work net file form) status h e = subst (WorkEnds files net file before after) e h
+no_usage files before after (gather net file answers journal) status h e = subst (GatherEnds files (named net file answers) before after) e h
 
 -- a run that gives no answer prints nothing
 pub nothing_told : (Answer : Status → List ℕ → Type 0) (status : Status) (old new : Option (List ℕ)) → IsUnanswered status → Took Answer status old new → new ≡ old

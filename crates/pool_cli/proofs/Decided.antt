@@ -1,13 +1,15 @@
 -- What the told files decide of a run, by how it ended.
 use Rattle.std.proofs.Common.{◌≡◌, ℕ, inl, inr, List, Option, Some, refl, subst}
-use Rattle.cli_words.specs.Requests.{Asked, solve, check, report, formulate, make, trial}
+use Rattle.cli_words.specs.Requests.{Asked, solve, check, report, formulate, make, trial, jobs, work, gather}
 use Rattle.run_status.specs.Reads.{Files}
 use Rattle.run_status.specs.declared.status.Status.{Status}
 use Rattle.run_status.specs.declared.status.Status.TheVariants as statuses
 use Rattle.run_status.proofs.Networks.{refused_unread}
 use Rattle.solve_command.proofs.Decided.{solve_decided}
 use Rattle.certificate_commands.proofs.Decided.{check_decided, report_decided}
-use Rattle.pool_cli.specs.Ends.{DecidedAs, EndsAs}
+use Rattle.job_commands.proofs.Decided.{jobs_decided, work_decided}
+use Rattle.gather_command.proofs.Decided.{gather_decided}
+use Rattle.pool_cli.specs.Ends.{DecidedAs, EndsAs, named}
 use Rattle.pool_cli.specs.FormulateEnds.{FormulateDecided, FormulateEnds}
 
 -- ---- what the told files decide of `formulate`
@@ -38,3 +40,6 @@ decided files told before after (report net cert) status is h = report_decided f
 decided files told before after (formulate net form) status is h = formulate_decided files told net before after status is h
 decided files told before after (make number) status is h = h
 decided files told before after (trial number) status is h = h
+decided files told before after (jobs net journal count) status is h = jobs_decided files told net before after status is h
+decided files told before after (work net file form) status is h = work_decided files told net file before after status is h
+decided files told before after (gather net file answers journal) status is h = gather_decided files told (named net file answers) before after status is h

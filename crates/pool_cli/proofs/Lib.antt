@@ -1,3 +1,4 @@
+pub mod Admitting
 mod Commands
 mod Decided
 mod Gaps

@@ -1,18 +1,13 @@
 //! The top call: words and files in, a certificate or the answer on one, and a status out.
 
-ghost use Rattle.std.specs.Prelude.{◌≡◌, ◌⊎◌, List, ℕ, Some, IsTrue, map, string_bytes};
+ghost use Rattle.std.specs.Prelude.{◌≡◌, ◌⊎◌, Some, IsTrue, map, string_bytes};
 ghost use Rattle.edge_io.specs.Counts.{Rose};
-ghost use Rattle.edge_io.specs.Writing.{behind};
-ghost use Rattle.pool_model.specs.Network.{Network};
-ghost use Rattle.box_space.specs.declared.coordinates.Form.{Form};
-ghost use Rattle.cert_format.specs.Text.{text_of};
 ghost use Rattle.cli_words.specs.Asks.{Asks};
-ghost use Rattle.cli_words.specs.Requests.{Asked, Solving, solve, check, report, formulate};
+ghost use Rattle.cli_words.specs.Requests.{Asked};
 ghost use Rattle.cli_words.specs.Views.{shown_request};
-ghost use Rattle.run_status.specs.Reads.{Files, ReadsUnder};
+ghost use Rattle.run_status.specs.Reads.{Files};
 ghost use Rattle.run_status.specs.Took.{Took};
-ghost use Rattle.solve_command.specs.Journaled.{Journaled};
-ghost use Rattle.pool_cli.specs.Ends.{AnswersAs, DecidedAs, EndsAs, HasNoJournal, IsAdmitted, IsUnanswered, JournalsAs, words_status};
+ghost use Rattle.pool_cli.specs.Ends.{AnswersAs, DecidedAs, EndsAs, HasFairGap, HasNoJournal, IsAdmitted, IsUnanswered, LeavesAs, words_status};
 
 use crate::formulate::formulate;
 use crate::make::make;
@@ -21,6 +16,8 @@ use certificate_commands::{check, report};
 use cli_words::{Request, WordsFault, read_words};
 use disk_calls::Disk;
 use edge_io::Sink;
+use gather_command::gather;
+use job_commands::{jobs, work};
 use run_status::Status;
 use shelf_calls::Shelf;
 use solve_command::solve;
@@ -33,6 +30,9 @@ use std::alloc::Global;
 /// and records each entry there before it is taken. `check NET CERT` prints what the certificate in the file CERT says of the network in
 /// the file NET, or why it is refused, and `report NET CERT` tells it to a person. `formulate NET` prints an exact program of the
 /// network in the file NET, `make N` the network of the number N, and `trial N` how a search of that network went.
+///
+/// `jobs NET --journal FILE` prints jobs on leaves of the tree of the entries in that file, `work NET JOBS` answers to the jobs in the file
+/// JOBS, and `gather NET JOBS ANSWERS.. --journal FILE` takes the answers in the files ANSWERS into that journal, and prints what came of each.
 pub fn run<S: Shelf, K: Sink, D: Disk>(
     alloc: Global,
     words: &[String],
@@ -40,30 +40,17 @@ pub fn run<S: Shelf, K: Sink, D: Disk>(
     out: &mut K,
     disk: &mut D,
 ) -> Status
-    requires solve { (s : Solving) → Asks (map string_bytes words.now) (solve s) → IsTrue ((S.told shelf.old).admits s.net) }
-    requires check { (net cert : List ℕ) → Asks (map string_bytes words.now) (check net cert) → IsTrue ((S.told shelf.old).admits net) }
-
-    requires report { (net cert : List ℕ) → Asks (map string_bytes words.now) (report net cert) → IsTrue ((S.told shelf.old).admits net) }
-
-    requires formulate { (net : List ℕ) (form : Form) → Asks (map string_bytes words.now) (formulate net form) → IsTrue ((S.told shelf.old).admits net) }
-
-    // Promise: CERT is asked for only where a network is read from NET
-    requires certificate { (net cert : List ℕ) (network : Network) → Asks (map string_bytes words.now) (check net cert)
-        → ReadsUnder (S.told shelf.old).files net network → IsTrue ((S.told shelf.old).admits cert) }
-
-    // Promise: CERT is asked for only where a network is read from NET
-    requires reported { (net cert : List ℕ) (network : Network) → Asks (map string_bytes words.now) (report net cert)
-        → ReadsUnder (S.told shelf.old).files net network → IsTrue ((S.told shelf.old).admits cert) }
-
-    // Promise: The disk is asked for the file of `--journal` alone
-    requires journal { (s : Solving) (file : List ℕ) → Asks (map string_bytes words.now) (solve s) → s.journal ≡ Some file → IsTrue ((D.told disk.old).admits file) }
+    requires { (asked : Asked) → Asks (map string_bytes words.now) asked
+        → IsAdmitted (λ name. IsTrue ((S.told shelf.old).admits name)) (λ name. IsTrue ((D.told disk.old).admits name)) (S.told shelf.old).files asked }
 
     // What the sink took: under `Closed`, `Stopped`, `Stuck`, `Infeasible` and `Undecided` the text of a certificate that answers the
-    // words, under `Accepted` and `Refused` the line on the certificate that they name, under `Done` the report, the program, the network
-    // or the four lines of the trial, under `WriteFault` a front of such a text, and under every other status nothing.
+    // words, under `Accepted` and `Refused` the line on the certificate that they name, under `Done` the report, the program, the network,
+    // the four lines of the trial, the jobs, the answers, or what came of answers, under `WriteFault` a front of such a text, and under every
+    // other status nothing.
     // Promise: Under the statuses 0, 10, 11, 12 and 13 of `solve` the sink took exactly the text of one certificate; under 0 and 1 of
     //   `check`, and under 1 of `report`, exactly its line; under 0 of `report`, `formulate`, `make` and `trial` exactly the report, the
-    //   program, the network and the four lines; under 21 a front of such a text; under every other status nothing
+    //   program, the network and the four lines; under 0 of `jobs`, `work` and `gather` exactly the jobs, the answers, and a line for each answer with
+    //   a last one; under 21 a front of such a text; under every other status nothing
     ensures took { (asked : Asked) → Asks (map string_bytes words.now) asked → Took (AnswersAs (S.told shelf.old).files asked) result (K.taken out.old) (K.taken out.new) }
     // Promise: Under 2 and 23 nothing was printed, whatever the words
     ensures unanswered { IsUnanswered result → K.taken out.new ≡ K.taken out.old }
@@ -89,8 +76,8 @@ pub fn run<S: Shelf, K: Sink, D: Disk>(
 
     // What a crash at any moment leaves of the journal, what the journal holds at the end, and when it is refused. Without a journal the
     // disk is not touched.
-    ensures journal { (s : Solving) (file : List ℕ) → Asks (map string_bytes words.now) (solve s) → s.journal ≡ Some file → IsTrue (D.told disk.old).tells →
-        Journaled (S.told shelf.old).files s (D.told disk.old) (D.told disk.new) result (λ c. K.taken out.new ≡ behind (K.taken out.old) (text_of c)) }
+    ensures journal { (asked : Asked) → Asks (map string_bytes words.now) asked → IsTrue (D.told disk.old).tells
+        → LeavesAs (S.told shelf.old).files (D.told disk.old) (D.told disk.new) (K.taken out.old) (K.taken out.new) asked result }
     // Promise: Without `--journal` the disk is not touched
     ensures apart { (asked : Asked) → Asks (map string_bytes words.now) asked → HasNoJournal asked → disk.new ≡ disk.old }
     // Promise: Words that ask nothing leave the disk as it is
@@ -120,14 +107,16 @@ fn answer<S: Shelf, K: Sink, D: Disk>(
     out: &mut K,
     disk: &mut D,
 ) -> Status
-    requires { IsAdmitted (λ name. IsTrue ((S.told shelf.old).admits name)) (λ name. IsTrue ((D.told disk.old).admits name)) (S.told shelf.old).files (shown_request request) }
+    requires admitted { IsAdmitted (λ name. IsTrue ((S.told shelf.old).admits name)) (λ name. IsTrue ((D.told disk.old).admits name)) (S.told shelf.old).files (shown_request request) }
+    requires gap { HasFairGap (shown_request request) }
     ensures took { Took (AnswersAs (S.told shelf.old).files (shown_request request)) result (K.taken out.old) (K.taken out.new) }
     ensures ends { EndsAs (S.told shelf.old).files (S.told shelf.old).taken (S.told shelf.new).taken (shown_request request) result }
     ensures read_fault { result ≡ Status.ReadFault → Rose (S.told shelf.old).faults (S.told shelf.new).faults }
     ensures quiet { (result ≡ Status.ReadFault) ⊎ ((S.told shelf.new).faults ≡ (S.told shelf.old).faults) }
     ensures write_fault { result ≡ Status.WriteFault → Rose (K.faults out.old) (K.faults out.new) }
     ensures disk_fault { result ≡ Status.DiskFault → Rose (D.told disk.old).faults (D.told disk.new).faults }
-    ensures journal { IsTrue (D.told disk.old).tells → JournalsAs (λ s. Journaled (S.told shelf.old).files s (D.told disk.old) (D.told disk.new) result (λ c. K.taken out.new ≡ behind (K.taken out.old) (text_of c))) (shown_request request) }
+    ensures journal { IsTrue (D.told disk.old).tells
+        → LeavesAs (S.told shelf.old).files (D.told disk.old) (D.told disk.new) (K.taken out.old) (K.taken out.new) (shown_request request) result }
     ensures apart { HasNoJournal (shown_request request) → disk.new ≡ disk.old }
 {
     match request {
@@ -143,5 +132,27 @@ fn answer<S: Shelf, K: Sink, D: Disk>(
         }
         Request::Make(number) => Status::from(make(alloc, number, out)),
         Request::Trial(number) => Status::from(trial(alloc, number, out)),
+        Request::Jobs(net, journal, count) => Status::from(jobs(
+            alloc,
+            net.as_str(),
+            journal.as_str(),
+            count,
+            shelf,
+            out,
+            disk,
+        )),
+        Request::Work(net, jobs, form) => {
+            Status::from(work(alloc, net.as_str(), jobs.as_str(), form, shelf, out))
+        }
+        Request::Gather(net, jobs, answers, journal) => Status::from(gather(
+            alloc,
+            net.as_str(),
+            jobs.as_str(),
+            &answers,
+            journal.as_str(),
+            shelf,
+            out,
+            disk,
+        )),
     }
 }

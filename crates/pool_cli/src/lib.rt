@@ -6,14 +6,17 @@
 //! gap is their exact difference. Of `check`, it is the line of a valid certificate, of which all that is claimed follows,
 //! or the line of the first cause to refuse it; of `report`, the report of that certificate, or that line. Of `formulate`, it is
 //! the text of an exact program of the network, of `make` the text of the network of a number, and of `trial` four lines on a search
-//! of that network. And it says when each other status comes. The words of that contract are in `specs/Ends.antt`, which has a line
+//! of that network. Of `jobs` it is the text of jobs on leaves of a journal's tree, of `work` that of answers to jobs, and of `gather` a line on
+//! each answer. And it says when each other status comes. The words of that contract are in `specs/Ends.antt`, which has a line
 //! for each command. What each command promises stands in a file of its own: `specs/FormulateEnds.antt`, `MakeEnds.antt` and
-//! `TrialEnds.antt` here, `SolveEnds.antt` in `solve_command`, `CheckEnds.antt` and `ReportEnds.antt` in `certificate_commands`.
+//! `TrialEnds.antt` here, `SolveEnds.antt` in `solve_command`, `CheckEnds.antt` and `ReportEnds.antt` in `certificate_commands`, `JobsEnds.antt` and
+//! `WorkEnds.antt` in `job_commands`, and `GatherEnds.antt` in `gather_command`.
 //!
 //! [`printed_law`] says of two runs, by these clauses alone, that `check` takes what `solve` printed.
 //!
 //! The layer above may use `run`, and of `run_status` the status that it answers: `Status::code` and `write_message`. It brings the real
-//! files and streams. What a file says is left to `network_json`, and the text of a certificate to `cert_format`.
+//! files and streams. Its proofs may cite `proofs/Admitting.antt`: whoever may ask for every name may ask for those that words name. What a file
+//! says is left to `network_json`, and the text of a certificate to `cert_format`.
 #![tactic(auto)]
 
 mod command;

@@ -5,9 +5,8 @@ use Rattle.edge_io.specs.Counts.{Rose}
 use Rattle.edge_io.specs.Writing.{behind, TookFront}
 use Rattle.shelf_calls.specs.Told.{ShelfTold}
 use Rattle.disk_calls.specs.Disks.{DiskTold}
-use Rattle.cert_format.specs.Text.{text_of}
 use Rattle.cli_words.specs.Asks.{Asks}
-use Rattle.cli_words.specs.Requests.{Asked, Solving, solve}
+use Rattle.cli_words.specs.Requests.{Asked}
 use Rattle.cli_words.specs.declared.request.WordsFault.{WordsFault}
 use Rattle.run_status.specs.Messages.{code_of, message_of}
 use Rattle.run_status.specs.Reads.{Files}
@@ -15,8 +14,7 @@ use Rattle.run_status.specs.Took.{IsCutShort, Took}
 use Rattle.run_status.specs.declared.status.Status.{Status}
 use Rattle.run_status.specs.declared.status.Status.TheVariants as statuses
 use Rattle.file_numbers.specs.Numbers.{AreHeld}
-use Rattle.solve_command.specs.Journaled.{Journaled}
-use Rattle.pool_cli.specs.Ends.{AnswersAs, DecidedAs, EndsAs, HasNoJournal, IsUnanswered, words_status}
+use Rattle.pool_cli.specs.Ends.{AnswersAs, DecidedAs, EndsAs, HasNoJournal, IsUnanswered, LeavesAs, words_status}
 
 -- where the system tells which numbers are in use, those of the standard streams are
 abbrev pub IsHeld : {N : Type 0} → Bool → (N → ℕ → Bool) → N → Type 0
@@ -52,8 +50,8 @@ pub record IsRun {D : Type 0} (told : D → DiskTold) (words : List (List ℕ)) 
   pub quiet : (status ≡ statuses.ReadFault) ⊎ (after.shelf.faults ≡ before.shelf.faults)
   pub write_fault : status ≡ statuses.WriteFault → Rose before.faults after.faults
   pub disk_fault : status ≡ statuses.DiskFault → Rose (told before.disk).faults (told after.disk).faults
-  pub journal : (s : Solving) (file : List ℕ) → Asks words (solve s) → s.journal ≡ Some file → IsTrue (told before.disk).tells →
-      Journaled before.shelf.files s (told before.disk) (told after.disk) status (λ c. after.printed ≡ behind before.printed (text_of c))
+  pub journal : (asked : Asked) → Asks words asked → IsTrue (told before.disk).tells
+      → LeavesAs before.shelf.files (told before.disk) (told after.disk) before.printed after.printed asked status
   pub apart : (asked : Asked) → Asks words asked → HasNoJournal asked → after.disk ≡ before.disk
   pub unasked : ((asked : Asked) → ¬ Asks words asked) → after.disk ≡ before.disk
 

@@ -4,7 +4,7 @@ use cli_words::read_words;
 use std::alloc::Global;
 use std::test::Fail;
 
-/// Words, parted at each space, and behind the arrow what they ask.
+/// Words, parted at each space, and behind the arrow what they ask, or `Usage` where they ask nothing.
 const ASKED: &str = "\
 solve net -> Solve(SolveWords { net: \"net\", form: Pq, nodes: 1000, gap: 10000000000, journal: None, rule: Widest, squeeze: false })
 solve --nodes 07 net --form=q --gap 0.001 --rule=first --journal j -> Solve(SolveWords { net: \"net\", form: Q, nodes: 7, gap: 1000000000, journal: Some(\"j\"), rule: First, squeeze: false })
@@ -20,6 +20,16 @@ formulate net -> Formulate(\"net\", Pq)
 formulate --form=pq net -> Formulate(\"net\", Pq)
 make 7 -> Make(7)
 trial 00000000000000000007 -> Trial(7)
+jobs net --journal j -> Jobs(\"net\", \"j\", 16)
+jobs --count=1000 --journal=j net -> Jobs(\"net\", \"j\", 1000)
+jobs net --journal j --count 0 -> Usage
+jobs net --journal j --count 1001 -> Usage
+jobs net -> Usage
+work net jobs -> Work(\"net\", \"jobs\", Pq)
+work --form=q net jobs -> Work(\"net\", \"jobs\", Q)
+gather net jobs a b --journal j -> Gather(\"net\", \"jobs\", [\"a\", \"b\"], \"j\")
+gather net jobs --journal j -> Usage
+gather net jobs a -> Usage
 ";
 
 #[test]

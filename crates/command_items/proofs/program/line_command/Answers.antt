@@ -6,5 +6,6 @@ use Rattle.command_items.proofs.program.line_command.Goals as goal
 
 pub returns-clause-app : goal.returns-clause-app
 returns-clause-app c =
-    let told = told_in_turn (line c.args.name.now c.args.places.now c.args.options.now) (app_of c.new.result) (app_of c.in_ok-command.command) in
-    IfOk-weaker c.with_options.result _ _ (λ r options. told (app_of r) c.new.ensures.app c.in_ok-command.ensures.app options) c.with_options.ensures.app
+    let l = line c.args.name.now c.args.places.now c.args.many c.args.options.now in
+    let told = told_in_turn l (app_of c.new.result) (app_of c.in_ok-placed.placed) (app_of c.in_ok-command.command) in
+    IfOk-weaker c.with_options.result _ _ (λ r options. told (app_of r) c.new.ensures.app c.in_ok-placed.ensures.app c.in_ok-command.ensures.app options) c.with_options.ensures.app

@@ -1,40 +1,40 @@
-use Rattle.std.proofs.Common.{◌≡◌, ℕ, List, ap, ap₂, sym, subst, ◌∙◌}
+use Rattle.std.proofs.Common.{ℕ, List, ap, ap₂, map, string_bytes, sym, subst, ◌∙◌}
 use Rattle.std.specs.Prelude.{IsTrue}
-use Rattle.edge_io.specs.Writing.{behind}
-use Rattle.cert_format.specs.Text.{text_of}
-use Rattle.cli_words.specs.Requests.{solve, check, report, formulate, make, trial}
+use Rattle.cli_words.specs.Requests.{solve, check, report, formulate, make, trial, jobs, work, gather}
 use Rattle.cli_words.specs.Views.{shown_request, shown_solving}
 use Rattle.run_status.specs.Reads.{ReadsUnder}
-use Rattle.solve_command.specs.Journaled.{Journaled}
 use Rattle.solve_command.specs.SolveEnds.{solve_status}
 use Rattle.certificate_commands.specs.CheckEnds.{check_status}
 use Rattle.certificate_commands.specs.ReportEnds.{report_status}
+use Rattle.job_commands.specs.JobsEnds.{jobs_status}
+use Rattle.job_commands.specs.WorkEnds.{work_status}
+use Rattle.gather_command.specs.GatherEnds.{gather_status}
 use Rattle.pool_cli.specs.FormulateEnds.{formulate_status}
 use Rattle.pool_cli.specs.MakeEnds.{make_status}
 use Rattle.pool_cli.specs.TrialEnds.{trial_status}
-use Rattle.pool_cli.proofs.Commands.{ends_as, journals_as, quiet_as, took_as}
+use Rattle.pool_cli.proofs.Commands.{admitted_as, ends_as, gathering, handing, leaves_as, quiet_as, took_as, working}
 use Rattle.pool_cli.proofs.command.answer.Goals as goal
 
 -- ---- what the commands may ask for
 
 pub solve-requires-clause-gap : goal.solve-requires-clause-gap
-solve-requires-clause-gap g c = (rw c.in-Solve.is at c.requires).0
+solve-requires-clause-gap g c = rw c.in-Solve.is at c.requires.gap
 
 pub solve-requires-clause-admits : goal.solve-requires-clause-admits
-solve-requires-clause-admits g c = (rw c.in-Solve.is at c.requires).1
+solve-requires-clause-admits g c = (rw c.in-Solve.is at c.requires.admitted).0
 
 pub solve-requires-clause-journal : goal.solve-requires-clause-journal
-solve-requires-clause-journal g c = (rw c.in-Solve.is at c.requires).2
+solve-requires-clause-journal g c = (rw c.in-Solve.is at c.requires.admitted).1
 
 pub check-requires-clause-certificate : goal.check-requires-clause-certificate
 check-requires-clause-certificate g c = λ network reads.
-    let admits = rw c.in-Check.is at c.requires in
+    let admits = rw c.in-Check.is at c.requires.admitted in
     subst (λ (name : List ℕ). IsTrue ((g.S.Shelf.told c.args.shelf.now).admits name)) (sym c.as_str-in-Check.ensures.value)
     (admits.1 network (subst (λ (name : List ℕ). ReadsUnder (g.S.Shelf.told c.args.shelf.now).files name network) c.as_str.ensures.value reads))
 
 pub report-requires-clause-certificate : goal.report-requires-clause-certificate
 report-requires-clause-certificate g c = λ network reads.
-    let admits = rw c.in-Report.is at c.requires in
+    let admits = rw c.in-Report.is at c.requires.admitted in
     subst (λ (name : List ℕ). IsTrue ((g.S.Shelf.told c.args.shelf.now).admits name)) (sym c.as_str-in-Report-2.ensures.value)
     (admits.1 network (subst (λ (name : List ℕ). ReadsUnder (g.S.Shelf.told c.args.shelf.now).files name network) c.as_str-in-Report.ensures.value reads))
 
@@ -54,12 +54,10 @@ returns-in-Solve-clause-ends g c =
 
 pub returns-in-Solve-clause-journal : goal.returns-in-Solve-clause-journal
 returns-in-Solve-clause-journal g c = λ tells.
-    let old = g.D.Disk.told c.args.disk.now in
-    let new = g.D.Disk.told c.solve.new.disk in
-    journals_as (shown_request c.args.request) (solve (shown_solving c.in-Solve.words)) c.from.result (solve_status c.solve.result)
+    leaves_as (shown_request c.args.request) (solve (shown_solving c.in-Solve.words)) c.from.result (solve_status c.solve.result)
     (ap shown_request c.in-Solve.is) c.from.ensures
-    (λ status s. Journaled (g.S.Shelf.told c.args.shelf.now).files s old new status (λ k. g.K.Sink.taken c.solve.new.out ≡ behind (g.K.Sink.taken c.args.out.now) (text_of k)))
-    (λ file named. c.solve.ensures.journal file named tells)
+    (g.S.Shelf.told c.args.shelf.now).files (g.D.Disk.told c.args.disk.now) (g.D.Disk.told c.solve.new.disk)
+    (g.K.Sink.taken c.args.out.now) (g.K.Sink.taken c.solve.new.out) (λ file named. c.solve.ensures.journal file named tells)
 
 pub returns-in-Solve-clause-quiet : goal.returns-in-Solve-clause-quiet
 returns-in-Solve-clause-quiet g c = quiet_as c.from.ensures c.solve.ensures.quiet
@@ -142,3 +140,92 @@ returns-in-Trial-clause-ends g c =
     ends_as (shown_request c.args.request) (trial c.in-Trial.number) c.from-in-Trial.result (trial_status c.trial.result)
     (ap shown_request c.in-Trial.is) c.from-in-Trial.ensures
     (g.S.Shelf.told c.args.shelf.now).files (g.S.Shelf.told c.args.shelf.now).taken (g.S.Shelf.told c.args.shelf.now).taken c.trial.ensures.ends
+
+-- ---- jobs
+
+pub returns-in-Jobs-clause-took : goal.returns-in-Jobs-clause-took
+returns-in-Jobs-clause-took g c =
+    took_as (shown_request c.args.request) (jobs c.as_str-in-Jobs.result.now c.as_str-in-Jobs-2.result.now c.in-Jobs.count) c.from-in-Jobs.result (jobs_status c.jobs.result)
+    (ap shown_request c.in-Jobs.is ∙ handing _ _ _ _ _ c.as_str-in-Jobs.ensures.value c.as_str-in-Jobs-2.ensures.value) c.from-in-Jobs.ensures
+    (g.S.Shelf.told c.args.shelf.now).files (g.K.Sink.taken c.args.out.now) (g.K.Sink.taken c.jobs.new.out) c.jobs.ensures.took
+
+pub returns-in-Jobs-clause-ends : goal.returns-in-Jobs-clause-ends
+returns-in-Jobs-clause-ends g c =
+    ends_as (shown_request c.args.request) (jobs c.as_str-in-Jobs.result.now c.as_str-in-Jobs-2.result.now c.in-Jobs.count) c.from-in-Jobs.result (jobs_status c.jobs.result)
+    (ap shown_request c.in-Jobs.is ∙ handing _ _ _ _ _ c.as_str-in-Jobs.ensures.value c.as_str-in-Jobs-2.ensures.value) c.from-in-Jobs.ensures
+    (g.S.Shelf.told c.args.shelf.now).files (g.S.Shelf.told c.args.shelf.now).taken (g.S.Shelf.told c.jobs.new.shelf).taken c.jobs.ensures.ends
+
+pub returns-in-Jobs-clause-journal : goal.returns-in-Jobs-clause-journal
+returns-in-Jobs-clause-journal g c = λ tells.
+    leaves_as (shown_request c.args.request) (jobs c.as_str-in-Jobs.result.now c.as_str-in-Jobs-2.result.now c.in-Jobs.count) c.from-in-Jobs.result (jobs_status c.jobs.result)
+    (ap shown_request c.in-Jobs.is ∙ handing _ _ _ _ _ c.as_str-in-Jobs.ensures.value c.as_str-in-Jobs-2.ensures.value) c.from-in-Jobs.ensures
+    (g.S.Shelf.told c.args.shelf.now).files (g.D.Disk.told c.args.disk.now) (g.D.Disk.told c.jobs.new.disk)
+    (g.K.Sink.taken c.args.out.now) (g.K.Sink.taken c.jobs.new.out) (c.jobs.ensures.journal tells)
+
+pub returns-in-Jobs-clause-quiet : goal.returns-in-Jobs-clause-quiet
+returns-in-Jobs-clause-quiet g c = quiet_as c.from-in-Jobs.ensures c.jobs.ensures.quiet
+
+-- ---- work
+
+pub work-requires-clause-jobs : goal.work-requires-clause-jobs
+work-requires-clause-jobs g c =
+    (admitted_as (shown_request c.args.request) (work c.as_str-in-Work.result.now c.as_str-in-Work-2.result.now c.in-Work.form)
+    (λ name. IsTrue ((g.S.Shelf.told c.args.shelf.now).admits name)) (λ name. IsTrue ((g.D.Disk.told c.args.disk.now).admits name)) (g.S.Shelf.told c.args.shelf.now).files
+    (ap shown_request c.in-Work.is ∙ working _ _ _ _ _ c.as_str-in-Work.ensures.value c.as_str-in-Work-2.ensures.value) c.requires.admitted).1
+
+pub returns-in-Work-clause-took : goal.returns-in-Work-clause-took
+returns-in-Work-clause-took g c =
+    took_as (shown_request c.args.request) (work c.as_str-in-Work.result.now c.as_str-in-Work-2.result.now c.in-Work.form) c.from-in-Work.result (work_status c.work.result)
+    (ap shown_request c.in-Work.is ∙ working _ _ _ _ _ c.as_str-in-Work.ensures.value c.as_str-in-Work-2.ensures.value) c.from-in-Work.ensures
+    (g.S.Shelf.told c.args.shelf.now).files (g.K.Sink.taken c.args.out.now) (g.K.Sink.taken c.work.new.out) c.work.ensures.took
+
+pub returns-in-Work-clause-ends : goal.returns-in-Work-clause-ends
+returns-in-Work-clause-ends g c =
+    ends_as (shown_request c.args.request) (work c.as_str-in-Work.result.now c.as_str-in-Work-2.result.now c.in-Work.form) c.from-in-Work.result (work_status c.work.result)
+    (ap shown_request c.in-Work.is ∙ working _ _ _ _ _ c.as_str-in-Work.ensures.value c.as_str-in-Work-2.ensures.value) c.from-in-Work.ensures
+    (g.S.Shelf.told c.args.shelf.now).files (g.S.Shelf.told c.args.shelf.now).taken (g.S.Shelf.told c.work.new.shelf).taken c.work.ensures.ends
+
+pub returns-in-Work-clause-quiet : goal.returns-in-Work-clause-quiet
+returns-in-Work-clause-quiet g c = quiet_as c.from-in-Work.ensures c.work.ensures.quiet
+
+-- ---- gather
+
+pub gather-requires-clause-jobs : goal.gather-requires-clause-jobs
+gather-requires-clause-jobs g c =
+    (admitted_as (shown_request c.args.request) (gather c.as_str-in-Gather.result.now c.as_str-in-Gather-2.result.now (map string_bytes c.deref.result.now) c.as_str-in-Gather-3.result.now)
+    (λ name. IsTrue ((g.S.Shelf.told c.args.shelf.now).admits name)) (λ name. IsTrue ((g.D.Disk.told c.args.disk.now).admits name)) (g.S.Shelf.told c.args.shelf.now).files
+    (ap shown_request c.in-Gather.is ∙ gathering _ _ _ _ _ _ _ _ c.as_str-in-Gather.ensures.value c.as_str-in-Gather-2.ensures.value c.deref.ensures.value c.as_str-in-Gather-3.ensures.value) c.requires.admitted).jobs
+
+pub gather-requires-clause-answers : goal.gather-requires-clause-answers
+gather-requires-clause-answers g c =
+    (admitted_as (shown_request c.args.request) (gather c.as_str-in-Gather.result.now c.as_str-in-Gather-2.result.now (map string_bytes c.deref.result.now) c.as_str-in-Gather-3.result.now)
+    (λ name. IsTrue ((g.S.Shelf.told c.args.shelf.now).admits name)) (λ name. IsTrue ((g.D.Disk.told c.args.disk.now).admits name)) (g.S.Shelf.told c.args.shelf.now).files
+    (ap shown_request c.in-Gather.is ∙ gathering _ _ _ _ _ _ _ _ c.as_str-in-Gather.ensures.value c.as_str-in-Gather-2.ensures.value c.deref.ensures.value c.as_str-in-Gather-3.ensures.value) c.requires.admitted).answers
+
+pub gather-requires-clause-journal : goal.gather-requires-clause-journal
+gather-requires-clause-journal g c =
+    (admitted_as (shown_request c.args.request) (gather c.as_str-in-Gather.result.now c.as_str-in-Gather-2.result.now (map string_bytes c.deref.result.now) c.as_str-in-Gather-3.result.now)
+    (λ name. IsTrue ((g.S.Shelf.told c.args.shelf.now).admits name)) (λ name. IsTrue ((g.D.Disk.told c.args.disk.now).admits name)) (g.S.Shelf.told c.args.shelf.now).files
+    (ap shown_request c.in-Gather.is ∙ gathering _ _ _ _ _ _ _ _ c.as_str-in-Gather.ensures.value c.as_str-in-Gather-2.ensures.value c.deref.ensures.value c.as_str-in-Gather-3.ensures.value) c.requires.admitted).disk
+
+pub returns-in-Gather-clause-took : goal.returns-in-Gather-clause-took
+returns-in-Gather-clause-took g c =
+    took_as (shown_request c.args.request) (gather c.as_str-in-Gather.result.now c.as_str-in-Gather-2.result.now (map string_bytes c.deref.result.now) c.as_str-in-Gather-3.result.now) c.from-in-Gather.result (gather_status c.gather.result)
+    (ap shown_request c.in-Gather.is ∙ gathering _ _ _ _ _ _ _ _ c.as_str-in-Gather.ensures.value c.as_str-in-Gather-2.ensures.value c.deref.ensures.value c.as_str-in-Gather-3.ensures.value) c.from-in-Gather.ensures
+    (g.S.Shelf.told c.args.shelf.now).files (g.K.Sink.taken c.args.out.now) (g.K.Sink.taken c.gather.new.out) c.gather.ensures.took
+
+pub returns-in-Gather-clause-ends : goal.returns-in-Gather-clause-ends
+returns-in-Gather-clause-ends g c =
+    ends_as (shown_request c.args.request) (gather c.as_str-in-Gather.result.now c.as_str-in-Gather-2.result.now (map string_bytes c.deref.result.now) c.as_str-in-Gather-3.result.now) c.from-in-Gather.result (gather_status c.gather.result)
+    (ap shown_request c.in-Gather.is ∙ gathering _ _ _ _ _ _ _ _ c.as_str-in-Gather.ensures.value c.as_str-in-Gather-2.ensures.value c.deref.ensures.value c.as_str-in-Gather-3.ensures.value) c.from-in-Gather.ensures
+    (g.S.Shelf.told c.args.shelf.now).files (g.S.Shelf.told c.args.shelf.now).taken (g.S.Shelf.told c.gather.new.shelf).taken c.gather.ensures.ends
+
+pub returns-in-Gather-clause-journal : goal.returns-in-Gather-clause-journal
+returns-in-Gather-clause-journal g c = λ tells.
+    leaves_as (shown_request c.args.request) (gather c.as_str-in-Gather.result.now c.as_str-in-Gather-2.result.now (map string_bytes c.deref.result.now) c.as_str-in-Gather-3.result.now) c.from-in-Gather.result (gather_status c.gather.result)
+    (ap shown_request c.in-Gather.is ∙ gathering _ _ _ _ _ _ _ _ c.as_str-in-Gather.ensures.value c.as_str-in-Gather-2.ensures.value c.deref.ensures.value c.as_str-in-Gather-3.ensures.value) c.from-in-Gather.ensures
+    (g.S.Shelf.told c.args.shelf.now).files (g.D.Disk.told c.args.disk.now) (g.D.Disk.told c.gather.new.disk)
+    (g.K.Sink.taken c.args.out.now) (g.K.Sink.taken c.gather.new.out) (c.gather.ensures.journal tells)
+
+pub returns-in-Gather-clause-quiet : goal.returns-in-Gather-clause-quiet
+returns-in-Gather-clause-quiet g c = quiet_as c.from-in-Gather.ensures c.gather.ensures.quiet

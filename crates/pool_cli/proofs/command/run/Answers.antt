@@ -1,25 +1,17 @@
-use Rattle.std.proofs.Common.{◌≡◌, inl, inr, Err, map, string_bytes, refl, sym, ap, subst, ◌∙◌}
-use Rattle.std.specs.Prelude.{IsTrue}
-use Rattle.edge_io.specs.Writing.{behind}
-use Rattle.node_journal.proofs.Runs.{quiet-start}
-use Rattle.cert_format.specs.Text.{text_of}
-use Rattle.cli_words.specs.Asks.{Asks}
-use Rattle.cli_words.specs.Requests.{solve}
+use Rattle.std.proofs.Common.{inl, inr, Err, map, string_bytes, refl, sym, ap, subst, ◌∙◌}
 use Rattle.cli_words.specs.Views.{shown_request}
-use Rattle.journal_status.specs.JournalEnds.{IsUnopened}
-use Rattle.solve_command.specs.Journaled.{Journaled}
-use Rattle.pool_cli.specs.Ends.{AnswersAs, EndsAs, HasNoJournal, IsUnanswered, JournalsAs}
-use Rattle.pool_cli.proofs.Commands.{admitted, ends_as, no_usage, nothing_told, took_as}
+use Rattle.pool_cli.specs.Ends.{AnswersAs, EndsAs, HasNoJournal, IsUnanswered, LeavesAs}
+use Rattle.pool_cli.proofs.Commands.{ends_as, leaves_as, no_usage, nothing_told, took_as}
 use Rattle.pool_cli.proofs.Decided.{decided}
-use Rattle.pool_cli.proofs.Gaps.{gap-asked}
-use Rattle.pool_cli.proofs.Words.{no_words_fault, words_ends, words_took, words_unanswered, words_unopened, words_usage}
+use Rattle.pool_cli.proofs.Gaps.{fair-gap}
+use Rattle.pool_cli.proofs.Words.{no_words_fault, words_ends, words_leave, words_took, words_unanswered, words_usage}
 use Rattle.pool_cli.proofs.command.run.Goals as goal
 
 pub answer-requires : goal.answer-requires
-answer-requires g c =
-    admitted (Asks (map string_bytes c.args.words.now)) (λ name. IsTrue ((g.S.Shelf.told c.args.shelf.now).admits name)) (λ name. IsTrue ((g.D.Disk.told c.args.disk.now).admits name))
-    (g.S.Shelf.told c.args.shelf.now).files (gap-asked (map string_bytes c.args.words.now)) c.requires.solve c.requires.journal c.requires.check c.requires.certificate c.requires.report
-    c.requires.reported c.requires.formulate (shown_request c.in-Ok.request) c.in-Ok.ensures.asks
+answer-requires g c = record {
+  admitted = c.requires (shown_request c.in-Ok.request) c.in-Ok.ensures.asks;
+  gap = fair-gap (map string_bytes c.args.words.now) (shown_request c.in-Ok.request) c.in-Ok.ensures.asks;
+}
 
 -- ---- a request was read
 
@@ -55,12 +47,10 @@ returns-in-Ok-clause-decided g c = λ told asked is asks.
     (ends_as asked (shown_request c.in-Ok.request) c.answer.result c.answer.result (c.in-Ok.ensures.only asked asks) refl files before after c.answer.ensures.ends)
 
 pub returns-in-Ok-clause-journal : goal.returns-in-Ok-clause-journal
-returns-in-Ok-clause-journal g c = λ s file asks named tells.
-    let old = g.D.Disk.told c.args.disk.now in
-    let new = g.D.Disk.told c.answer.new.disk in
-    subst
-    (JournalsAs (λ t. Journaled (g.S.Shelf.told c.args.shelf.now).files t old new c.answer.result (λ k. g.K.Sink.taken c.answer.new.out ≡ behind (g.K.Sink.taken c.args.out.now) (text_of k))))
-    (sym (c.in-Ok.ensures.only (solve s) asks)) (c.answer.ensures.journal tells) file named
+returns-in-Ok-clause-journal g c = λ asked asks tells.
+    leaves_as asked (shown_request c.in-Ok.request) c.answer.result c.answer.result (c.in-Ok.ensures.only asked asks) refl
+    (g.S.Shelf.told c.args.shelf.now).files (g.D.Disk.told c.args.disk.now) (g.D.Disk.told c.answer.new.disk)
+    (g.K.Sink.taken c.args.out.now) (g.K.Sink.taken c.answer.new.out) (c.answer.ensures.journal tells)
 
 pub returns-in-Ok-clause-apart : goal.returns-in-Ok-clause-apart
 returns-in-Ok-clause-apart g c = λ asked asks none. c.answer.ensures.apart (subst HasNoJournal (c.in-Ok.ensures.only asked asks) none)
@@ -105,9 +95,9 @@ pub returns-in-Err-clause-disk_fault : goal.returns-in-Err-clause-disk_fault
 returns-in-Err-clause-disk_fault g c = λ is. absurd ((no_words_fault c.in-Err.fault).2 (sym c.status_of_words.ensures ∙ is))
 
 pub returns-in-Err-clause-journal : goal.returns-in-Err-clause-journal
-returns-in-Err-clause-journal g c = λ s file asks named tells.
-    inl (record {
-      unopened = subst IsUnopened (sym c.status_of_words.ensures) (words_unopened c.in-Err.fault (λ e. c.in-Err.ensures.usage (ap (λ f. Err f) e) (solve s) asks));
-      quiet = quiet-start (g.D.Disk.told c.args.disk.now);
-      none_attached = refl;
-    })
+returns-in-Err-clause-journal g c = λ asked asks tells.
+    let files = (g.S.Shelf.told c.args.shelf.now).files in
+    let disk = g.D.Disk.told c.args.disk.now in
+    let taken = g.K.Sink.taken c.args.out.now in
+    subst (LeavesAs files disk disk taken taken asked) (sym c.status_of_words.ensures)
+    (words_leave files disk taken c.in-Err.fault asked (λ e. c.in-Err.ensures.usage (ap (λ f. Err f) e) asked asks))

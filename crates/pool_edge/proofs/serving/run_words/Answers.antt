@@ -1,15 +1,11 @@
+use Rattle.std.specs.Prelude.{IsTrue}
+use Rattle.pool_cli.proofs.Admitting.{all_admitted}
 use Rattle.pool_edge.proofs.serving.run_words.Goals as goal
 
 pub run-requires : goal.run-requires
-run-requires g c = record {
-  solve = λ s asks. c.requires.shelf s.net;
-  check = λ net cert asks. c.requires.shelf net;
-  report = λ net cert asks. c.requires.shelf net;
-  formulate = λ net form asks. c.requires.shelf net;
-  certificate = λ net cert network asks reads. c.requires.shelf cert;
-  reported = λ net cert network asks reads. c.requires.shelf cert;
-  journal = λ s file asks named. c.requires.disk file;
-}
+run-requires g c = λ asked asks.
+    all_admitted (λ name. IsTrue ((g.S.Shelf.told c.args.shelf.now).admits name)) (λ name. IsTrue ((g.D.Disk.told c.args.disk.now).admits name)) c.requires.shelf c.requires.disk
+    (g.S.Shelf.told c.args.shelf.now).files asked
 
 pub returns : goal.returns
 returns g c = record {
