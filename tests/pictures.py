@@ -3,8 +3,9 @@
 
 Widths, numbers and marks of Haverly's first network and of the wastewater file are compared with what is worked out here by
 hand, from a certificate and from a report; a network of 64 sources is drawn without one thing over another; the colours of
-the three kinds of arcs stay apart for each kind of colour blindness; and nothing is drawn of what is refused. It prints what
-differs, and how many parts there were.
+the three kinds of arcs, and of the four marks of leaves, stay apart for each kind of colour blindness; the boxes of a tree stand
+where its cuts say, each with its bound and its mark; and nothing is drawn of what is refused. It prints what differs, and how
+many parts there were.
 """
 
 import itertools
@@ -80,6 +81,18 @@ proofs 0
 cost -160000000000000 8
 bound -300000000000000
 gap 2240000000000000 8
+end
+"""
+
+
+# Of examples/two_feeds.cert, whose leaf 3 holds no plan: all of A reaches the bound of leaf 2, and of leaf 4 nothing is said.
+TIGHT = """pooltight 1
+form pq
+pivots 7
+leaves 2
+tight 2 1 9 100000000 0 100000000 100000000 0 1048576 0 3000000 300000000000000
+loose 4 1 7
+bound -300000000000000
 end
 """
 
@@ -235,6 +248,46 @@ def colours(_):
             yield f"{one} and {other} are {distance:.0f} apart where the cone that is lacking is: {cone}"
 
 
+    marks = [colour for colour, *_ in tool.tree_picture.MARKS.values()]
+    for (cone, matrix), (one, other) in itertools.product(BLINDNESS.items(), itertools.combinations(marks, 2)):
+        distance = sum((a - b) ** 2 for a, b in zip(lightness_and_hue(one, matrix), lightness_and_hue(other, matrix))) ** 0.5
+        if distance < 20:
+            yield f"the marks {one} and {other} are {distance:.0f} apart where the cone that is lacking is: {cone}"
+
+
+def drawn_tree(folder, *words):
+    """The picture of the tree of two feeds: the left end, the top and the width of each box by its node, and the marks with theirs."""
+    done = run("--tree", EXAMPLES / "two_feeds.json", EXAMPLES / "two_feeds.cert", *words)
+    picture = tree.fromstring(done.stdout)
+    rects = [(rect, tuple(round(float(rect.get(key)), 1) for key in ("x", "y", "width"))) for rect in picture.iter(NAME + "rect") if rect.get("class")]
+    boxes = {int(rect.get("data-node")): place for rect, place in rects if rect.get("class") == "box"}
+    return picture, boxes, {(rect.get("class"), rect.get("fill"), place[0], place[2]) for rect, place in rects if rect.get("class") != "box"}
+
+
+def trees(folder):
+    """Three leaves, of which the first two are halves of node 1; the picture is 1,068 wide within its margin of 16."""
+    (folder / "marks.tight").write_text(TIGHT)
+    plain, boxes, marks = drawn_tree(folder)
+    if boxes != {0: (16, 64, 1068), 1: (16, 94, 712), 2: (728, 94, 356), 3: (16, 124, 356), 4: (372, 124, 356)} or marks:
+        yield f"two feeds: the boxes are {boxes}, the marks {marks}"
+    yield from lacking(plain, ["2 cuts \u00a0\u00a0 bound -300", "-300", "no plan", "the certificate was checked by tools/pooling.py"])
+    if texts(plain).count("-300") != 4 or texts(plain).count("no plan") != 1:
+        yield f"two feeds: the bounds are {texts(plain)}"
+    dashed = [rect.get("data-node") for rect in plain.iter(NAME + "rect") if rect.get("stroke-dasharray")]
+    if dashed != ["3"]:
+        yield f"two feeds: without a plan are {dashed}"
+    marked, again, marks = drawn_tree(folder, folder / "marks.tight")
+    if again != boxes or marks != {("mark tight", svg.BLUE, 728, 356), ("mark loose", svg.PALE, 372, 356)}:
+        yield f"two feeds: the boxes with marks are {again}, the marks {marks}"
+    wanted = ["2 cuts \u00a0\u00a0 bound -300 \u00a0\u00a0 with the marks by form pq -300", "tight 1: the rows allow no better bound", "loose 1: nothing is said"]
+    yield from lacking(marked, wanted)
+    titles = {rect.findtext(NAME + "title") for rect in marked.iter(NAME + "rect")}
+    for words in ("box 3, not cut: holds no plan; the part of B in P at most 0.25",
+                  "box 2, not cut: no plan costs less than -300; the part of A in P at least 0.5; tight: the rows allow no better bound"):
+        if words not in titles:
+            yield f"two feeds: no box says {words}; {titles}"
+
+
 def other_kinds(_):
     for net, cert, head in (("row1", "row1_bound", "no plan is known \u00a0\u00a0 bound -300"), ("no_plan", "no_plan", "no plan obeys")):
         yield from lacking(drawn(EXAMPLES / f"{net}.json", EXAMPLES / f"{cert}.cert"), [head])
@@ -251,6 +304,10 @@ def odd_names(folder):
 def refused(folder):
     (folder / "plan.report").write_text(REPORT)
     (folder / "short.report").write_text(REPORT.replace("slack             0.000000 sewer\n", ""))
+    (folder / "marks.tight").write_text(TIGHT)
+    (folder / "false.tight").write_text(TIGHT.replace(" 1048576 0 ", " 1048575 0 "))
+    (folder / "cut.tight").write_text(TIGHT[:40])
+    feeds, of_feeds, false, cut = EXAMPLES / "two_feeds.json", EXAMPLES / "two_feeds.cert", folder / "false.tight", folder / "cut.tight"
     row1, nowhere = EXAMPLES / "row1.json", folder / "nowhere"
     cases = [
         ([row1, EXAMPLES / "refused" / "cost.cert"], 1, f"{EXAMPLES / 'refused' / 'cost.cert'}: refused cost"),
@@ -261,17 +318,22 @@ def refused(folder):
         ([EXAMPLES / "row1.cert"], 3, f"{EXAMPLES / 'row1.cert'}:1:1: the file: it is no JSON (2)\n    stands there: poolcert 1 kind gap\n    right:        a text in double quotes, a number, a list or an object"),
         ([nowhere], 20, f"{nowhere}: No such file or directory"),
         ([row1, nowhere], 20, f"{nowhere}: No such file or directory"),
+        (["--tree", feeds, of_feeds, false], 1, f"{false}: refused tight 3"),
+        (["--tree", feeds, of_feeds, cut], 1, f"{cut}: refused tight 1\nthe first faulty line is 5"),
+        (["--tree", feeds, of_feeds, nowhere], 20, f"{nowhere}: it can't be read"),
+        (["--tree", feeds, EXAMPLES / "haverly1.cert", false], 1, f"{EXAMPLES / 'haverly1.cert'}: refused shape"),
     ]
     for words, status, line in cases:
         found = run(*words)
         if (found.returncode, found.stdout, found.stderr) != (status, "", line + "\n"):
             yield f"{words}: {found.returncode} {found.stdout[:60]} {found.stderr}"
-    if [run(*words).returncode for words in (["--help"], [], [row1, row1, row1])] != [0, 2, 2]:
+    marks = folder / "marks.tight"
+    if [run(*words).returncode for words in (["--help"], [], [row1, row1, row1, row1], [feeds, of_feeds, marks], ["--tree", feeds])] != [0, 2, 2, 2, 2]:
         yield "help and usage have other statuses"
 
 
 def main():
-    parts = [haverly, wastewater, mixed, legible, colours, other_kinds, odd_names, refused]
+    parts = [haverly, wastewater, mixed, legible, colours, trees, other_kinds, odd_names, refused]
     with tempfile.TemporaryDirectory() as folder:
         differ = [fault for part in parts for fault in part(Path(folder))]
     print(*differ, sep="\n", end="\n" if differ else "")

@@ -66,6 +66,7 @@ class Engine:
     how many seconds a worker takes for a leaf, by those that came last; none before any came."""
 
     task_seconds = 1.0  # so long a task should take, for its start to cost little
+    rounds_ahead = 10  # so many times as long as the commands between two rounds take, the leaves that wait should last
     newest = 0.5  # so much what came last counts in the pace
 
     def __init__(self, words, net):
@@ -84,6 +85,10 @@ class Engine:
     def leaves_waiting(self):
         return sum(len(task.nodes) for task in self.waiting)
 
+    def fewest(self):
+        """So many leaves wait, also where few splits were made."""
+        return 2 * self.slots
+
     def ended(self):
         """The tasks that have come back since the last call."""
         self.go_on()
@@ -96,11 +101,15 @@ class Local(Engine):
     """So many processes at a time on this machine."""
 
     task_seconds = 0.25
+    rounds_ahead = 2  # what was handed out late is what the tree needs next
     newest = 0.1
 
     def __init__(self, words, net):
         super().__init__(words, net)
         self.running, self.busy, self.seen = {}, 0.0, (time.monotonic(), 0.0)
+
+    def fewest(self):
+        return max(1, self.slots // 2)
 
     def go_on(self):
         now = time.monotonic()

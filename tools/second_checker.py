@@ -1,14 +1,16 @@
 #!/usr/bin/env python3
 """A second checker of certificates for the pooling problem: `second_checker.py NET CERT` prints the line that
-`pool check NET CERT` prints, and ends with its status. It was written from docs/FORMATS.md alone, without a look at the
-program, in whole numbers and plain Python 3.9. Its parts follow that page; single letters are those of its formulas."""
-import collections, io, itertools, json, os, re, sys, types
+`pool check NET CERT` prints, and `second_checker.py NET CERT --tight FILE` that of `pool checktight NET CERT FILE`; each
+ends with the program's status. Of a tight text that is none it tells the first faulty line too, on standard error. It was
+written from docs/FORMATS.md, in whole numbers and plain Python 3.9; what judges certificates without a look at the program. Its parts follow
+that page; single letters are those of its formulas."""
+import collections, io, itertools, json, math, os, re, sys, types
 G, UNIT, NETWORK_BYTES, CERTIFICATE_BYTES = 1_048_576, 1_000_000, 4_194_304, 1_073_741_824
 U32, U64, I64, I128 = (0, 2**32 - 1), (0, 2**64 - 1), (-2**63, 2**63 - 1), (-2**127, 2**127 - 1)
 Number = collections.namedtuple("Number", "text")           # a JSON number as it is written
-class Refused(Exception): pass                              # the network or the certificate; the argument tells why
-def refuse(fault, why):
-    if fault: raise Refused(why)
+class Refused(Exception): pass                              # the argument tells why; a second one is a remark on it
+def refuse(fault, *why):
+    if fault: raise Refused(*why)
 # THE NETWORK FILE: JSON. Python's json module takes more than the page does; check_tokens and keep_number see to that.
 # A token is an escaped surrogate pair, half of one, any other escape, or what opens or closes a text, list or object.
 TOKEN = re.compile(r'\\u[dD][89abAB]..\\u[dD][c-fC-F]..|(\\u[dD][89a-fA-F])|\\.|["\[\]{}]', re.DOTALL)
@@ -99,21 +101,33 @@ def judge_rows(net):
         if node.max is None: node.max = sum(p.max for p in products)
     return net
 # THE CERTIFICATE: line after line. A fault is told with the number of the line that was taken last.
-def read_certificate(data):
-    stream, cert, taken = io.BytesIO(data), types.SimpleNamespace(), 0
-    def refuse_text(fault): refuse(fault, f"text {taken}")
-    def take(words, count, *ranges):                        # a range for each number; the last two go on over and over
-        nonlocal taken
-        taken += 1
-        line, ranges = stream.readline(), itertools.chain(ranges, itertools.cycle(ranges[-2:]))
+class Text:
+    def __init__(self, data, tell): self.stream, self.tell, self.taken = io.BytesIO(data), tell, 0
+    def refuse(self, fault): refuse(fault, *self.tell(self.taken))
+    def begins(self, words):                                # whether the next line begins with these words
+        at = self.stream.tell()
+        found = self.stream.read(len(words))
+        self.stream.seek(at)
+        return found == words
+    def take(self, words, count, *ranges):                  # a range for each number; the last two go on over and over
+        self.taken += 1
+        line, ranges = self.stream.readline(), itertools.chain(ranges, itertools.cycle(ranges[-2:]))
         try: numbers = [int(field[:41]) for field in line[len(words):].split()]     # 41 bytes are too many
         except ValueError: numbers = []
-        refuse_text(line != words + b"".join(b" %d" % number for number in numbers) + b"\n")     # their one writing
+        self.refuse(line != words + b"".join(b" %d" % number for number in numbers) + b"\n")     # their one writing
         if words == b"proof": count = 3 + 2 * sum(numbers[2:3])     # the third number tells how many pairs follow
-        refuse_text(len(numbers) != count or not all(low <= n <= high for n, (low, high) in zip(numbers, ranges)))
+        self.refuse(count is not None and len(numbers) != count)
+        self.refuse(not all(low <= n <= high for n, (low, high) in zip(numbers, ranges)))
         return numbers
+    def end(self):
+        self.take(b"end", 0)
+        self.taken += 1                                     # the rest, which must be empty
+        self.refuse(self.stream.read(1))
+def read_certificate(data):
+    text, cert = Text(data, lambda line: [f"text {line}"]), types.SimpleNamespace()
+    take = text.take
     take(b"poolcert", 1, (1, 1))
-    cert.kind = next((k for k in ("gap", "bound") if data.startswith(f"poolcert 1\nkind {k}\n".encode())), "none")
+    cert.kind = next((kind for kind in ("gap", "bound") if text.begins(f"kind {kind}\n".encode())), "none")
     take(f"kind {cert.kind}".encode(), 0)
     cert.shape = take(b"shape", 7, U32)
     if cert.kind == "gap":
@@ -125,9 +139,7 @@ def read_certificate(data):
     if cert.kind == "gap": cert.cost = take(b"cost", 2, I128, U64)
     if cert.kind != "none": [cert.bound] = take(b"bound", 1, I128)
     if cert.kind == "gap": cert.gap, _ = take(b"gap", 2, I128, (cert.cost[1], cert.cost[1]))
-    take(b"end", 0)
-    taken += 1                                              # the rest, which must be empty
-    refuse_text(stream.read(1))
+    text.end()
     return cert
 
 # THE WRITTEN PLAN: rules, cost, base. `pick` takes the values of those pairs of numbers that have a number on a side.
@@ -162,8 +174,9 @@ def ends(variable, low, high):
     products = [low[p] * low[y], low[p] * high[y], high[p] * low[y], high[p] * high[y]]
     return min(products), max(products)
 def make_rows(net):
-    """The root box, the costs of variables, and the rows: whether at least, constant, coefficients by variable. That of
-    an envelope depends on the box: it has its side for a constant, and its scale, a, b, f for coefficients."""
+    """The root box, the variables in order, their costs, which rows each form has, and the rows: whether at least,
+    constant, coefficients by variable. That of an envelope depends on the box: it has its side for a constant, and its
+    scale, a, b, f for coefficients."""
     feeds, outs, directs, paths, sides = net.feeds, net.outs, net.directs, net.paths, (1, 2, 3, 4)
     A, S, D = ([node.max for node in nodes] for nodes in (net.sources, net.pools, net.products))
     c, q = [source.cost for source in net.sources], [source.quality for source in net.sources]
@@ -180,6 +193,7 @@ def make_rows(net):
     v = [[(p[l * len(qualities) + k], y[o]) for o, (l, _) in enumerate(outs)] for k in qualities]
     costs = [-price[j] for _, j in outs] + [c[s] for s, _ in feeds] + [c[s] - price[j] for s, j in directs]
     net.costs = dict(zip(y + x + z, costs))
+    net.variables = x + y + z + w + Q + p + [v[k][o] for o in range(len(outs)) for k in qualities]
     def times(factor, *variables): return dict.fromkeys(itertools.chain(*variables), factor)
     def limit_row(sign, j, k, U, carried):                  # of a most; for a least all signs are turned
         direct = {z[i]: sign * (U - q[s][k]) for i, (s, end) in enumerate(directs) if end == j}
@@ -189,17 +203,22 @@ def make_rows(net):
     rows += [(True, S[l], times(-1, pick(y, outs, 0, l))) for l in pools]                                       # N3
     rows += [(True, D[j], times(-1, pick(y, outs, 1, j), pick(z, directs, 1, j))) for j in products]            # N4
     rows += [(True, -least[j], times(1, pick(y, outs, 1, j), pick(z, directs, 1, j))) for j in products]        # N5
+    after_n = len(rows)
     rows += [(False, 0, {x[e]: q[s][k] for e, (s, end) in enumerate(feeds) if end == l}
               | times(-1, pick(v[k], outs, 0, l))) for l in pools for k in qualities]                           # P1
     rows += [limit_row(sign, j, k, U, times(1, pick(v[k], outs, 1, j))) for sign, j, k, U in net.limits]        # P2, P3
     rows += [(True, side, (1, *v[k][o], v[k][o])) for o in range(len(outs)) for k in qualities for side in sides]  # P4
+    after_p = len(rows)
     rows += [(False, -G, times(1, pick(Q, feeds, 1, l))) for l in pools]                                        # Q1
     rows += [(False, 0, {x[e]: 1} | times(-1, pick(w, paths, 0, e))) for e in range(len(feeds))]                # Q2
     rows += [limit_row(sign, j, k, U, {w[i]: q[feeds[e][0]][k] for i, (e, o) in enumerate(paths) if outs[o][1] == j})
              for sign, j, k, U in net.limits]                                                                   # Q3, Q4
     rows += [(True, side, (G, Q[e], y[o], w[i])) for i, (e, o) in enumerate(paths) for side in sides]           # Q5
+    after_q = len(rows)
     rows += [(False, 0, times(1, pick(w, paths, 1, o)) | {y[o]: -1}) for o in range(len(outs))]                 # PQ1
     rows += [(True, 0, {Q[e]: S[l]} | times(-G, pick(w, paths, 0, e))) for e, (_, l) in enumerate(feeds)]       # PQ2
+    net.forms = {"p": [*range(after_p)]} | {form: [*range(after_n), *range(after_p, to)]
+                                              for form, to in (("q", after_q), ("pq", len(rows)))}
     return rows
 def row_in_box(constant, coefficients, low, high):          # what they are in this box
     if isinstance(coefficients, dict): return constant, coefficients
@@ -258,7 +277,95 @@ def tree_bound(net, cert):                                  # the least bound of
     for node, (low, high) in enumerate(zip(tree.lows, tree.highs)):
         bound = bounds[cert.splits[(node - 1) // 2][0]] if node else reach_bound(net)       # the parent's
         bounds.append(node_bound(net, bound, proofs.get(node), low, high))
-    return min((b for node, b in enumerate(bounds) if b is not None and node not in tree.cut_nodes), default=None)
+    net.leaves = {node: (bound, (tree.lows[node], tree.highs[node])) for node, bound in enumerate(bounds)
+                  if bound is not None and node not in tree.cut_nodes}                  # those that may hold a plan
+    return min((bound for bound, _ in net.leaves.values()), default=None)
+
+# THE TIGHT TEXT: its lines, with the numbers of certificates.
+def read_mark(text):
+    word = next((word for word in ("raised", "empty", "loose") if text.begins(word.encode())), "tight")
+    fields = iter(text.take(word.encode(), None, I128))
+    def number(low, high):
+        found = next(fields, None)
+        text.refuse(found is None or not low <= found <= high)
+        return found
+    def proof(): return [mark.node, number(*U64), 0] + [number(*each) for _ in range(number(*U32)) for each in (U32, I64)]
+    def point(): return number(*U64), [number(*I128) for _ in range(number(*U32))]
+    def fraction():
+        num, den = number(-I128[1], I128[1]), number(1, I128[1])
+        text.refuse(math.gcd(num, den) > 1)                                             # in lowest terms
+        return num, den
+    mark = types.SimpleNamespace(word=word, node=number(*U32), proof=None, point=None)
+    if word == "loose": mark.reason = number(1, 5)
+    if word in ("raised", "empty") or word == "loose" and mark.reason == 4: mark.proof = proof()
+    if word in ("tight", "raised") or word == "loose" and mark.reason == 5: mark.point = point()
+    if word == "loose" and mark.reason == 1: mark.numbers = number(*U32)
+    if word == "loose" and mark.reason == 2: mark.numbers = number(1, 4), fraction(), fraction()
+    if word == "loose" and mark.reason == 3: mark.numbers = number(*U64), fraction()
+    text.refuse(next(fields, None) is not None)
+    return mark
+def read_tight(data):
+    text = Text(data, lambda line: ["tight 1", f"the first faulty line is {line}"])
+    tight = types.SimpleNamespace(bound=None)
+    text.take(b"pooltight", 1, (1, 1))
+    tight.form = next((form for form in ("p", "q") if text.begins(f"form {form}\n".encode())), "pq")
+    text.take(f"form {tight.form}".encode(), 0)
+    [tight.pivots] = text.take(b"pivots", 1, U32)
+    tight.marks = [read_mark(text) for _ in range(*text.take(b"leaves", 1, U32))]
+    if text.begins(b"bound none"): text.take(b"bound none", 0)
+    else: [tight.bound] = text.take(b"bound", 1, I128)
+    text.end()
+    return tight
+# THE TIGHT TEXT: whether a mark says what is so of a form's rows in the box of its leaf.
+def sums_at(net, form, box, point):                         # of the cost and of each row: whether at least, value, weight
+    base, at = point[0], dict(zip(net.variables, point[1]))
+    rows = [(net.rows[row][0], *row_in_box(*net.rows[row][1:], *box)) for row in net.forms[form]]
+    products = [(at_least, b * base, [a * at[variable] for variable, a in coefficients.items()])
+                for at_least, b, coefficients in [(None, 0, net.costs)] + rows]
+    return [(at_least, b + sum(parts), abs(b) + sum(map(abs, parts))) for at_least, b, parts in products]
+def has_shape(net, point): return point[0] > 0 and len(point[1]) == len(net.variables)
+def is_light(sums): return all(weight <= 2**126 for _, _, weight in sums)
+def is_witness(net, form, box, bound, point):               # light, in the box, on the rows, and below bound + 1
+    if not has_shape(net, point): return False
+    (base, values), sides = point, [ends(variable, *box) for variable in net.variables]
+    (_, cost, _), *rows = sums = sums_at(net, form, box, point)
+    return (is_light(sums) and all(base * low <= value <= base * high for value, (low, high) in zip(values, sides))
+            and all(number >= 0 if at_least else number == 0 for at_least, number, _ in rows) and cost < (bound + 1) * base)
+def shown(net, box, proof):                                 # what it shows: a bound, or none where no plan; or its fault
+    try: return node_bound(net, -math.inf, proof, *box), None
+    except Refused as why: return None, int(str(why)[-1])
+def is_wide(operation, a, b):                               # 1 to 4: add, sub, mul, div
+    (n, m), (k, l) = a, b
+    if operation < 3:
+        common, sign = math.gcd(m, l), 3 - 2 * operation
+        left, right, den = n * (l // common), sign * k * (m // common), m * (l // common)
+        return any(abs(number) > I128[1] for number in (left, right, den, left + right))
+    num, den = (n * k, m * l) if operation == 3 else (n * l, m * k)
+    return den != 0 and max(abs(num), abs(den)) // math.gcd(num, den) > I128[1]
+def is_coarse(n, f):                                        # no short common denominator, or too large over n
+    return n > 0 and (math.lcm(n, f[1]) > U64[1] or not I64[0] * f[1] <= n * f[0] <= I64[1] * f[1])
+def shows_more(net, form, bound, box, mark):                # a proof and its point; what no plan obeys is above all
+    number, fault = shown(net, box, mark.proof)
+    if fault or not set(mark.proof[3::2]) <= set(net.forms[form]): return False
+    if mark.word == "empty": return number is None
+    return number is not None and number > bound and is_witness(net, form, box, number, mark.point)
+def is_so(net, tight, mark):
+    bound, box = net.leaves[mark.node]
+    if mark.word == "tight": return is_witness(net, tight.form, box, bound, mark.point)
+    if mark.word != "loose": return shows_more(net, tight.form, bound, box, mark)
+    return {1: lambda: mark.numbers == tight.pivots, 2: lambda: is_wide(*mark.numbers), 3: lambda: is_coarse(*mark.numbers),
+            4: lambda: shown(net, box, mark.proof)[1] == 5,
+            5: lambda: has_shape(net, mark.point) and not is_light(sums_at(net, tight.form, box, mark.point))}[mark.reason]()
+def check_tight(net, data):                                 # behind `check`, which leaves the leaves
+    tight = read_tight(data)
+    refuse([mark.node for mark in tight.marks] != sorted(net.leaves), "tight 2")
+    refuse(not all(is_so(net, tight, mark) for mark in tight.marks), "tight 3")
+    bounds = [shown(net, net.leaves[mark.node][1], mark.proof)[0] if mark.word == "raised" else net.leaves[mark.node][0]
+              for mark in tight.marks if mark.word != "empty"]
+    refuse(tight.bound != min(bounds, default=None), "tight 4")
+    counts = collections.Counter(mark.word for mark in tight.marks)
+    told = " ".join(f"{word} {counts[word]}" for word in ("tight", "raised", "empty", "loose"))
+    return f"accepted {told} bound {'none' if tight.bound is None else tight.bound}"
 
 # THE ORDER OF REFUSALS, AND THE COMMAND
 def check(net, data):
@@ -276,25 +383,30 @@ def check(net, data):
 def read_file(name, most):                                  # by pieces; of a file that is too long one piece too many
     with open(name, "rb") as file:
         return b"".join(itertools.islice(iter(lambda: file.read(2**20), b""), most // 2**20 + 1))
-def run(words):                                             # the status, and the line to write
-    if len(words) != 2 or any(word[:1] in ("", "-") for word in words):
+def judge(words):                                           # the status, the line to write, and remarks
+    at = words.index("--tight") if "--tight" in words else len(words)
+    names = words[:at] + words[at + 2:] + words[at + 1:at + 2]              # that of the tight text last
+    if len(names) != (2 if at == len(words) else 3) or any(name[:1] in ("", "-") for name in names):
         return 2, "pool: usage: solve NET, check NET CERT, report NET CERT, formulate NET, make N or trial N"
     status, front = 3, "pool: network refused:"
     try:
-        net = judge_rows(walk(parse_json(read_file(words[0], NETWORK_BYTES))))
-        data = read_file(words[1], CERTIFICATE_BYTES)
-        if len(data) > CERTIFICATE_BYTES: return 5, "pool: certificate too long"
-        status, front = 1, "refused"
-        return 0, check(net, data)
-    except Refused as why: return status, f"{front} {why}"
+        net = judge_rows(walk(parse_json(read_file(names[0], NETWORK_BYTES))))
+        for name, judged in zip(names[1:], (check, check_tight)):
+            data = read_file(name, CERTIFICATE_BYTES)
+            if len(data) > CERTIFICATE_BYTES: return 5, "pool: certificate too long"
+            status, front = 1, "refused"
+            line = judged(net, data)
+        return 0, line
+    except Refused as why: return status, f"{front} {why.args[0]}", *why.args[1:]
     except OSError: return 20, "pool: read fault"
     except MemoryError: return 23, "pool: out of memory"
+def run(words): return judge(words)[:2]                     # the status, and the line to write
 def written(number, line):                                  # whether all of the line was written
     try: return os.write(number, f"{line}\n".encode()) > len(line)
     except OSError: return False
 def main():
-    status, line = run(sys.argv[1:])
+    status, line, *remarks = judge(sys.argv[1:])
     if status < 2 and not written(1, line): status, line = 21, "pool: write fault"
-    if status >= 2: written(2, line)
+    for remark in [line] * (status >= 2) + remarks: written(2, remark)
     sys.exit(status)
 if __name__ == "__main__": main()

@@ -1,3 +1,3 @@
 pub mod Decided
 mod Reported
-mod Streamed
+pub mod Streamed

@@ -6,8 +6,8 @@ use Rattle.std.proofs.lemmas.Slice.Eq.{bytes_eq-Decides}
 use Rattle.clap.specs.Words.{Row, first_of}
 use Rattle.quantity.proofs.Laws.{quantity-only}
 use Rattle.command_items.specs.Items.{Text}
-use Rattle.cli_words.specs.Requests.{Asked, Solving, line_of, solve, check, report, formulate, make, trial, jobs, work, gather}
-use Rattle.cli_words.specs.Asks.{Asks, IsCount, IsForm, IsGap, IsNodes, IsNumber, IsRule, IsSolving, IsSwitch, Says, form_name, rule_name, switch_name}
+use Rattle.cli_words.specs.Requests.{Asked, Solving, line_of, solve, check, report, formulate, make, trial, jobs, work, gather, tight, checktight}
+use Rattle.cli_words.specs.Asks.{Asks, IsCount, IsForm, IsGap, IsNodes, IsNumber, IsPivots, IsRule, IsSolving, IsSwitch, Says, form_name, rule_name, switch_name}
 use Rattle.cli_words.specs.Views.{Answers, Means, Reads, Takes, shown_request}
 use Rattle.box_space.specs.declared.coordinates.Form.{Form}
 use Rattle.box_space.specs.declared.coordinates.Form.TheVariants.{P, Q, Pq}
@@ -55,6 +55,11 @@ pub working : (rows : List Row) (asked : Asked) → Means (codes "work") rows as
 working rows (work net file form) m = (form, m.says.2)
 working rows asked m = absurd (apart _ _ refl m.is)
 
+pub tightening : (rows : List Row) (asked : Asked) → Means (codes "tight") rows asked
+    → ((form : Form) × IsForm (first_of (codes "form") rows) form) × ((n : ℕ) × IsPivots (first_of (codes "pivots") rows) n)
+tightening rows (tight net cert form n) m = ((form, m.says.2), (n, m.says.3))
+tightening rows asked m = absurd (apart _ _ refl m.is)
+
 -- what is meant twice is answered twice
 pub answers_same : {A B : Type 0} (shown : A → B) (M N : B → Type 0) (r : Result A WordsFault) → ((b : B) → M b → N b) → ((b : B) → N b → M b) → Takes shown M r → Answers shown N r
 answers_same shown M N (Ok a) to from h = to (shown a) h
@@ -96,6 +101,10 @@ one_switch (Some text) a b h k = same_switch a b (sym h ∙ k)
 one_nodes : (o : Option Text) (m n : ℕ) → IsNodes o m → IsNodes o n → m ≡ n
 one_nodes None m n h k = h ∙ sym k
 one_nodes (Some text) m n h k = sym h.amount ∙ k.amount
+
+one_pivots : (o : Option Text) (m n : ℕ) → IsPivots o m → IsPivots o n → m ≡ n
+one_pivots None m n h k = h ∙ sym k
+one_pivots (Some text) m n h k = sym h.amount ∙ k.amount
 
 one_count : (o : Option Text) (m n : ℕ) → IsCount o m → IsCount o n → m ≡ n
 one_count None m n h k = h ∙ sym k
@@ -145,6 +154,17 @@ one_said value values (gather a b xs j) (gather c d ys l) e h k =
     let answers = sym h.2 ∙ k.2 in
     let journal = some_same _ _ (sym h.3 ∙ k.3) in
     λ i. gather (net i) (file i) (answers i) (journal i)
+one_said value values (tight a b f m) (tight c d g n) e h k =
+    let net = some_same _ _ (sym h.0 ∙ k.0) in
+    let cert = some_same _ _ (sym h.1 ∙ k.1) in
+    let form = one_form (value (codes "form")) f g h.2 k.2 in
+    let pivots = one_pivots (value (codes "pivots")) m n h.3 k.3 in
+    λ i. tight (net i) (cert i) (form i) (pivots i)
+one_said value values (checktight a b x) (checktight c d y) e h k =
+    let net = some_same _ _ (sym h.0 ∙ k.0) in
+    let cert = some_same _ _ (sym h.1 ∙ k.1) in
+    let marks = some_same _ _ (sym h.2 ∙ k.2) in
+    λ i. checktight (net i) (cert i) (marks i)
 one_said value values a b e h k = absurd (apart _ _ refl e)
 
 -- words ask one request at most

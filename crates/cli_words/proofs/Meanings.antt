@@ -7,7 +7,7 @@ use Rattle.command_items.specs.Commands.{Commands, labelled, value_in, values_in
 use Rattle.command_items.specs.Views.{has_form, values_under}
 use Rattle.command_items.proofs.Entering.{Met, all_same_values, same_parts, same_values, some_same}
 use Rattle.command_items.proofs.Tables.{commands_form}
-use Rattle.cli_words.specs.Requests.{Asked, line_of, solve, check, report, formulate, make, trial, jobs, work, gather}
+use Rattle.cli_words.specs.Requests.{Asked, line_of, solve, check, report, formulate, make, trial, jobs, work, gather, tight, checktight}
 use Rattle.cli_words.specs.Asks.{Asks, Says}
 use Rattle.cli_words.specs.Views.{Means}
 
@@ -22,6 +22,8 @@ line_named-command (trial n) = refl
 line_named-command (jobs net journal count) = refl
 line_named-command (work net file form) = refl
 line_named-command (gather net file answers journal) = refl
+line_named-command (tight net cert form pivots) = refl
+line_named-command (checktight net cert marks) = refl
 
 -- what is asked has the form
 pub asks_form : (words : List Text) (asked : Asked) → Asks words asked → has_form words ≡ true

@@ -4,7 +4,7 @@ use Rattle.std.specs.Str.Parse.{IsNumeral, digits_value}
 use Rattle.pool_model.specs.Quantity.{StandsFor}
 use Rattle.command_items.specs.Items.{Text, Given}
 use Rattle.command_items.specs.Commands.{Commands, labelled, value_in, values_in}
-use Rattle.cli_words.specs.Requests.{Asked, Solving, line_of, solve, check, report, formulate, make, trial, jobs, work, gather}
+use Rattle.cli_words.specs.Requests.{Asked, Solving, line_of, solve, check, report, formulate, make, trial, jobs, work, gather, tight, checktight}
 use Rattle.box_space.specs.declared.coordinates.Form.{Form}
 use Rattle.box_space.specs.declared.coordinates.Form.TheVariants.{P, Q, Pq}
 use Rattle.branching.specs.declared.name.RuleName.{RuleName}
@@ -54,6 +54,11 @@ abbrev pub IsNodes : Option Text → ℕ → Type 0
 IsNodes None n = n ≡ 1000
 IsNodes (Some text) n = IsNumber text n
 
+-- the number of pivots that is written; 1000 where none is
+abbrev pub IsPivots : Option Text → ℕ → Type 0
+IsPivots None n = n ≡ 1000
+IsPivots (Some text) n = IsNumber text n
+
 -- the number of jobs that is written, from 1 to 1,000; 16 where none is
 abbrev pub IsCount : Option Text → ℕ → Type 0
 IsCount None n = n ≡ 16
@@ -96,6 +101,9 @@ Says value values (jobs net journal n) = (value (codes "net") ≡ Some net) × (
 Says value values (work net file form) = (value (codes "net") ≡ Some net) × (value (codes "jobs") ≡ Some file) × IsForm (value (codes "form")) form
 Says value values (gather net file answers journal) =
     (value (codes "net") ≡ Some net) × (value (codes "jobs") ≡ Some file) × (values (codes "answers") ≡ answers) × (value (codes "journal") ≡ Some journal)
+Says value values (tight net cert form n) =
+    (value (codes "net") ≡ Some net) × (value (codes "cert") ≡ Some cert) × IsForm (value (codes "form")) form × IsPivots (value (codes "pivots")) n
+Says value values (checktight net cert marks) = (value (codes "net") ≡ Some net) × (value (codes "cert") ≡ Some cert) × (value (codes "tight") ≡ Some marks)
 
 -- the words ask this: they are its command and items that fit, and it is what the items say
 pub record Asks (words : List Text) (asked : Asked) : Type 0 where

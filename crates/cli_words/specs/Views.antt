@@ -3,11 +3,11 @@ use Rattle.std.specs.Prelude.{◌≡◌, List, Ok, Err, Result, map, option_map,
 use Rattle.clap.specs.Words.{Row, first_of}
 use Rattle.command_items.specs.Items.{Text}
 use Rattle.command_items.specs.Views.{values_under}
-use Rattle.cli_words.specs.Requests.{Asked, Solving, line_of, solve, check, report, formulate, make, trial, jobs, work, gather}
+use Rattle.cli_words.specs.Requests.{Asked, Solving, line_of, solve, check, report, formulate, make, trial, jobs, work, gather, tight, checktight}
 use Rattle.cli_words.specs.Asks.{Says}
 use Rattle.cli_words.specs.declared.request.SolveWords.{SolveWords}
 use Rattle.cli_words.specs.declared.request.Request.{Request}
-use Rattle.cli_words.specs.declared.request.Request.TheVariants.{Solve, Check, Report, Formulate, Make, Trial, Jobs, Work, Gather}
+use Rattle.cli_words.specs.declared.request.Request.TheVariants.{Solve, Check, Report, Formulate, Make, Trial, Jobs, Work, Gather, Tight, CheckTight}
 use Rattle.cli_words.specs.declared.request.WordsFault.{WordsFault}
 use Rattle.cli_words.specs.declared.request.WordsFault.TheVariants.{Usage, Memory}
 
@@ -26,6 +26,8 @@ shown_request (Trial n) = trial n
 shown_request (Jobs net journal count) = jobs (string_bytes net) (string_bytes journal) count
 shown_request (Work net file form) = work (string_bytes net) (string_bytes file) form
 shown_request (Gather net file answers journal) = gather (string_bytes net) (string_bytes file) (map string_bytes answers.items) (string_bytes journal)
+shown_request (Tight net cert form pivots) = tight (string_bytes net) (string_bytes cert) form pivots
+shown_request (CheckTight net cert marks) = checktight (string_bytes net) (string_bytes cert) (string_bytes marks)
 
 -- ---- words of the inner contracts
 

@@ -8,7 +8,7 @@ ghost use Rattle.cli_words.specs.Asks.{Asks};
 ghost use Rattle.cli_words.specs.Views.{Answers, Means, Reads, Takes, shown_request};
 
 use crate::values::{
-    read_count, read_form, read_gap, read_nodes, read_number, read_rule, read_switch,
+    read_count, read_form, read_gap, read_nodes, read_number, read_pivots, read_rule, read_switch,
 };
 use crate::{Request, SolveWords, WordsFault};
 use clap::ArgMatches;
@@ -64,6 +64,8 @@ fn read_command(
         "jobs" => read_jobs(alloc, matches),
         "work" => read_work(alloc, matches),
         "gather" => read_gather(alloc, matches),
+        "tight" => read_tight(alloc, matches),
+        "checktight" => read_checktight(alloc, matches),
         _ => Err(WordsFault::Usage),
     }
 }
@@ -181,6 +183,37 @@ fn read_gather(alloc: Global, matches: &ArgMatches<'_>) -> Result<Request, Words
     let jobs = copied(alloc, jobs)?;
     let answers = copied_texts(alloc, texts_of(matches, "answers"))?;
     Ok(Request::Gather(net, jobs, answers, copied(alloc, journal)?))
+}
+
+fn read_tight(alloc: Global, matches: &ArgMatches<'_>) -> Result<Request, WordsFault>
+    ensures { Takes shown_request (Means (codes "tight") (rows_of (found_of matches.now))) result }
+{
+    let form = read_form(text_of(matches, "form"))?;
+    let pivots = read_pivots(text_of(matches, "pivots"))?;
+    let Some(net) = text_of(matches, "net") else {
+        return Err(WordsFault::Usage);
+    };
+    let Some(cert) = text_of(matches, "cert") else {
+        return Err(WordsFault::Usage);
+    };
+    Ok(Request::Tight(copied(alloc, net)?, copied(alloc, cert)?, form, pivots))
+}
+
+fn read_checktight(alloc: Global, matches: &ArgMatches<'_>) -> Result<Request, WordsFault>
+    ensures { Takes shown_request (Means (codes "checktight") (rows_of (found_of matches.now))) result }
+{
+    let Some(net) = text_of(matches, "net") else {
+        return Err(WordsFault::Usage);
+    };
+    let Some(cert) = text_of(matches, "cert") else {
+        return Err(WordsFault::Usage);
+    };
+    let Some(marks) = text_of(matches, "tight") else {
+        return Err(WordsFault::Usage);
+    };
+    let net = copied(alloc, net)?;
+    let cert = copied(alloc, cert)?;
+    Ok(Request::CheckTight(net, cert, copied(alloc, marks)?))
 }
 
 /// The value, if there is one, as a text of its own.

@@ -40,6 +40,11 @@ pub enum Request {
     Work(String, String, Form),
     /// To gather answers to jobs: the names of the network's file, of that of the jobs, of those of the answers and of the journal's.
     Gather(String, String, Vec<String>, String),
+    /// To mark the leaves of a certificate, each by whether the rows of a form allow a greater bound: the names of the network's file and of
+    /// the certificate's, the form, and how many pivots may be made at a leaf.
+    Tight(String, String, Form, u64),
+    /// To check marks of the leaves of a certificate: the names of the network's file, of the certificate's, and of that of the marks.
+    CheckTight(String, String, String),
 }
 
 /// Why there is no request.

@@ -1,7 +1,7 @@
 //! What the values of words say.
 
 ghost use Rattle.std.specs.Prelude.{option_map, IsSomeAnd, Some};
-ghost use Rattle.cli_words.specs.Asks.{IsCount, IsForm, IsGap, IsMoney, IsNodes, IsNumber, IsRule, IsSwitch};
+ghost use Rattle.cli_words.specs.Asks.{IsCount, IsForm, IsGap, IsMoney, IsNodes, IsNumber, IsPivots, IsRule, IsSwitch};
 ghost use Rattle.cli_words.specs.Views.{Reads};
 
 use crate::WordsFault;
@@ -68,6 +68,16 @@ pub(crate) fn read_gap(text: Option<&str>) -> Result<i128, WordsFault>
     }
 }
 
+/// The number of pivots that is written; 1000 where none is.
+pub(crate) fn read_pivots(text: Option<&str>) -> Result<u64, WordsFault>
+    ensures { Reads (λ n. n) (IsPivots (option_map (λ s. s.now) text.entry)) result }
+{
+    match text {
+        Some(text) => digits_of(text),
+        None => Ok(DEFAULT_PIVOTS),
+    }
+}
+
 /// The number of jobs that is written, from 1 to 1000; 16 where none is.
 pub(crate) fn read_count(text: Option<&str>) -> Result<u32, WordsFault>
     ensures { Reads (λ n. n) (IsCount (option_map (λ s. s.now) text.entry)) result }
@@ -127,6 +137,9 @@ fn read_money(text: &str) -> Result<i128, WordsFault>
 
 /// How many splits `solve` may make unless it is told.
 const DEFAULT_NODES: u64 = 1000;
+
+/// How many pivots `tight` may take at a leaf unless it is told.
+const DEFAULT_PIVOTS: u64 = 1000;
 
 /// How many jobs `jobs` writes at the most unless it is told.
 const DEFAULT_COUNT: u32 = 16;

@@ -7,7 +7,8 @@ use Rattle.clap.specs.Walk.{Rule, answers_to, nothing_held}
 use Rattle.clap.specs.Simple.{Shape, label_of, built, is_simple, subcommand_of}
 use Rattle.clap.specs.Takes.{takes}
 use Rattle.command_items.specs.Items.{Text, Given, fits, has_only, items_of, once, positionals}
-use Rattle.command_items.specs.Lines.{Line, check_line, formulate_line, gather_line, jobs_line, least_places, line_named, lines, make_line, most_places, program_app, report_line, solve_line, trial_line, work_line}
+use Rattle.command_items.specs.Lines.{Line, check_line, checktight_line, formulate_line, gather_line, jobs_line, least_places, line_named, lines, make_line, most_places}
+use Rattle.command_items.specs.Lines.{program_app, report_line, solve_line, tight_line, trial_line, work_line}
 use Rattle.command_items.specs.Commands.{Commands, labelled}
 use Rattle.command_items.proofs.Readings.{items_read, read_items}
 use Rattle.command_items.specs.Views.{fits_command, fits_line, has_form}
@@ -106,12 +107,27 @@ gather_proper = record {
   named = refl;
 }
 
+tight_proper : Proper tight_line
+tight_proper = record {
+  table = record { places_served = ((refl, refl), refl, ((refl, refl), refl, tt)); options_served = ((refl, refl), refl, ((refl, refl), refl, tt)); places_distinct = refl; apart = refl };
+  bare = record { defaults = refl; passes = refl; valid = λ rows. refl };
+  named = refl;
+}
+
+checktight_proper : Proper checktight_line
+checktight_proper = record {
+  table = record { places_served = ((refl, refl), refl, ((refl, refl), refl, ((refl, refl), refl, tt))); options_served = tt; places_distinct = refl; apart = refl };
+  bare = record { defaults = refl; passes = refl; valid = λ rows. refl };
+  named = refl;
+}
+
 abbrev Each : List Line → Type 0
 Each [] = Unit {0}
 Each (l ∷ ls) = Proper l × Each ls
 
 all_proper : Each lines
-all_proper = (solve_proper, (check_proper, (report_proper, (formulate_proper, (make_proper, (trial_proper, (jobs_proper, (work_proper, (gather_proper, tt)))))))))
+all_proper =
+    (solve_proper, (check_proper, (report_proper, (formulate_proper, (make_proper, (trial_proper, (jobs_proper, (work_proper, (gather_proper, (tight_proper, (checktight_proper, tt)))))))))))
 
 -- a line that is found is proper, and has the command
 found : (command : Text) (ls : List Line) (l : Line) → Each ls → find (λ x. bytes_eq command x.command) ls ≡ Some l → Proper l × (command ≡ l.command)

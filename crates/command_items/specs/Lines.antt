@@ -52,8 +52,15 @@ work_line = record { command = codes "work"; places = codes "net" ∷ codes "job
 abbrev pub gather_line : Line
 gather_line = record { command = codes "gather"; places = codes "net" ∷ codes "jobs" ∷ []; many = Some (codes "answers"); options = codes "journal" ∷ [] }
 
+abbrev pub tight_line : Line
+tight_line = record { command = codes "tight"; places = codes "net" ∷ codes "cert" ∷ []; many = None; options = codes "form" ∷ codes "pivots" ∷ [] }
+
+abbrev pub checktight_line : Line
+checktight_line = record { command = codes "checktight"; places = codes "net" ∷ codes "cert" ∷ codes "tight" ∷ []; many = None; options = [] }
+
 abbrev pub lines : List Line
-lines = solve_line ∷ check_line ∷ report_line ∷ formulate_line ∷ make_line ∷ trial_line ∷ jobs_line ∷ work_line ∷ gather_line ∷ []
+lines =
+    solve_line ∷ check_line ∷ report_line ∷ formulate_line ∷ make_line ∷ trial_line ∷ jobs_line ∷ work_line ∷ gather_line ∷ tight_line ∷ checktight_line ∷ []
 
 -- the line of the command
 abbrev pub line_named : Text → Option Line

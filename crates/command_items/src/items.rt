@@ -140,6 +140,8 @@ fn fits_command(command: &str, items: &[Item<'_>]) -> bool
         "jobs" => fits(items, 1, 1, &["journal", "count"]),
         "work" => fits(items, 2, 2, &["form"]),
         "gather" => fits(items, 3, 2 + MOST_ANSWERS, &["journal"]),
+        "tight" => fits(items, 2, 2, &["form", "pivots"]),
+        "checktight" => fits(items, 3, 3, &[]),
         _ => false,
     }
 }

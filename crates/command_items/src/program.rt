@@ -3,7 +3,7 @@ ghost use Rattle.std.specs.Prelude.{◌≡◌, [], ◌∷◌, IfErr, IfOk, Some,
 ghost use Rattle.clap.specs.Words.{app_of, new_rule, with_rule, with_subcommand, all_of, first_of, found_of, kind_of, rows_of, subcommand_of, subcommand_rows_of};
 ghost use Rattle.clap.specs.declared.builder.command.Command.TheViews.{out-Command as fields_of};
 ghost use Rattle.command_items.specs.Views.{has_form, line};
-ghost use Rattle.command_items.specs.Lines.{app_with, bare_app, check_line, formulate_line, line_app, long_rule, make_line, many_rules, program_app, report_line, solve_line, trial_line};
+ghost use Rattle.command_items.specs.Lines.{app_with, bare_app, check_line, formulate_line, gather_line, jobs_line, line_app, long_rule, make_line, many_rules, program_app, report_line, solve_line, trial_line, work_line};
 
 use clap::error::ErrorKind;
 use clap::{Arg, ArgAction, ArgMatches, Command, Error};
@@ -44,6 +44,29 @@ pub fn entered<'m, 'a>(matches: &'m ArgMatches<'a>) -> Option<(&'a str, &'m ArgM
 fn program<'a>(alloc: Global) -> Result<Command<'a>, AllocError>
     ensures { IfOk result (λ c. app_of c ≡ program_app) }
 {
+    let program = nine_lines(alloc)?;
+    let program = with_line(
+        alloc,
+        program,
+        "tight",
+        &["net", "cert"],
+        None,
+        &["form", "pivots"],
+    )?;
+    with_line(
+        alloc,
+        program,
+        "checktight",
+        &["net", "cert", "tight"],
+        None,
+        &[],
+    )
+}
+
+/// The program with the first nine commands. A chain of more than three proves slowly.
+fn nine_lines<'a>(alloc: Global) -> Result<Command<'a>, AllocError>
+    ensures { IfOk result (λ c. app_of c ≡ app_with bare_app (solve_line ∷ check_line ∷ report_line ∷ formulate_line ∷ make_line ∷ trial_line ∷ jobs_line ∷ work_line ∷ gather_line ∷ [])) }
+{
     let program = six_lines(alloc)?;
     let program = with_line(
         alloc,
@@ -65,7 +88,7 @@ fn program<'a>(alloc: Global) -> Result<Command<'a>, AllocError>
     )
 }
 
-/// The program with the first six commands. A chain of more than three proves slowly.
+/// The program with the first six commands.
 fn six_lines<'a>(alloc: Global) -> Result<Command<'a>, AllocError>
     ensures { IfOk result (λ c. app_of c ≡ app_with bare_app (solve_line ∷ check_line ∷ report_line ∷ formulate_line ∷ make_line ∷ trial_line ∷ [])) }
 {

@@ -1,6 +1,6 @@
 -- What the told files decide of a run, by how it ended.
 use Rattle.std.proofs.Common.{◌≡◌, ℕ, inl, inr, List, Option, Some, refl, subst}
-use Rattle.cli_words.specs.Requests.{Asked, solve, check, report, formulate, make, trial, jobs, work, gather}
+use Rattle.cli_words.specs.Requests.{Asked, solve, check, report, formulate, make, trial, jobs, work, gather, tight, checktight}
 use Rattle.run_status.specs.Reads.{Files}
 use Rattle.run_status.specs.declared.status.Status.{Status}
 use Rattle.run_status.specs.declared.status.Status.TheVariants as statuses
@@ -9,7 +9,9 @@ use Rattle.solve_command.proofs.Decided.{solve_decided}
 use Rattle.certificate_commands.proofs.Decided.{check_decided, report_decided}
 use Rattle.job_commands.proofs.Decided.{jobs_decided, work_decided}
 use Rattle.gather_command.proofs.Decided.{gather_decided}
-use Rattle.pool_cli.specs.Ends.{DecidedAs, EndsAs, named}
+use Rattle.tight_commands.specs.TightEnds.{TightDecided, TightEnds}
+use Rattle.tight_commands.proofs.Decided.{check_tight_decided, tight_decided}
+use Rattle.pool_cli.specs.Ends.{DecidedAs, EndsAs, OrNoWords, named}
 use Rattle.pool_cli.specs.FormulateEnds.{FormulateDecided, FormulateEnds}
 
 -- ---- what the told files decide of `formulate`
@@ -31,6 +33,13 @@ formulate_decided : (files : Option Files) (told : Files) (name : List ℕ) (bef
 formulate_decided files told name before after status is h =
     decided_formulate told name before after status (subst (λ f. FormulateEnds f name before after status) is h)
 
+-- ---- what they decide of `tight`, unless memory ran out at its words
+
+tight-decided : (files : Option Files) (told : Files) (net cert : List ℕ) (pivots before after : ℕ) (status : Status) → files ≡ Some told
+    → OrNoWords status (TightEnds files net cert pivots before after status) → OrNoWords status (TightDecided told net cert pivots status)
+tight-decided files told net cert pivots before after status is (inl h) = inl (tight_decided files told net cert pivots before after status is h)
+tight-decided files told net cert pivots before after status is (inr memory) = inr memory
+
 -- ---- what they decide of what is asked
 
 pub decided : (files : Option Files) (told : Files) (before after : ℕ) (asked : Asked) (status : Status) → files ≡ Some told → EndsAs files before after asked status → DecidedAs told asked status
@@ -43,3 +52,5 @@ decided files told before after (trial number) status is h = h
 decided files told before after (jobs net journal count) status is h = jobs_decided files told net before after status is h
 decided files told before after (work net file form) status is h = work_decided files told net file before after status is h
 decided files told before after (gather net file answers journal) status is h = gather_decided files told (named net file answers) before after status is h
+decided files told before after (tight net cert form pivots) status is h = tight-decided files told net cert pivots before after status is h
+decided files told before after (checktight net cert marks) status is h = check_tight_decided files told net cert marks before after status is h

@@ -1,6 +1,6 @@
 -- A run on words that no request was read from.
-use Rattle.std.proofs.Common.{◌≡◌, ◌≢◌, ℕ, List, Option, inl, refl}
-use Rattle.cli_words.specs.Requests.{Asked, solve, check, report, formulate, make, trial, jobs, work, gather}
+use Rattle.std.proofs.Common.{◌≡◌, ◌≢◌, ℕ, List, Option, inl, inr, refl}
+use Rattle.cli_words.specs.Requests.{Asked, solve, check, report, formulate, make, trial, jobs, work, gather, tight, checktight}
 use Rattle.cli_words.specs.declared.request.WordsFault.{WordsFault}
 use Rattle.cli_words.specs.declared.request.WordsFault.TheVariants as faults
 use Rattle.run_status.specs.Reads.{Files}
@@ -42,6 +42,8 @@ words_ends files before after faults.Memory (trial number) h = tt
 words_ends files before after faults.Memory (jobs net journal count) h = tt
 words_ends files before after faults.Memory (work net file form) h = tt
 words_ends files before after faults.Memory (gather net file answers journal) h = tt
+words_ends files before after faults.Memory (tight net cert form pivots) h = inr refl
+words_ends files before after faults.Memory (checktight net cert marks) h = tt
 
 -- and leave disk and sink as they were
 nothing_done : (d : DiskTold) → CameToNoFile d d statuses.OutOfMemory

@@ -1,12 +1,12 @@
 -- How a run ends, by what its words ask.
-use Rattle.std.specs.Prelude.{◌≡◌, ℕ, List, Option, None, Some}
+use Rattle.std.specs.Prelude.{◌≡◌, ◌⊎◌, ℕ, List, Option, None, Some}
 use Rattle.std.specs.List.{Contains}
 use Rattle.edge_io.specs.Writing.{behind}
 use Rattle.disk_calls.specs.Disks.{DiskTold}
 use Rattle.pool_model.specs.Network.{Network}
 use Rattle.cert_format.specs.Text.{text_of}
 use Rattle.job_texts.specs.Texts.{jobs_text}
-use Rattle.cli_words.specs.Requests.{Asked, solve, check, report, formulate, make, trial, jobs, work, gather}
+use Rattle.cli_words.specs.Requests.{Asked, solve, check, report, formulate, make, trial, jobs, work, gather, tight, checktight}
 use Rattle.cli_words.specs.declared.request.WordsFault.{WordsFault}
 use Rattle.cli_words.specs.declared.request.WordsFault.TheVariants as faults
 use Rattle.run_status.specs.Reads.{Files, ReadsUnder}
@@ -19,6 +19,9 @@ use Rattle.certificate_commands.specs.ReportEnds.{ReportDecided, ReportEnds, Rep
 use Rattle.job_commands.specs.JobsEnds.{JobsAs, JobsDecided, JobsEnds}
 use Rattle.job_commands.specs.Kept.{JobsJournaled}
 use Rattle.job_commands.specs.WorkEnds.{HandsOutUnder, WorkDecided, WorkEnds, WorksAs}
+use Rattle.tight_commands.specs.Certified.{CertifiesSome}
+use Rattle.tight_commands.specs.CheckTightEnds.{CheckTightDecided, CheckTightEnds, ChecksTightAs}
+use Rattle.tight_commands.specs.TightEnds.{TightDecided, TightEnds, TightsAs}
 use Rattle.gather_command.specs.GatherEnds.{GatherDecided, GatherEnds, GatherJournaled, GathersAs, Named, ReadUnder}
 use Rattle.pool_cli.specs.FormulateEnds.{FormulateDecided, FormulateEnds, FormulatesAs}
 use Rattle.pool_cli.specs.MakeEnds.{MakeDecided, MakeEnds, MakesAs}
@@ -41,6 +44,13 @@ AnswersAs files (trial number) = TriesAs number
 AnswersAs files (jobs net journal count) = JobsAs files net count
 AnswersAs files (work net file form) = WorksAs files net file form
 AnswersAs files (gather net file answers journal) = GathersAs files (named net file answers)
+AnswersAs files (tight net cert form pivots) = TightsAs files net cert form pivots
+AnswersAs files (checktight net cert marks) = ChecksTightAs files net cert marks
+
+-- this holds, or memory ran out at the words
+-- Promise: Memory may run out at the words of `tight` (23), whatever they ask
+abbrev pub OrNoWords : Status → Type 0 → Type 0
+OrNoWords status Holds = Holds ⊎ (status ≡ statuses.OutOfMemory)
 
 -- Each status comes only where its line holds. The counts are of the bytes taken.
 abbrev pub EndsAs : Option Files → (before after : ℕ) → Asked → Status → Type 0
@@ -53,6 +63,8 @@ EndsAs files before after (trial number) status = TrialEnds status
 EndsAs files before after (jobs net journal count) status = JobsEnds files net before after status
 EndsAs files before after (work net file form) status = WorkEnds files net file before after status
 EndsAs files before after (gather net file answers journal) status = GatherEnds files (named net file answers) before after status
+EndsAs files before after (tight net cert form pivots) status = OrNoWords status (TightEnds files net cert pivots before after status)
+EndsAs files before after (checktight net cert marks) status = CheckTightEnds files net cert marks before after status
 
 -- which status comes, by what the told files say
 abbrev pub DecidedAs : Files → Asked → Status → Type 0
@@ -65,6 +77,8 @@ DecidedAs told (trial number) status = TrialDecided status
 DecidedAs told (jobs net journal count) status = JobsDecided told net status
 DecidedAs told (work net file form) status = WorkDecided told net file status
 DecidedAs told (gather net file answers journal) status = GatherDecided told (named net file answers) status
+DecidedAs told (tight net cert form pivots) status = OrNoWords status (TightDecided told net cert pivots status)
+DecidedAs told (checktight net cert marks) status = CheckTightDecided told net cert marks status
 
 -- usage, or want of memory
 abbrev pub IsUnanswered : Status → Type 0
@@ -101,6 +115,14 @@ pub record IsGatherAdmitted (Shelf Disk : List ℕ → Type 0) (files : Option F
   -- Promise: The disk is asked for the file of `--journal` alone, and only where NET, JOBS and ANSWERS were read
   pub disk : ReadUnder files w → Disk journal
 
+-- what `checktight` asks of the shelf
+pub record IsMarksAdmitted (Shelf : List ℕ → Type 0) (files : Option Files) (net cert marks : List ℕ) : Type 0 where
+  pub network : Shelf net
+  -- Promise: CERT is asked for only where a network is read from NET
+  pub certificate : (network : Network) → ReadsUnder files net network → Shelf cert
+  -- Promise: TIGHT is asked for only where CERT has the text of a certificate that is valid for the network of NET
+  pub text : CertifiesSome files net cert → Shelf marks
+
 -- `Shelf` and `Disk` hold of the names that shelf and disk are asked for: a certificate, or jobs, only where a network is read.
 -- Promise: CERT is asked for only where a network is read from NET
 -- Promise: JOBS is asked for only where a network is read from NET
@@ -113,6 +135,8 @@ IsAdmitted Shelf Disk files (formulate net form) = Shelf net
 IsAdmitted Shelf Disk files (jobs net journal count) = Shelf net × Disk journal
 IsAdmitted Shelf Disk files (work net file form) = Shelf net × ((network : Network) → ReadsUnder files net network → Shelf file)
 IsAdmitted Shelf Disk files (gather net file answers journal) = IsGatherAdmitted Shelf Disk files (named net file answers) journal
+IsAdmitted Shelf Disk files (tight net cert form pivots) = Shelf net × ((network : Network) → ReadsUnder files net network → Shelf cert)
+IsAdmitted Shelf Disk files (checktight net cert marks) = IsMarksAdmitted Shelf files net cert marks
 IsAdmitted Shelf Disk files asked = Unit {0}
 
 -- ---- words of the inner contracts

@@ -22,6 +22,7 @@ use run_status::Status;
 use shelf_calls::Shelf;
 use solve_command::solve;
 use std::alloc::Global;
+use tight_commands::{checktight, tight};
 
 /// Runs the program on the words behind its name: takes files from the shelf, gives what it prints to the sink, and keeps the journal
 /// that the words name, if any, on the disk.
@@ -33,6 +34,9 @@ use std::alloc::Global;
 ///
 /// `jobs NET --journal FILE` prints jobs on leaves of the tree of the entries in that file, `work NET JOBS` answers to the jobs in the file
 /// JOBS, and `gather NET JOBS ANSWERS.. --journal FILE` takes the answers in the files ANSWERS into that journal, and prints what came of each.
+///
+/// `tight NET CERT` prints for each leaf of a certificate whether its bound is the best that the rows of a form allow, and `checktight NET CERT TIGHT`
+/// what the marks in the file TIGHT come to, or why they are refused.
 pub fn run<S: Shelf, K: Sink, D: Disk>(
     alloc: Global,
     words: &[String],
@@ -44,13 +48,14 @@ pub fn run<S: Shelf, K: Sink, D: Disk>(
         → IsAdmitted (λ name. IsTrue ((S.told shelf.old).admits name)) (λ name. IsTrue ((D.told disk.old).admits name)) (S.told shelf.old).files asked }
 
     // What the sink took: under `Closed`, `Stopped`, `Stuck`, `Infeasible` and `Undecided` the text of a certificate that answers the
-    // words, under `Accepted` and `Refused` the line on the certificate that they name, under `Done` the report, the program, the network,
-    // the four lines of the trial, the jobs, the answers, or what came of answers, under `WriteFault` a front of such a text, and under every
-    // other status nothing.
+    // words, under `Accepted`, `Refused` and `TightRefused` the line on the certificate or on the marks that they name, under `Done` the report,
+    // the program, the network, the four lines of the trial, the jobs, the answers, what came of answers, or the marks, under `WriteFault` a
+    // front of such a text, and under every other status nothing.
     // Promise: Under the statuses 0, 10, 11, 12 and 13 of `solve` the sink took exactly the text of one certificate; under 0 and 1 of
     //   `check`, and under 1 of `report`, exactly its line; under 0 of `report`, `formulate`, `make` and `trial` exactly the report, the
     //   program, the network and the four lines; under 0 of `jobs`, `work` and `gather` exactly the jobs, the answers, and a line for each answer with
-    //   a last one; under 21 a front of such a text; under every other status nothing
+    //   a last one; under 0 of `tight` exactly the marks, and under 1 the line on the certificate; under 0 and 1 of `checktight` exactly the line
+    //   on the marks, or under 1 that on the certificate; under 21 a front of such a text; under every other status nothing
     ensures took { (asked : Asked) → Asks (map string_bytes words.now) asked → Took (AnswersAs (S.told shelf.old).files asked) result (K.taken out.old) (K.taken out.new) }
     // Promise: Under 2 and 23 nothing was printed, whatever the words
     ensures unanswered { IsUnanswered result → K.taken out.new ≡ K.taken out.old }
@@ -130,6 +135,23 @@ fn answer<S: Shelf, K: Sink, D: Disk>(
         Request::Formulate(net, form) => {
             Status::from(formulate(alloc, net.as_str(), form, shelf, out))
         }
+        Request::Tight(net, cert, form, pivots) => Status::from(tight(
+            alloc,
+            net.as_str(),
+            cert.as_str(),
+            form,
+            pivots,
+            shelf,
+            out,
+        )),
+        Request::CheckTight(net, cert, marks) => Status::from(checktight(
+            alloc,
+            net.as_str(),
+            cert.as_str(),
+            marks.as_str(),
+            shelf,
+            out,
+        )),
         Request::Make(number) => Status::from(make(alloc, number, out)),
         Request::Trial(number) => Status::from(trial(alloc, number, out)),
         Request::Jobs(net, journal, count) => Status::from(jobs(

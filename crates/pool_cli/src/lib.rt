@@ -7,10 +7,11 @@
 //! or the line of the first cause to refuse it; of `report`, the report of that certificate, or that line. Of `formulate`, it is
 //! the text of an exact program of the network, of `make` the text of the network of a number, and of `trial` four lines on a search
 //! of that network. Of `jobs` it is the text of jobs on leaves of a journal's tree, of `work` that of answers to jobs, and of `gather` a line on
-//! each answer. And it says when each other status comes. The words of that contract are in `specs/Ends.antt`, which has a line
+//! each answer. Of `tight` it is the text of marks on the leaves of a valid certificate, and of `checktight` the line of marks that hold, or that of
+//! the first cause to refuse them. And it says when each other status comes. The words of that contract are in `specs/Ends.antt`, which has a line
 //! for each command. What each command promises stands in a file of its own: `specs/FormulateEnds.antt`, `MakeEnds.antt` and
 //! `TrialEnds.antt` here, `SolveEnds.antt` in `solve_command`, `CheckEnds.antt` and `ReportEnds.antt` in `certificate_commands`, `JobsEnds.antt` and
-//! `WorkEnds.antt` in `job_commands`, and `GatherEnds.antt` in `gather_command`.
+//! `WorkEnds.antt` in `job_commands`, `GatherEnds.antt` in `gather_command`, and `TightEnds.antt` and `CheckTightEnds.antt` in `tight_commands`.
 //!
 //! [`printed_law`] says of two runs, by these clauses alone, that `check` takes what `solve` printed.
 //!

@@ -18,6 +18,7 @@ printed_by statuses.Closed = whole
 printed_by statuses.Accepted = whole
 printed_by statuses.Done = whole
 printed_by (statuses.Refused refusal) = whole
+printed_by (statuses.TightRefused refusal) = whole
 printed_by statuses.Stopped = whole
 printed_by statuses.Stuck = whole
 printed_by statuses.Infeasible = whole

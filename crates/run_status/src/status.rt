@@ -12,6 +12,7 @@ use cert_checker::Refusal;
 use edge_io::{Sink, WriteFault, write_number, write_whole};
 use network_json::ReadNet;
 use text_buffer::TextBuffer;
+use tight_checks::TightRefusal;
 
 /// How a run ended.
 #[derive(Debug, Drop)]
@@ -24,13 +25,15 @@ pub enum Status {
     Done,
     /// The certificate is refused.
     Refused(Refusal),
+    /// The text of marks is refused.
+    TightRefused(TightRefusal),
     /// The words ask nothing that the program does.
     Usage,
     /// The file is no network.
     NetworkRefused(ReadNet),
-    /// More splits are asked for than there may be for this network.
+    /// More splits or pivots are asked for than there may be, or the tree of the certificate is too large for this network.
     BudgetTooLarge,
-    /// The certificate, the jobs or the answers are longer than may be.
+    /// The certificate, the text of marks, the jobs or the answers are longer than may be.
     CertTooLong,
     /// The file of jobs is no text of jobs from this line on, or, with line 0, they are no jobs on leaves of a tree of the network.
     JobsRefused(u64),
@@ -71,7 +74,7 @@ impl Status {
     {
         match self {
             Status::Closed | Status::Accepted | Status::Done => 0,
-            Status::Refused(_) => 1,
+            Status::Refused(_) | Status::TightRefused(_) => 1,
             Status::Usage => 2,
             Status::NetworkRefused(_) => 3,
             Status::BudgetTooLarge => 4,
@@ -122,7 +125,8 @@ fn put_message<K: Sink>(status: &Status, err: &mut K) -> Result<(), WriteFault>
         | Status::Undecided
         | Status::Accepted
         | Status::Done
-        | Status::Refused(_) => write_whole(err, b""),
+        | Status::Refused(_)
+        | Status::TightRefused(_) => write_whole(err, b""),
         Status::Usage => write_whole(err, USAGE),
         Status::NetworkRefused(cause) => write_refusal(cause, err),
         Status::BudgetTooLarge => { write_whole(err, b"pool: too many nodes for this network\n") }

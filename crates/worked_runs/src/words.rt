@@ -30,6 +30,14 @@ work --form=q net jobs -> Work(\"net\", \"jobs\", Q)
 gather net jobs a b --journal j -> Gather(\"net\", \"jobs\", [\"a\", \"b\"], \"j\")
 gather net jobs --journal j -> Usage
 gather net jobs a -> Usage
+tight net cert -> Tight(\"net\", \"cert\", Pq, 1000)
+tight --form=p net --pivots 0 cert -> Tight(\"net\", \"cert\", P, 0)
+tight net cert --pivots=18446744073709551615 -> Tight(\"net\", \"cert\", Pq, 18446744073709551615)
+tight net cert --nodes 7 -> Usage
+tight net -> Usage
+checktight net cert tight -> CheckTight(\"net\", \"cert\", \"tight\")
+checktight net cert -> Usage
+checktight net cert tight --pivots 7 -> Usage
 ";
 
 #[test]

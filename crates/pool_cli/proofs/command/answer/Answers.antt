@@ -1,6 +1,6 @@
-use Rattle.std.proofs.Common.{ℕ, List, ap, ap₂, map, string_bytes, sym, subst, ◌∙◌}
+use Rattle.std.proofs.Common.{ℕ, List, inl, ap, ap₂, map, string_bytes, sym, subst, ◌∙◌}
 use Rattle.std.specs.Prelude.{IsTrue}
-use Rattle.cli_words.specs.Requests.{solve, check, report, formulate, make, trial, jobs, work, gather}
+use Rattle.cli_words.specs.Requests.{solve, check, report, formulate, make, trial, jobs, work, gather, tight, checktight}
 use Rattle.cli_words.specs.Views.{shown_request, shown_solving}
 use Rattle.run_status.specs.Reads.{ReadsUnder}
 use Rattle.solve_command.specs.SolveEnds.{solve_status}
@@ -9,10 +9,12 @@ use Rattle.certificate_commands.specs.ReportEnds.{report_status}
 use Rattle.job_commands.specs.JobsEnds.{jobs_status}
 use Rattle.job_commands.specs.WorkEnds.{work_status}
 use Rattle.gather_command.specs.GatherEnds.{gather_status}
+use Rattle.tight_commands.specs.CheckTightEnds.{check_tight_status}
+use Rattle.tight_commands.specs.TightEnds.{tight_status}
 use Rattle.pool_cli.specs.FormulateEnds.{formulate_status}
 use Rattle.pool_cli.specs.MakeEnds.{make_status}
 use Rattle.pool_cli.specs.TrialEnds.{trial_status}
-use Rattle.pool_cli.proofs.Commands.{admitted_as, ends_as, gathering, handing, leaves_as, quiet_as, took_as, working}
+use Rattle.pool_cli.proofs.Commands.{admitted_as, ends_as, gathering, handing, judging, leaves_as, marking, quiet_as, took_as, working}
 use Rattle.pool_cli.proofs.command.answer.Goals as goal
 
 -- ---- what the commands may ask for
@@ -229,3 +231,55 @@ returns-in-Gather-clause-journal g c = λ tells.
 
 pub returns-in-Gather-clause-quiet : goal.returns-in-Gather-clause-quiet
 returns-in-Gather-clause-quiet g c = quiet_as c.from-in-Gather.ensures c.gather.ensures.quiet
+
+-- ---- tight
+
+pub tight-requires-clause-certificate : goal.tight-requires-clause-certificate
+tight-requires-clause-certificate g c =
+    (admitted_as (shown_request c.args.request) (tight c.as_str-in-Tight.result.now c.as_str-in-Tight-2.result.now c.in-Tight.form c.in-Tight.pivots)
+    (λ name. IsTrue ((g.S.Shelf.told c.args.shelf.now).admits name)) (λ name. IsTrue ((g.D.Disk.told c.args.disk.now).admits name)) (g.S.Shelf.told c.args.shelf.now).files
+    (ap shown_request c.in-Tight.is ∙ marking _ _ _ _ _ _ c.as_str-in-Tight.ensures.value c.as_str-in-Tight-2.ensures.value) c.requires.admitted).1
+
+pub returns-in-Tight-clause-took : goal.returns-in-Tight-clause-took
+returns-in-Tight-clause-took g c =
+    took_as (shown_request c.args.request) (tight c.as_str-in-Tight.result.now c.as_str-in-Tight-2.result.now c.in-Tight.form c.in-Tight.pivots) c.from-in-Tight.result (tight_status c.tight.result)
+    (ap shown_request c.in-Tight.is ∙ marking _ _ _ _ _ _ c.as_str-in-Tight.ensures.value c.as_str-in-Tight-2.ensures.value) c.from-in-Tight.ensures
+    (g.S.Shelf.told c.args.shelf.now).files (g.K.Sink.taken c.args.out.now) (g.K.Sink.taken c.tight.new.out) c.tight.ensures.took
+
+pub returns-in-Tight-clause-ends : goal.returns-in-Tight-clause-ends
+returns-in-Tight-clause-ends g c =
+    ends_as (shown_request c.args.request) (tight c.as_str-in-Tight.result.now c.as_str-in-Tight-2.result.now c.in-Tight.form c.in-Tight.pivots) c.from-in-Tight.result (tight_status c.tight.result)
+    (ap shown_request c.in-Tight.is ∙ marking _ _ _ _ _ _ c.as_str-in-Tight.ensures.value c.as_str-in-Tight-2.ensures.value) c.from-in-Tight.ensures
+    (g.S.Shelf.told c.args.shelf.now).files (g.S.Shelf.told c.args.shelf.now).taken (g.S.Shelf.told c.tight.new.shelf).taken (inl c.tight.ensures.ends)
+
+pub returns-in-Tight-clause-quiet : goal.returns-in-Tight-clause-quiet
+returns-in-Tight-clause-quiet g c = quiet_as c.from-in-Tight.ensures c.tight.ensures.quiet
+
+-- ---- checktight
+
+pub checktight-requires-clause-certificate : goal.checktight-requires-clause-certificate
+checktight-requires-clause-certificate g c =
+    (admitted_as (shown_request c.args.request) (checktight c.as_str-in-CheckTight.result.now c.as_str-in-CheckTight-2.result.now c.as_str-in-CheckTight-3.result.now)
+    (λ name. IsTrue ((g.S.Shelf.told c.args.shelf.now).admits name)) (λ name. IsTrue ((g.D.Disk.told c.args.disk.now).admits name)) (g.S.Shelf.told c.args.shelf.now).files
+    (ap shown_request c.in-CheckTight.is ∙ judging _ _ _ _ _ _ c.as_str-in-CheckTight.ensures.value c.as_str-in-CheckTight-2.ensures.value c.as_str-in-CheckTight-3.ensures.value) c.requires.admitted).certificate
+
+pub checktight-requires-clause-text : goal.checktight-requires-clause-text
+checktight-requires-clause-text g c =
+    (admitted_as (shown_request c.args.request) (checktight c.as_str-in-CheckTight.result.now c.as_str-in-CheckTight-2.result.now c.as_str-in-CheckTight-3.result.now)
+    (λ name. IsTrue ((g.S.Shelf.told c.args.shelf.now).admits name)) (λ name. IsTrue ((g.D.Disk.told c.args.disk.now).admits name)) (g.S.Shelf.told c.args.shelf.now).files
+    (ap shown_request c.in-CheckTight.is ∙ judging _ _ _ _ _ _ c.as_str-in-CheckTight.ensures.value c.as_str-in-CheckTight-2.ensures.value c.as_str-in-CheckTight-3.ensures.value) c.requires.admitted).text
+
+pub returns-in-CheckTight-clause-took : goal.returns-in-CheckTight-clause-took
+returns-in-CheckTight-clause-took g c =
+    took_as (shown_request c.args.request) (checktight c.as_str-in-CheckTight.result.now c.as_str-in-CheckTight-2.result.now c.as_str-in-CheckTight-3.result.now) c.from-in-CheckTight.result (check_tight_status c.checktight.result)
+    (ap shown_request c.in-CheckTight.is ∙ judging _ _ _ _ _ _ c.as_str-in-CheckTight.ensures.value c.as_str-in-CheckTight-2.ensures.value c.as_str-in-CheckTight-3.ensures.value) c.from-in-CheckTight.ensures
+    (g.S.Shelf.told c.args.shelf.now).files (g.K.Sink.taken c.args.out.now) (g.K.Sink.taken c.checktight.new.out) c.checktight.ensures.took
+
+pub returns-in-CheckTight-clause-ends : goal.returns-in-CheckTight-clause-ends
+returns-in-CheckTight-clause-ends g c =
+    ends_as (shown_request c.args.request) (checktight c.as_str-in-CheckTight.result.now c.as_str-in-CheckTight-2.result.now c.as_str-in-CheckTight-3.result.now) c.from-in-CheckTight.result (check_tight_status c.checktight.result)
+    (ap shown_request c.in-CheckTight.is ∙ judging _ _ _ _ _ _ c.as_str-in-CheckTight.ensures.value c.as_str-in-CheckTight-2.ensures.value c.as_str-in-CheckTight-3.ensures.value) c.from-in-CheckTight.ensures
+    (g.S.Shelf.told c.args.shelf.now).files (g.S.Shelf.told c.args.shelf.now).taken (g.S.Shelf.told c.checktight.new.shelf).taken c.checktight.ensures.ends
+
+pub returns-in-CheckTight-clause-quiet : goal.returns-in-CheckTight-clause-quiet
+returns-in-CheckTight-clause-quiet g c = quiet_as c.from-in-CheckTight.ensures c.checktight.ensures.quiet
