@@ -14,8 +14,8 @@
 //! on the text, the splits and the rows of the relaxations, and on nothing of the search that made the certificate.
 //!
 //! Proofs above may cite, of `proofs/`: `Running` (what was read, put together, and faults behind it), `Coming` (a kind that was read
-//! is one of the three), `States` (what a text goes on with), `Lines` (lines in their places) and `Outcomes` (what was found of a
-//! tree's parts, said of the whole tree).
+//! is one of the three), `States` (what a text goes on with), `Lines` (lines in their places), `Outcomes` (what was found of a
+//! tree's parts, said of the whole tree) and `Raising` (bounds of nodes, one after another, and the least of them).
 #![tactic(auto)]
 
 mod judge;

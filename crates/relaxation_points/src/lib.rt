@@ -8,7 +8,8 @@
 //! [`is_witness`] says whether a point is one, exactly. [`is_light`] says whether its cost and all its rows can be added up
 //! within 2^126, which a witness must keep. Neither takes memory: the row that is written over and over is lent.
 //!
-//! `specs/Points.antt` has the definitions, and `laws.rt` what follows from them. How a point is found is left to others.
+//! `specs/Points.antt` has the definitions, and `laws.rt` what follows from them. How a point is found is left to others. Proofs above may
+//! cite `proofs/Duality.antt`: what multipliers on rows that a point meets can show at most.
 #![tactic(auto)]
 
 mod judging;

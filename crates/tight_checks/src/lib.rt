@@ -9,7 +9,8 @@
 //! the first cause to refuse the text ([`TightRefusal`]). `specs/Holding.antt` says when marks hold, `specs/Refusals.antt` which cause comes
 //! first, and [`holding_law`] what follows of marks that hold, by `specs/Showing.antt`.
 //!
-//! Proofs above may cite, of `proofs/`: `MarksSame` (a mark rests on the ends of its box alone) and `Least` (the least of bounds).
+//! Proofs above may cite, of `proofs/`: `MarksSame` (a mark rests on the ends of its box alone), `Ends` (boxes that agree have the same ends
+//! of variables) and `Least` (the least of bounds).
 //!
 //! Whether the certificate is valid is left to `cert_checker`, and how marks are found to `tight_leaf`.
 #![tactic(auto)]
