@@ -298,6 +298,9 @@ def minutes(folder):
     squeezed = run("solve_for", "1", TOP / "tests" / "worked" / "haverly1_and_one.json", "--gap", "0.001", "--squeeze", "on")
     if "\nsplit 0 7 25000000\n" not in squeezed.stdout:
         yield f"Haverly 1 and one more, with squeezes: {squeezed.returncode} {squeezed.stderr}"
+    raised = run("solve_for", "1", EXAMPLES / "haverly1.json", "--gap", "0", "--raise", "1000")
+    if raised.returncode or "\ngap 0 1\n" not in raised.stdout:
+        yield f"Haverly 1, with halves raised: {raised.returncode} {raised.stderr}"
     net, journal = folder / "made.json", folder / "made.journal"
     net.write_text(pool("make", "9").stdout)
     begun = time.monotonic()

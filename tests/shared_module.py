@@ -148,6 +148,9 @@ def solved(_):
     found_by = [pooling.solve(str(TOP / "tests" / "worked" / "haverly1_and_one.json"), gap="0.001", squeeze=word) for word in ("on", "off")]
     if [found.cost for found in found_by] != [-7400, -7400]:
         yield f"Haverly 1 and one more: {found_by}"
+    raised = pooling.solve(pooling.json.loads((EXAMPLES / "haverly1.json").read_text()), gap=0, pivots=1000)
+    if (raised.status, raised.cost, raised.bound) != (0, -400, -400):
+        yield f"Haverly 1, with halves raised: {raised}"
     if pooling.solve(str(EXAMPLES / "no_plan.json")).kind != "none" or found.tables()["flows"] is None:
         yield "a network without a plan is solved"
     sys.modules["pandas"] = types.SimpleNamespace(DataFrame=lambda rows: ("a table", len(rows)))

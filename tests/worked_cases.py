@@ -136,6 +136,10 @@ row1 solve net --nodes 200000 --rule first = 0
 row1 solve net --squeeze on = 0
 row1 solve net --squeeze=off = 0
 haverly1 solve net --rule violated --squeeze=on --gap 0.001 = 0
+haverly1 solve net --raise 1000 --gap 0 = 0
+row1 solve net --raise=1000000 = 0
+row1 solve net --raise 1000001 = 4
+row1 solve other --raise 1000001 = 20
 row1 solve net --nodes=200001 = 4
 row1 solve other --nodes 200001 = 20
 row1 solve net --journal j = 0
@@ -182,6 +186,10 @@ solve net --squeeze
 solve net --squeeze maybe
 solve net --squeeze ON
 solve net --squeeze on --squeeze=on
+solve net --raise
+solve net --raise on
+solve net --raise -1
+solve net --raise 1 --raise=1
 solve net --nodes 000000000000000000007
 solve net --nodes 18446744073709551616
 solve net --nodes +7

@@ -586,11 +586,14 @@ def network_of(network):
     return Network.read(network)
 
 
-def solve(network, gap=None, nodes=None, form=None, rule=None, journal=None, squeeze=None):
-    """What the program finds for a network; where it gives no certificate, `Failed` has its status and its message."""
+def solve(network, gap=None, nodes=None, form=None, rule=None, journal=None, squeeze=None, pivots=None):
+    """What the program finds for a network; where it gives no certificate, `Failed` has its status and its message.
+
+    The names are those of the options, but for `pivots`, which is that of `--raise`.
+    """
     net = network_of(network)
     options = [f"--{name}={value if isinstance(value, (str, int)) else exact(value)}" for name, value in
-               (("gap", gap), ("nodes", nodes), ("form", form), ("rule", rule), ("journal", journal), ("squeeze", squeeze)) if value is not None]
+               (("gap", gap), ("nodes", nodes), ("form", form), ("rule", rule), ("journal", journal), ("squeeze", squeeze), ("raise", pivots)) if value is not None]
     with tempfile.TemporaryDirectory() as folder:
         path = os.path.join(folder, "network.json")
         with open(path, "w", encoding="utf-8") as file:

@@ -7,7 +7,7 @@ use Rattle.clap.specs.Words.{Row, first_of}
 use Rattle.quantity.proofs.Laws.{quantity-only}
 use Rattle.command_items.specs.Items.{Text}
 use Rattle.cli_words.specs.Requests.{Asked, Solving, line_of, solve, check, report, formulate, make, trial, jobs, work, gather, tight, checktight}
-use Rattle.cli_words.specs.Asks.{Asks, IsCount, IsForm, IsGap, IsNodes, IsNumber, IsPivots, IsRule, IsSolving, IsSwitch, Says, form_name, rule_name, switch_name}
+use Rattle.cli_words.specs.Asks.{Asks, IsCount, IsForm, IsGap, IsNodes, IsNumber, IsPivots, IsRaise, IsRule, IsSolving, IsSwitch, Says, form_name, rule_name, switch_name}
 use Rattle.cli_words.specs.Views.{Answers, Means, Reads, Takes, shown_request}
 use Rattle.box_space.specs.declared.coordinates.Form.{Form}
 use Rattle.box_space.specs.declared.coordinates.Form.TheVariants.{P, Q, Pq}
@@ -106,6 +106,10 @@ one_pivots : (o : Option Text) (m n : ℕ) → IsPivots o m → IsPivots o n →
 one_pivots None m n h k = h ∙ sym k
 one_pivots (Some text) m n h k = sym h.amount ∙ k.amount
 
+one_raise : (o : Option Text) (m n : ℕ) → IsRaise o m → IsRaise o n → m ≡ n
+one_raise None m n h k = h ∙ sym k
+one_raise (Some text) m n h k = sym h.amount ∙ k.amount
+
 one_count : (o : Option Text) (m n : ℕ) → IsCount o m → IsCount o n → m ≡ n
 one_count None m n h k = h ∙ sym k
 one_count (Some text) m n h k = sym h.0.amount ∙ k.0.amount
@@ -129,7 +133,8 @@ one_solving value s t h k =
     let journal = sym h.journal ∙ k.journal in
     let rule = one_rule (value (codes "rule")) s.rule t.rule h.rule k.rule in
     let squeeze = one_switch (value (codes "squeeze")) s.squeeze t.squeeze h.squeeze k.squeeze in
-    λ i. record { net = net i; form = form i; nodes = nodes i; gap = gap i; journal = journal i; rule = rule i; squeeze = squeeze i }
+    let raise = one_raise (value (codes "raise")) s.raise t.raise h.raise k.raise in
+    λ i. record { net = net i; form = form i; nodes = nodes i; gap = gap i; journal = journal i; rule = rule i; squeeze = squeeze i; raise = raise i }
 
 one_said : (value : Text → Option Text) (values : Text → List Text) (a b : Asked) → (line_of a).command ≡ (line_of b).command → Says value values a → Says value values b → a ≡ b
 one_said value values (solve s) (solve t) e h k = ap solve (one_solving value s t h k)

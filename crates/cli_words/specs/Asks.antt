@@ -54,6 +54,11 @@ abbrev pub IsNodes : Option Text → ℕ → Type 0
 IsNodes None n = n ≡ 1000
 IsNodes (Some text) n = IsNumber text n
 
+-- the number of pivots in which halves are raised; 0 where none is written
+abbrev pub IsRaise : Option Text → ℕ → Type 0
+IsRaise None n = n ≡ 0
+IsRaise (Some text) n = IsNumber text n
+
 -- the number of pivots that is written; 1000 where none is
 abbrev pub IsPivots : Option Text → ℕ → Type 0
 IsPivots None n = n ≡ 1000
@@ -88,6 +93,7 @@ pub record IsSolving (value : Text → Option Text) (s : Solving) : Type 0 where
   pub journal : value (codes "journal") ≡ s.journal
   pub rule : IsRule (value (codes "rule")) s.rule
   pub squeeze : IsSwitch (value (codes "squeeze")) s.squeeze
+  pub raise : IsRaise (value (codes "raise")) s.raise
 
 -- the values say this, where the value under each name is given, and all values under it
 abbrev pub Says : (Text → Option Text) → (Text → List Text) → Asked → Type 0

@@ -5,7 +5,7 @@ use Rattle.command_items.specs.Lines.{Line, solve_line, check_line, report_line,
 use Rattle.box_space.specs.declared.coordinates.Form.{Form}
 use Rattle.branching.specs.declared.name.RuleName.{RuleName}
 
--- what `solve` is asked; the gap is in picos
+-- what `solve` is asked; the gap is in picos, and halves are raised in so many pivots
 pub record Solving : Type 0 where
   pub net : Text
   pub form : Form
@@ -14,6 +14,7 @@ pub record Solving : Type 0 where
   pub journal : Option Text
   pub rule : RuleName
   pub squeeze : Bool
+  pub raise : ℕ
 
 -- a request, without where it lies in memory
 pub data Asked : Type 0 where

@@ -13,7 +13,7 @@ use Rattle.cli_words.specs.declared.request.WordsFault.TheVariants.{Usage, Memor
 
 -- what `solve` is asked
 abbrev pub shown_solving : SolveWords → Solving
-shown_solving s = record { net = string_bytes s.net; form = s.form; nodes = s.nodes; gap = s.gap; journal = option_map string_bytes s.journal; rule = s.rule; squeeze = s.squeeze }
+shown_solving s = record { net = string_bytes s.net; form = s.form; nodes = s.nodes; gap = s.gap; journal = option_map string_bytes s.journal; rule = s.rule; squeeze = s.squeeze; raise = s.raise }
 
 -- a request
 abbrev pub shown_request : Request → Asked

@@ -8,7 +8,8 @@ ghost use Rattle.cli_words.specs.Asks.{Asks};
 ghost use Rattle.cli_words.specs.Views.{Answers, Means, Reads, Takes, shown_request};
 
 use crate::values::{
-    read_count, read_form, read_gap, read_nodes, read_number, read_pivots, read_rule, read_switch,
+    read_count, read_form, read_gap, read_nodes, read_number, read_pivots, read_raise, read_rule,
+    read_switch,
 };
 use crate::{Request, SolveWords, WordsFault};
 use clap::ArgMatches;
@@ -78,6 +79,7 @@ fn read_solve(alloc: Global, matches: &ArgMatches<'_>) -> Result<Request, WordsF
     let gap = read_gap(text_of(matches, "gap"))?;
     let rule = read_rule(text_of(matches, "rule"))?;
     let squeeze = read_switch(text_of(matches, "squeeze"))?;
+    let raise = read_raise(text_of(matches, "raise"))?;
     let Some(net) = text_of(matches, "net") else {
         return Err(WordsFault::Usage);
     };
@@ -90,6 +92,7 @@ fn read_solve(alloc: Global, matches: &ArgMatches<'_>) -> Result<Request, WordsF
         journal,
         rule,
         squeeze,
+        raise,
     }))
 }
 

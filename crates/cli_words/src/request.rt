@@ -18,6 +18,8 @@ pub struct SolveWords {
     pub rule: RuleName,
     /// Whether pieces are cut off leaves where that pays.
     pub squeeze: bool,
+    /// How many pivots may be made to raise the bound of a new half; 0 is that none is raised.
+    pub raise: u64,
 }
 
 /// What the words ask.

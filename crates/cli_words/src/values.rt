@@ -1,7 +1,7 @@
 //! What the values of words say.
 
 ghost use Rattle.std.specs.Prelude.{option_map, IsSomeAnd, Some};
-ghost use Rattle.cli_words.specs.Asks.{IsCount, IsForm, IsGap, IsMoney, IsNodes, IsNumber, IsPivots, IsRule, IsSwitch};
+ghost use Rattle.cli_words.specs.Asks.{IsCount, IsForm, IsGap, IsMoney, IsNodes, IsNumber, IsPivots, IsRaise, IsRule, IsSwitch};
 ghost use Rattle.cli_words.specs.Views.{Reads};
 
 use crate::WordsFault;
@@ -65,6 +65,16 @@ pub(crate) fn read_gap(text: Option<&str>) -> Result<i128, WordsFault>
     match text {
         Some(text) => read_money(text),
         None => Ok(DEFAULT_GAP),
+    }
+}
+
+/// The number of pivots in which halves are raised; 0 where none is written.
+pub(crate) fn read_raise(text: Option<&str>) -> Result<u64, WordsFault>
+    ensures { Reads (λ n. n) (IsRaise (option_map (λ s. s.now) text.entry)) result }
+{
+    match text {
+        Some(text) => digits_of(text),
+        None => Ok(0),
     }
 }
 

@@ -46,7 +46,7 @@ pub record Proper (l : Line) : Type 0 where
 
 solve_proper : Proper solve_line
 solve_proper = record {
-  table = record { places_served = ((refl, refl), refl, tt); options_served = ((refl, refl), refl, ((refl, refl), refl, ((refl, refl), refl, ((refl, refl), refl, ((refl, refl), refl, ((refl, refl), refl, tt)))))); places_distinct = refl; apart = refl };
+  table = record { places_served = ((refl, refl), refl, tt); options_served = ((refl, refl), refl, ((refl, refl), refl, ((refl, refl), refl, ((refl, refl), refl, ((refl, refl), refl, ((refl, refl), refl, ((refl, refl), refl, tt))))))); places_distinct = refl; apart = refl };
   bare = record { defaults = refl; passes = refl; valid = λ rows. refl };
   named = refl;
 }

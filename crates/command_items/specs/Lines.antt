@@ -25,7 +25,7 @@ solve_line = record {
   command = codes "solve";
   places = codes "net" ∷ [];
   many = None;
-  options = codes "form" ∷ codes "nodes" ∷ codes "gap" ∷ codes "journal" ∷ codes "rule" ∷ codes "squeeze" ∷ [];
+  options = codes "form" ∷ codes "nodes" ∷ codes "gap" ∷ codes "journal" ∷ codes "rule" ∷ codes "squeeze" ∷ codes "raise" ∷ [];
 }
 
 abbrev pub check_line : Line

@@ -131,7 +131,9 @@ fn fits_command(command: &str, items: &[Item<'_>]) -> bool
 {
     match command {
         "solve" => {
-            let options = ["form", "nodes", "gap", "journal", "rule", "squeeze"];
+            let options = [
+                "form", "nodes", "gap", "journal", "rule", "squeeze", "raise",
+            ];
             fits(items, 1, 1, &options)
         }
         "check" | "report" => fits(items, 2, 2, &[]),

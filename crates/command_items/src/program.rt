@@ -108,7 +108,9 @@ fn three_lines<'a>(alloc: Global) -> Result<Command<'a>, AllocError>
         "solve",
         &["net"],
         None,
-        &["form", "nodes", "gap", "journal", "rule", "squeeze"],
+        &[
+            "form", "nodes", "gap", "journal", "rule", "squeeze", "raise",
+        ],
     )?;
     let program = with_line(alloc, program, "check", &["net", "cert"], None, &[])?;
     with_line(alloc, program, "report", &["net", "cert"], None, &[])

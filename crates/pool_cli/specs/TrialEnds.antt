@@ -24,9 +24,9 @@ trial_status outcomes.Done = statuses.Done
 trial_status outcomes.Memory = statuses.OutOfMemory
 trial_status outcomes.WriteFault = statuses.WriteFault
 
--- what a trial asks of the search: the third form, ten splits, a gap of a hundredth of money, a cut of the widest coordinate, and no squeezes
+-- what a trial asks of the search: the third form, ten splits, a gap of a hundredth of money, a cut of the widest coordinate, no squeezes, and no half raised
 abbrev pub trial_orders : Orders
-trial_orders = record { form = Pq; nodes = 10; gap = pos (10 ^ 10); rule = Widest; squeeze = false }
+trial_orders = record { form = Pq; nodes = 10; gap = pos (10 ^ 10); rule = Widest; squeeze = false; raise = 0 }
 
 -- the code of the status and the numbers of a certificate with a plan
 abbrev pub IsToldOf : Status → Claimed → Trial → Type 0
@@ -61,7 +61,8 @@ TriesAs number status text = TriesOn (net_of (generated number)) status text
 
 -- no other status comes
 -- Promise: Each other status comes only where it says so of the files: 3 where no network is read from NET, with its first cause; 4 where
---   `--nodes` is above 200,000, or twice `--nodes` and one, times the rows of the network, is above 32,000,000; 0, 10 and 11 of `solve`
+--   `--nodes` is above 200,000, or twice `--nodes` and one, times the rows of the network, is above 32,000,000, or `--raise` is above
+--   1,000,000, or above 0 where the network has more than 2,000 variables and rows together; 0, 10 and 11 of `solve`
 --   where a network is read and it is not so, 12 where no plan obeys it, 13 where no starting plan does; 0 of `check` where CERT is the
 --   text of a valid certificate, and 1 where it is not; 5 where CERT has more than 1,073,741,824 bytes; 30 to 33 of `solve` where a network
 --   is read, what is asked is within the budget and a journal is named

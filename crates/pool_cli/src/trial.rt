@@ -137,5 +137,6 @@ fn orders() -> Orders
         gap: 10_000_000_000,
         rule: RuleName::Widest,
         squeeze: false,
+        raise: 0,
     }
 }

@@ -13,6 +13,7 @@ use Rattle.row_model.proofs.TreeBound.{which_node}
 use Rattle.box_tree.proofs.Growing.{bound-old, bound-left, bound-right}
 use Rattle.box_tree.proofs.Rooting.{no_splits}
 use Rattle.dual_rounding.specs.Price.{IsPriced}
+use Rattle.raised_splits.specs.Raising.{AreBest, IsBest, IsBestAt}
 use Rattle.search_run.specs.Steps.{IsOfForm, IsHalf, IsSplit}
 use Rattle.search_run.specs.Found.{IsPricedAt, IsGrown}
 use Rattle.search_run.specs.declared.orders.Orders.{Orders}
@@ -27,6 +28,7 @@ grown-start n o t = record {
   few = omega arith;
   named = λ node p e. inl e;
   priced = λ node h k. absurd (omega arith);
+  best = λ on node h k. absurd (omega arith);
 }
 
 -- a proof of the root comes while there are no splits
@@ -48,6 +50,7 @@ grown-root n o begun s p is unproved uncut form g = record {
     | inr b ↦ g.named node q b
   ];
   priced = λ node h k. absurd (omega (arith, h, k, no_splits n s.tree is uncut));
+  best = λ on node h k. absurd (omega (arith, h, k, no_splits n s.tree is uncut));
 }
 
 -- the bound of the least leaf is the tree's
@@ -108,8 +111,39 @@ module _ (n : Net) (o : Orders) (s : Searched) (split : Split) (left right : Opt
       passed node (left_node t) left (if node == right_node t then right else s.tree.proof node) (omega (arith, there)) ∙ passed node
       (right_node t) right (s.tree.proof node) (omega (arith, there)) ∙ e
 
-  pub grown-split : (begun : Tree) → IsGrown n o begun s.tree → IsGrown n o begun (after s (split_of split left right)).tree
-  grown-split begun g = record {
+  -- ---- halves that are raised
+
+  module _ (best : 0 < o.raise → AreBest n o.form o.raise s.tree split left right) (on : 0 < o.raise) where
+    best-left : IsBestAt n o.form o.raise (after s (split_of split left right)).tree (left_node (length s.tree.splits))
+    best-left =
+        let half = left_of (box_of n s.tree.splits split.leaf) split.coord split.cut in
+        subst (λ (b : Box). IsBest n o.form b o.raise (node_bound n (after s (split_of split left right)).tree (left_node (length s.tree.splits)))) (sym (box_left n s.tree.splits split))
+        (subst (IsBest n o.form half o.raise) (sym (bound-left n s split left right is cut.leaf.leaf.there)) (best on).left_half)
+
+    best-right : IsBestAt n o.form o.raise (after s (split_of split left right)).tree (right_node (length s.tree.splits))
+    best-right =
+        let half = right_of (box_of n s.tree.splits split.leaf) split.coord split.cut in
+        subst (λ (b : Box). IsBest n o.form b o.raise (node_bound n (after s (split_of split left right)).tree (right_node (length s.tree.splits)))) (sym (box_right n s.tree.splits split))
+        (subst (IsBest n o.form half o.raise) (sym (bound-right n s split left right is cut.leaf.leaf.there)) (best on).right_half)
+
+    best-old : (node : ℕ) → node < nodes s.tree.splits → IsBestAt n o.form o.raise s.tree node → IsBestAt n o.form o.raise (after s (split_of split left right)).tree node
+    best-old node h known =
+        subst (λ (b : Box). IsBest n o.form b o.raise (node_bound n (after s (split_of split left right)).tree node)) (sym (box_before n s.tree.splits split node h))
+        (subst (IsBest n o.form (box_of n s.tree.splits node) o.raise) (sym (bound-old n s split left right is node h)) known)
+
+    best-any : (begun : Tree) → IsGrown n o begun s.tree → (node : ℕ) → nodes begun.splits ≤ node → node < nodes (s.tree.splits ++ split ∷ [])
+        → IsBestAt n o.form o.raise (after s (split_of split left right)).tree node
+    best-any begun g node h k = elim (which_node (length s.tree.splits) node (omega (arith, k, length-more s.tree.splits split))) [
+      | inl e ↦ subst (IsBestAt n o.form o.raise (after s (split_of split left right)).tree) (sym e) best-left
+      | inr r ↦ elim r [
+        | inl e ↦ subst (IsBestAt n o.form o.raise (after s (split_of split left right)).tree) (sym e) best-right
+        | inr l ↦ best-old node l (g.best on node h l)
+      ]
+    ]
+
+  pub grown-split : (0 < o.raise → AreBest n o.form o.raise s.tree split left right) → (begun : Tree) → IsGrown n o begun s.tree
+      → IsGrown n o begun (after s (split_of split left right)).tree
+  grown-split best begun g = record {
     more = omega (arith, g.more, length-more s.tree.splits split);
     begins = λ t h. get_or_append_left s.tree.splits (split ∷ []) no_split t (omega (arith, h, g.more)) ∙ g.begins t h;
     kept = λ node q e. split-kept node q (g.kept node q e);
@@ -119,4 +153,5 @@ module _ (n : Net) (o : Orders) (s : Searched) (split : Split) (left right : Opt
       | inr r ↦ elim r [ inl a ↦ inr (cut.right_half.named q a.1) | inr b ↦ g.named node q b ]
     ];
     priced = priced-any begun g;
+    best = λ on. best-any best on begun g;
   }

@@ -12,3 +12,4 @@ mod Targets
 mod Owing
 mod Squeezing
 mod Settling
+mod Raising

@@ -1,4 +1,4 @@
--- What is due is a step after which fewer steps are left, or the end of the run.
+-- What is chosen is due, and leaves fewer steps; or it is the end of the run.
 use Rattle.std.proofs.Common.{◌≡◌, ℕ, ◌<◌, inr, length, List, Option, None, Some, option_map, ℤ, sym, subst, ◌∙◌}
 use Rattle.std.proofs.lemmas.Option.{none-some}
 use Rattle.pool_model.specs.Network.{Net}
@@ -13,7 +13,7 @@ use Rattle.search_core.specs.Searches.{Searching, searched, IsSearchOf}
 use Rattle.search_core.specs.declared.next.Next.{Next}
 use Rattle.search_core.specs.declared.next.Next.TheVariants as next
 use Rattle.search_core.specs.declared.options.Options.{Options}
-use Rattle.search_run.specs.Due.{split_leaf, cut_leaf, IsDueNext, IsSqueezeEntry, LeavesLess}
+use Rattle.search_run.specs.Due.{split_leaf, cut_leaf, IsChosenNext, IsSqueezeEntry, LeavesLess}
 use Rattle.search_run.specs.Orders.{options_of, picked}
 use Rattle.search_run.specs.Steps.{OwesNone}
 use Rattle.search_run.specs.declared.orders.Orders.{Orders}
@@ -58,7 +58,7 @@ module _ (n : Net) (o : Orders) (s : Searching) (is : IsSearchOf n s) (asked : s
   -- ---- what comes next for the search
 
   leaves-less : (tried : Option (List ℤ)) (e : Entry) → IsEntry n s.options (searched s) s.repaired tried (picked o.rule s.tree.kept.cuts) e → IsEntryInOrder n (searched s) (shown_entry e)
-      → LeavesLess n s e
+      → LeavesLess n s (shown_entry e)
   leaves-less tried e due order t now same made flag = nearer n s t is now same (picked o.rule s.tree.kept.cuts) tried e made flag order due
 
   -- it is no split, or one of this leaf
@@ -73,12 +73,10 @@ module _ (n : Net) (o : Orders) (s : Searching) (is : IsSearchOf n s) (asked : s
 
   -- it stands where no squeeze is owed
   pub kept-due : (tried : Option (List ℤ)) (due : Next) → IsNext n s.options (searched s) s.repaired tried (picked o.rule s.tree.kept.cuts) due
-      → IsDo (λ e. IsEntryInOrder n (searched s) (shown_entry e)) due → ((leaf : ℕ) → cut_leaf due ≡ Some leaf → OwesNone n o (searched s) leaf) → IsDueNext n o s due
+      → IsDo (λ e. IsEntryInOrder n (searched s) (shown_entry e)) due → ((leaf : ℕ) → cut_leaf due ≡ Some leaf → OwesNone n o (searched s) leaf) → IsChosenNext n o s due
   kept-due tried (next.Do entry) h order owes = (
-    record {
-      in_order = order;
-      due = due-of n o (searched s) s.repaired tried s.tree.kept.cuts entry is.tree.kept.counted owes (by-options tried (next.Do entry) h);
-    },
+    order,
+    due-of n o (searched s) s.repaired tried s.tree.kept.cuts entry is.tree.kept.counted owes (by-options tried (next.Do entry) h),
     leaves-less tried entry h order,
   )
   kept-due tried next.Closed h order owes = next-closed n o (searched s) s.options asked s.repaired s.tree.kept.cuts is.tree.kept.counted tried h
@@ -89,9 +87,10 @@ module _ (n : Net) (o : Orders) (s : Searching) (is : IsSearchOf n s) (asked : s
 
   -- ---- a squeeze in place of a cut
 
-  pub squeeze-due : (leaf : ℕ) (e : Entry) → IsCutLeaf n o s leaf → IsSqueezeEntry n o (searched s) e → IsDueNext n o s (next.Do e)
+  pub squeeze-due : (leaf : ℕ) (e : Entry) → IsCutLeaf n o s leaf → IsSqueezeEntry n o (searched s) e → IsChosenNext n o s (next.Do e)
   squeeze-due leaf (SplitOf split left right) cut squeeze = (
-    record { in_order = squeeze.0; due = (cut.rooted, inr squeeze.1) },
+    squeeze.0,
+    (cut.rooted, inr squeeze.1),
     λ t now same made flag.
         split-nearer n s t is now same (shown_split split) (option_map shown_proof left) (option_map shown_proof right) made flag
         (subst (λ (x : Options). length s.tree.kept.splits.list < x.nodes) (sym asked) cut.few) cut.rooted.apart.start,

@@ -32,7 +32,7 @@ sound-step n o begun s (root_proof proof) so step = record {
 }
 sound-step n o begun s (split_of split left right) so step = record {
   searched = searched-kept n s (split_of split left right) so.searched step.in_order;
-  grown = grown-split n o s split left right so.searched.tree (leaf-split n o s split left right step.due.1) begun.tree so.grown;
+  grown = grown-split n o s split left right so.searched.tree (leaf-split n o s split left right step.due.1) step.best begun.tree so.grown;
   rooted = λ opens. done-split n o s split left right so.searched.tree (leaf-split n o s split left right step.due.1) step.due.0.proved (so.rooted opens);
 }
 

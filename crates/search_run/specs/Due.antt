@@ -1,6 +1,7 @@
 -- What comes next for a search under the orders.
 use Rattle.std.specs.Prelude.{◌≡◌, ℕ, ◌<◌, Option, None, Some, option_map}
 use Rattle.pool_model.specs.Network.{Net}
+use Rattle.row_model.specs.Entries as entries
 use Rattle.row_model.specs.Entries.{Searched, after, IsEntryInOrder}
 use Rattle.box_space.specs.Views.{shown_proof, shown_split}
 use Rattle.box_tree.specs.Views.{shown_entry}
@@ -12,7 +13,7 @@ use Rattle.search_core.specs.declared.next.Next.{Next}
 use Rattle.search_core.specs.declared.next.Next.TheVariants.{Do, Closed, Stopped, Stuck, Infeasible, Undecided}
 use Rattle.search_run.specs.Left.{left}
 use Rattle.search_run.specs.Runs.{IsEnd}
-use Rattle.search_run.specs.Steps.{IsSqueezed, IsStep}
+use Rattle.search_run.specs.Steps.{IsDue, IsSqueezed, IsStep}
 use Rattle.search_run.specs.declared.ended.Ended.TheVariants as ends
 use Rattle.search_run.specs.declared.orders.Orders.{Orders}
 
@@ -32,13 +33,22 @@ cut_leaf Infeasible = None
 cut_leaf Undecided = None
 
 -- once it took the entry, the search has fewer steps left
-abbrev pub LeavesLess : Net → Searching → Entry → Type 0
-LeavesLess n s e = (t : Searching) → IsSearchOf n t → t.options ≡ s.options → searched t ≡ after (searched s) (shown_entry e)
-    → IsRepairedAfter n (searched s) (shown_entry e) s.repaired t.repaired → left t < left s
+abbrev pub LeavesLess : Net → Searching → entries.Entry → Type 0
+LeavesLess n s e = (t : Searching) → IsSearchOf n t → t.options ≡ s.options → searched t ≡ after (searched s) e
+    → IsRepairedAfter n (searched s) e s.repaired t.repaired → left t < left s
+
+-- what is chosen, before its halves are raised: an entry that is in order and due, after which fewer steps are left; or the end of the run
+abbrev pub IsChosenNext : Net → Orders → Searching → Next → Type 0
+IsChosenNext n o s (Do e) = IsEntryInOrder n (searched s) (shown_entry e) × IsDue n o (searched s) (shown_entry e) × LeavesLess n s (shown_entry e)
+IsChosenNext n o s Closed = IsEnd n o (searched s) ends.Closed
+IsChosenNext n o s Stopped = IsEnd n o (searched s) ends.Stopped
+IsChosenNext n o s Stuck = IsEnd n o (searched s) ends.Stuck
+IsChosenNext n o s Infeasible = IsEnd n o (searched s) ends.Infeasible
+IsChosenNext n o s Undecided = IsEnd n o (searched s) ends.Undecided
 
 -- what is due: an entry that is a step, after which fewer steps are left; or the end of the run
 abbrev pub IsDueNext : Net → Orders → Searching → Next → Type 0
-IsDueNext n o s (Do e) = IsStep n o (searched s) (shown_entry e) × LeavesLess n s e
+IsDueNext n o s (Do e) = IsStep n o (searched s) (shown_entry e) × LeavesLess n s (shown_entry e)
 IsDueNext n o s Closed = IsEnd n o (searched s) ends.Closed
 IsDueNext n o s Stopped = IsEnd n o (searched s) ends.Stopped
 IsDueNext n o s Stuck = IsEnd n o (searched s) ends.Stuck

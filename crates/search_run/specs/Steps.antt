@@ -19,6 +19,7 @@ use Rattle.search_core.specs.Cases.{IsBetterStart, IsCuttable, IsRootProof}
 use Rattle.leaf_cuts.specs.Halvings.{middle_at}
 use Rattle.search_core.specs.Next.{IsApart, IsRooted}
 use Rattle.box_squeeze.specs.Squeezes.{CutsOff, HasNoEmpty}
+use Rattle.raised_splits.specs.Raising.{IsBestEntry}
 use Rattle.box_squeeze.specs.declared.piece.Side.{Side}
 use Rattle.text_pieces.specs.Rounding.{rounded_up}
 use Rattle.search_run.specs.Orders.{options_of}
@@ -127,7 +128,9 @@ IsDue n o s (improve plan) = IsBetterStart n s plan ⊎ (IsRooted n (options_of 
 IsDue n o s (root_proof proof) = IsApart n (options_of o) s × IsRootProof n o.form s proof
 IsDue n o s (split_of split left right) = IsRooted n (options_of o) s × IsSplit n o s split left right
 
--- a step: an entry that is in order and due
+-- A step: an entry that is in order and due. Where halves are raised, so much is known of both halves of a split: it holds no plan, or its
+-- bound is the best that the rows of the form allow in its box, or the exact run of the box gives a reason.
 pub record IsStep (n : Net) (o : Orders) (s : Searched) (e : Entry) : Type 0 where
   pub in_order : IsEntryInOrder n s e
   pub due : IsDue n o s e
+  pub best : IsBestEntry n o.form o.raise s.tree e

@@ -1,11 +1,12 @@
-//! What is due under the orders: what comes next for the search, and in place of a cut a squeeze, where one is asked for and found.
+//! What is due under the orders: what comes next for the search, in place of a cut a squeeze, where one is asked for and found, and each split
+//! with its halves raised, where that is asked for.
 
 ghost use Rattle.std.specs.Prelude.{◌≡◌, ◌<◌, length, IfOk, IfSome, IfNone};
 ghost use Rattle.pool_model.specs.Network.{net_of};
 ghost use Rattle.row_model.specs.Trees.{IsLeastLeaf};
 ghost use Rattle.search_core.specs.Cases.{HasNoBetterStart};
 ghost use Rattle.search_core.specs.Searches.{searched, IsAsked, IsSearchOf};
-ghost use Rattle.search_run.specs.Due.{cut_leaf, split_leaf, IsDueNext, IsSqueezeEntry};
+ghost use Rattle.search_run.specs.Due.{cut_leaf, split_leaf, IsChosenNext, IsDueNext, IsSqueezeEntry};
 ghost use Rattle.search_run.specs.Orders.{options_of};
 ghost use Rattle.search_run.specs.Steps.{OwesNone};
 
@@ -16,16 +17,53 @@ use box_squeeze::{squeeze_looked, target_of};
 use box_tree::Entry;
 use edge_io::Memory;
 use leaf_cuts::SolvedCuts;
+use raised_splits::raised_entry;
 use search_core::{Answer, Next, Search};
 use std::alloc::Global;
 
 /// What is due for a search under the orders: an entry to take, or how the run ended. Where squeezes are asked for and there is a plan, a
-/// cut of the least leaf gives way to a squeeze of it, if one is found.
+/// cut of the least leaf gives way to a squeeze of it, if one is found. Where pivots are asked for, the halves of a split are raised.
 pub fn due(alloc: Global, net: &Network, orders: Orders, search: &Search) -> Result<Next, Memory>
     requires search { IsSearchOf (net_of net.now) search.now }
     requires options { search.now.options ≡ options_of orders }
     requires asked { IsAsked (options_of orders) }
     ensures { IfOk result (IsDueNext (net_of net.now) orders search.now) }
+{
+    let next = chosen(alloc, net, orders, search)?;
+    match next {
+        Next::Do(entry) => raised(alloc, net, orders, search, entry),
+        Next::Closed => Ok(Next::Closed),
+        Next::Stopped => Ok(Next::Stopped),
+        Next::Stuck => Ok(Next::Stuck),
+        Next::Infeasible => Ok(Next::Infeasible),
+        Next::Undecided => Ok(Next::Undecided),
+    }
+}
+
+/// What is due where an entry was chosen: the entry with its halves raised, where that is asked for.
+fn raised(
+    alloc: Global,
+    net: &Network,
+    orders: Orders,
+    search: &Search,
+    entry: Entry,
+) -> Result<Next, Memory>
+    requires search { IsSearchOf (net_of net.now) search.now }
+    requires options { search.now.options ≡ options_of orders }
+    requires chosen { IsChosenNext (net_of net.now) orders search.now (Next.Do entry) }
+    ensures { IfOk result (IsDueNext (net_of net.now) orders search.now) }
+{
+    let tree = search.tree();
+    let entry = raised_entry(alloc, net, orders.form, tree, entry, orders.raise)?;
+    Ok(Next::Do(entry))
+}
+
+/// What is due, before the halves of a split are raised.
+fn chosen(alloc: Global, net: &Network, orders: Orders, search: &Search) -> Result<Next, Memory>
+    requires search { IsSearchOf (net_of net.now) search.now }
+    requires options { search.now.options ≡ options_of orders }
+    requires asked { IsAsked (options_of orders) }
+    ensures { IfOk result (IsChosenNext (net_of net.now) orders search.now) }
 {
     let Answer { due, solved, .. } = next_by(alloc, net, orders.rule, search)?;
     let Some(leaf) = cut_leaf(&due) else {

@@ -26,6 +26,8 @@ pub struct Orders {
     pub rule: RuleName,
     /// Whether pieces are cut off leaves where that pays.
     pub squeeze: bool,
+    /// How many pivots may be made to raise the bound of a new half; 0 is that none is raised.
+    pub raise: u32,
 }
 
 impl Orders {

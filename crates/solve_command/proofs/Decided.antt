@@ -18,7 +18,7 @@ module _ (told : Files) (s : Solving) where
   same_net n m = one_network told s.net n m
 
   not_over : WithinUnder (Some told) s → OverUnder (Some told) s → ⊥
-  not_over h o = o.over (subst (λ n. IsWithinBudget (net_of n) s.nodes) (same_net h.network o.network h.reads o.reads) h.within)
+  not_over h o = o.over (subst (λ n. IsWithinBudget (net_of n) s.nodes s.raise) (same_net h.network o.network h.reads o.reads) h.within)
 
   within_decides : (status : Status) → WithinUnder (Some told) s → IsPrinted status → (StartUnder (Some told) s → IsPlanned status) → SolveDecided told s status
   within_decides status h printed planned = record {

@@ -257,7 +257,7 @@ module _ (n : Net) (text : List ℕ) (o : Orders) (old new : DiskTold) (Found Pr
   }
 
 -- what is printed of a solution
-module _ (files : Option Files) (s : Solving) (network : Network) (read : ReadsUnder files s.net network) (within : IsWithinBudget (net_of network) s.nodes)
+module _ (files : Option Files) (s : Solving) (network : Network) (read : ReadsUnder files s.net network) (within : IsWithinBudget (net_of network) s.nodes s.raise)
     (old new : DiskTold) (before after : Option (List ℕ)) where
   abbrev Prints : Cert → Type 0
   Prints c = after ≡ behind before (text_of c)

@@ -40,7 +40,7 @@ took_whole files s ended text old new answers e =
     subst (λ (p : Part). TookPart p (SolvesAs files s) (status_of ended) old new) (sym (printed_end ended)) (text, answers, e)
 
 -- what is printed is short: the search began with the root alone, or with a tree of few enough nodes
-pub printed_short : (n : Net) (s : Solving) (first : List Entry) (status : Status) (c : Cert) → IsWithinBudget n s.nodes → (s.journal ≡ None → first ≡ [])
+pub printed_short : (n : Net) (s : Solving) (first : List Entry) (status : Status) (c : Cert) → IsWithinBudget n s.nodes s.raise → (s.journal ≡ None → first ≡ [])
     → IsSolutionFrom n (orders_of s) (made_by first) status c → IsCert c → ((s.journal ≡ None) ⊎ HasFewRows n (length (made_by first).tree.splits)) → length (text_of c) ≤ most_bytes
 printed_short n s first status c within alone solution held (inl none) =
     let root : HasFewRows n 0 = few_rows-fewer n 0 s.nodes (omega arith) within.short in
@@ -49,7 +49,7 @@ printed_short n s first status c within alone solution held (inl none) =
 printed_short n s first status c within alone solution held (inr few) = (solution.short within.short few).text held
 
 -- how a certificate's claim ends, of a network that was read
-module _ (files : Option Files) (s : Solving) (network : Network) (reads : ReadsUnder files s.net network) (within : IsWithinBudget (net_of network) s.nodes) where
+module _ (files : Option Files) (s : Solving) (network : Network) (reads : ReadsUnder files s.net network) (within : IsWithinBudget (net_of network) s.nodes s.raise) where
   abbrev here : WithinUnder files s
   here = record { network = network; reads = reads; within = within }
 
@@ -112,7 +112,7 @@ module _ (files : Option Files) (s : Solving) (before after : ℕ) where
   cut_ends statuses.OutOfMemory h = tt
   cut_ends status h = absurd h
 
-  pub unsolved_ends : (network : Network) (status : Status) → ReadsUnder files s.net network → IsWithinBudget (net_of network) s.nodes →
+  pub unsolved_ends : (network : Network) (status : Status) → ReadsUnder files s.net network → IsWithinBudget (net_of network) s.nodes s.raise →
       IsHeldUp s.journal status → SolveEnds files s before after status
   unsolved_ends network status reads within (inl cut) = cut_ends status cut
   unsolved_ends network status reads within (inr held) =

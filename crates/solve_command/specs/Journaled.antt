@@ -86,7 +86,7 @@ pub record AttachedUnder (files : Option Files) (s : Solving) (old new : DiskTol
     (status : Status) (Prints : Cert → Type 0) : Type 0 where
   pub network : Network
   pub read : ReadsUnder files s.net network
-  pub within : IsWithinBudget (net_of network) s.nodes
+  pub within : IsWithinBudget (net_of network) s.nodes s.raise
   pub attached : IsAttached (net_of network) (canonical_text network) (orders_of s) old new status Prints
 
 -- A run whose words name a journal, from the old state of the disk to the new one: it came to no file, or it read one.

@@ -1,10 +1,11 @@
 -- How `solve` ends.
-use Rattle.std.specs.Prelude.{◌≡◌, ◌⊎◌, ◌+◌, ◌*◌, ◌≤◌, ℕ, List, [], length, Option, None, Some}
+use Rattle.std.specs.Prelude.{◌≡◌, ◌⊎◌, ◌+◌, ◌*◌, ◌<◌, ◌≤◌, ℕ, List, [], length, Option, None, Some}
 use Rattle.pool_model.specs.Network.{Net, Network, net_of}
 use Rattle.pool_model.specs.Plan.{Written, plan_of, Obeys}
 use Rattle.pool_model.specs.Starting.{IsStarting}
 use Rattle.pool_model.specs.Claim.{HasNoPlan}
 use Rattle.row_model.specs.Catalogue.{rows}
+use Rattle.row_model.specs.Variables.{variables}
 use Rattle.row_model.specs.Trees.{most_splits}
 use Rattle.row_model.specs.Entries.{Entry, made_by, AreInOrder}
 use Rattle.cert_format.specs.Cert.{Cert}
@@ -34,12 +35,15 @@ solve_status outcomes.WriteFault = statuses.WriteFault
 
 -- what the search is asked for
 abbrev pub orders_of : Solving → Orders
-orders_of s = record { form = s.form; nodes = s.nodes; gap = s.gap; rule = s.rule; squeeze = s.squeeze }
+orders_of s = record { form = s.form; nodes = s.nodes; gap = s.gap; rule = s.rule; squeeze = s.squeeze; raise = s.raise }
 
--- The budget: no more splits than there may be, and of all nodes together no more rows than a certificate may speak of.
-pub record IsWithinBudget (n : Net) (nodes : ℕ) : Type 0 where
+-- The budget: no more splits than there may be, and of all nodes together no more rows than a certificate may speak of. Halves are raised in at
+-- most 1,000,000 pivots, and only where the network has at most 2,000 variables and rows together.
+pub record IsWithinBudget (n : Net) (nodes raise : ℕ) : Type 0 where
   pub few : nodes ≤ most_splits
   pub short : (2 * nodes + 1) * rows n ≤ most_rows
+  pub pivots : raise ≤ 1000000
+  pub small : 0 < raise → variables n + rows n ≤ 2000
 
 -- The text of a certificate of the network in the file that is named, and the status that it ends with. The search began with the
 -- tree of entries that a journal held, or without one with the root alone.
@@ -47,7 +51,7 @@ pub record SolvesAs (files : Option Files) (s : Solving) (status : Status) (text
   pub network : Network
   pub certificate : Cert
   pub reads : ReadsUnder files s.net network
-  pub within : IsWithinBudget (net_of network) s.nodes
+  pub within : IsWithinBudget (net_of network) s.nodes s.raise
   -- Promise: The run of `solve` began with the tree of entries that are in order one after another; without `--journal` with the root alone
   pub first : List Entry
   -- Promise: The run of `solve` began with the tree of entries that are in order one after another; without `--journal` with the root alone
@@ -65,13 +69,13 @@ pub record SolvesAs (files : Option Files) (s : Solving) (status : Status) (text
 pub record WithinUnder (files : Option Files) (s : Solving) : Type 0 where
   pub network : Network
   pub reads : ReadsUnder files s.net network
-  pub within : IsWithinBudget (net_of network) s.nodes
+  pub within : IsWithinBudget (net_of network) s.nodes s.raise
 
 -- a network is read, and what is asked is over the budget
 pub record OverUnder (files : Option Files) (s : Solving) : Type 0 where
   pub network : Network
   pub reads : ReadsUnder files s.net network
-  pub over : ¬ IsWithinBudget (net_of network) s.nodes
+  pub over : ¬ IsWithinBudget (net_of network) s.nodes s.raise
 
 -- no plan obeys the network
 pub record NoPlanUnder (files : Option Files) (s : Solving) : Type 0 where
@@ -104,7 +108,8 @@ pub record WantUnder (files : Option Files) (s : Solving) (outcome : SolveOutcom
 -- Each status comes only where its line holds of what is asked; no other comes. The counts are of the bytes taken. Of the file of
 -- the journal more is said in `specs/Journaled.antt`.
 -- Promise: Each other status comes only where it says so of the files: 3 where no network is read from NET, with its first cause; 4 where
---   `--nodes` is above 200,000, or twice `--nodes` and one, times the rows of the network, is above 32,000,000; 0, 10 and 11 of `solve`
+--   `--nodes` is above 200,000, or twice `--nodes` and one, times the rows of the network, is above 32,000,000, or `--raise` is above
+--   1,000,000, or above 0 where the network has more than 2,000 variables and rows together; 0, 10 and 11 of `solve`
 --   where a network is read and it is not so, 12 where no plan obeys it, 13 where no starting plan does; 0 of `check` where CERT is the
 --   text of a valid certificate, and 1 where it is not; 5 where CERT has more than 1,073,741,824 bytes; 30 to 33 of `solve` where a network
 --   is read, what is asked is within the budget and a journal is named

@@ -29,6 +29,7 @@ fn run<D: Disk>(alloc: Global, net: &Network, disk: &mut D) -> Result<Outcome, R
         gap: 0,
         rule: RuleName::Violated,
         squeeze: false,
+        raise: 0,
     };
     run_recorded(alloc, net, TEXT, orders, disk)
 }

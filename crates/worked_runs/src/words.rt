@@ -6,14 +6,16 @@ use std::test::Fail;
 
 /// Words, parted at each space, and behind the arrow what they ask, or `Usage` where they ask nothing.
 const ASKED: &str = "\
-solve net -> Solve(SolveWords { net: \"net\", form: Pq, nodes: 1000, gap: 10000000000, journal: None, rule: Widest, squeeze: false })
-solve --nodes 07 net --form=q --gap 0.001 --rule=first --journal j -> Solve(SolveWords { net: \"net\", form: Q, nodes: 7, gap: 1000000000, journal: Some(\"j\"), rule: First, squeeze: false })
-solve net --nodes=20001 --rule violated -> Solve(SolveWords { net: \"net\", form: Pq, nodes: 20001, gap: 10000000000, journal: None, rule: Violated, squeeze: false })
-solve net --rule=fewest -> Solve(SolveWords { net: \"net\", form: Pq, nodes: 1000, gap: 10000000000, journal: None, rule: Fewest, squeeze: false })
-solve net --squeeze=on --rule violated -> Solve(SolveWords { net: \"net\", form: Pq, nodes: 1000, gap: 10000000000, journal: None, rule: Violated, squeeze: true })
+solve net -> Solve(SolveWords { net: \"net\", form: Pq, nodes: 1000, gap: 10000000000, journal: None, rule: Widest, squeeze: false, raise: 0 })
+solve --nodes 07 net --form=q --gap 0.001 --rule=first --journal j -> Solve(SolveWords { net: \"net\", form: Q, nodes: 7, gap: 1000000000, journal: Some(\"j\"), rule: First, squeeze: false, raise: 0 })
+solve net --nodes=20001 --rule violated -> Solve(SolveWords { net: \"net\", form: Pq, nodes: 20001, gap: 10000000000, journal: None, rule: Violated, squeeze: false, raise: 0 })
+solve net --rule=fewest -> Solve(SolveWords { net: \"net\", form: Pq, nodes: 1000, gap: 10000000000, journal: None, rule: Fewest, squeeze: false, raise: 0 })
+solve net --squeeze=on --rule violated -> Solve(SolveWords { net: \"net\", form: Pq, nodes: 1000, gap: 10000000000, journal: None, rule: Violated, squeeze: true, raise: 0 })
+solve net --raise=0100 -> Solve(SolveWords { net: \"net\", form: Pq, nodes: 1000, gap: 10000000000, journal: None, rule: Widest, squeeze: false, raise: 100 })
+solve net --raise on -> Usage
 solve --form p --gap=1000000 --nodes 18446744073709551615 --rule widest net --squeeze off -> \
-    Solve(SolveWords { net: \"net\", form: P, nodes: 18446744073709551615, gap: 1000000000000000000, journal: None, rule: Widest, squeeze: false })
-solve solve --gap 0 --journal=a=b -> Solve(SolveWords { net: \"solve\", form: Pq, nodes: 1000, gap: 0, journal: Some(\"a=b\"), rule: Widest, squeeze: false })
+    Solve(SolveWords { net: \"net\", form: P, nodes: 18446744073709551615, gap: 1000000000000000000, journal: None, rule: Widest, squeeze: false, raise: 0 })
+solve solve --gap 0 --journal=a=b -> Solve(SolveWords { net: \"solve\", form: Pq, nodes: 1000, gap: 0, journal: Some(\"a=b\"), rule: Widest, squeeze: false, raise: 0 })
 check net cert -> Check(\"net\", \"cert\")
 report net cert -> Report(\"net\", \"cert\")
 formulate net -> Formulate(\"net\", Pq)

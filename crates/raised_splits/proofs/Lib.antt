@@ -1,0 +1,4 @@
+-- Lemmas behind the answers.
+pub mod Halves
+mod Raised
+mod Held
