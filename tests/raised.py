@@ -12,6 +12,7 @@ With --table it prints what raising brings and costs, and judges nothing.
 
 import argparse
 import json
+import random
 import resource
 import sys
 import tempfile
@@ -71,14 +72,28 @@ def loose_ends(trial, case, form, pivots, begun=1):
             yield f"{case.label}: node {node}, which was cut, is {mark.word}"
 
 
+def small_network(seed):
+    """A network of three sources, two pools and two products in small whole numbers."""
+    draw = random.Random(seed)
+    qualities = ["K0", "K1"][: draw.randint(1, 2)]
+
+    def contents(low, high):
+        return {name: draw.randint(low, high) for name in qualities}
+
+    sources = [{"name": name, "cost": draw.randint(1, 9), "max": draw.randint(50, 300), "quality": contents(0, 9)} for name in "ABC"]
+    products = [{"name": name, "price": draw.randint(5, 15), "max": draw.randint(50, 300), "most": contents(2, 6)} for name in "XY"]
+    arcs = [["A", "P"], ["B", "P"], ["B", "R"], ["C", "R"], ["P", "X"], ["P", "Y"], ["R", "X"], ["R", "Y"], ["C", "X"]]
+    return {"version": 1, "qualities": qualities, "sources": sources, "pools": [{"name": "P"}, {"name": "R"}], "products": products, "arcs": arcs}
+
+
 def random_networks(trial):
-    """100 networks of numbers as wide as they may be."""
+    """100 networks, of numbers as wide as they may be and of small ones in turn."""
     for seed in range(100):
-        net = trial.file("wide.json", json.dumps(wide_network(seed)))
-        form, rule, squeeze = FORMS[seed % 3], RULES[seed % 4], ("off", "on")[seed // 2 % 2]
-        pivots = (1000, 100, 7)[seed // 5 % 3]
+        net = trial.file("random.json", json.dumps((wide_network, small_network)[seed % 2](seed)))
+        form, rule, squeeze = FORMS[seed % 3], RULES[seed // 2 % 4], ("off", "on")[seed // 8 % 2]
+        pivots = (1000, 1000, 100, 7)[seed // 6 % 4]
         words = ["--form", form, "--rule", rule, "--squeeze", squeeze, "--nodes", "6", "--gap", "0", "--raise", str(pivots)]
-        found, faults = told(trial, f"wide {seed} {' '.join(words)}", net, *words)
+        found, faults = told(trial, f"network {seed} {' '.join(words)}", net, *words)
         yield from faults
         if found:
             yield from loose_ends(trial, found[1], form, pivots)
@@ -187,6 +202,21 @@ def table(trial, nodes, names):
             lines = dict(line.split(" ", 1) for line in done.stdout.splitlines() if line.split(" ")[0] in ("splits", "bound", "gap"))
             gap_found = int(lines["gap"].split()[0]) / int(lines["gap"].split()[1]) / 10**12
             print(f"| {name} | {pivots} | {lines['splits']} | {done.returncode} | {int(lines['bound']) / 10**12:.6f} | {gap_found:.6f} | {seconds:.2f} |", flush=True)
+    if not names:
+        small_table(trial)
+
+
+def small_table(trial):
+    """How many of 60 networks of small numbers close at a gap of 0 within 40 splits, and the splits and seconds of a processor of all together."""
+    print("\n| `--raise` | Closed | Splits | Seconds |\n|---|---|---|---|", flush=True)
+    for pivots in ("0", "100", "1000"):
+        closed, splits, begun = 0, 0, resource.getrusage(resource.RUSAGE_CHILDREN).ru_utime
+        for seed in range(60):
+            net = trial.file("small.json", json.dumps(small_network(seed)))
+            done = trial.run("solve", net, "--gap", "0", "--rule", "violated", "--nodes", "40", "--raise", pivots)
+            closed += done.returncode == 0
+            splits += int(next(line.split()[1] for line in done.stdout.splitlines() if line.startswith("splits ")))
+        print(f"| {pivots} | {closed} | {splits} | {resource.getrusage(resource.RUSAGE_CHILDREN).ru_utime - begun:.1f} |", flush=True)
 
 
 def main():
