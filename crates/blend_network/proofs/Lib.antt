@@ -1,6 +1,4 @@
 pub mod Margins
-pub mod Ratios
-pub mod Carried
 pub mod Built
 pub mod Indexed
 pub mod Within

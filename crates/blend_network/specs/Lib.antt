@@ -10,5 +10,4 @@ pub mod Kinds
 pub mod Made
 pub mod Built
 pub mod Canonical
-pub mod Ratios
 pub mod Reach

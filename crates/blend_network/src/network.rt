@@ -15,13 +15,11 @@ use number_groups::Groups;
 use std::marker::Model;
 
 mod assemble;
-mod carriage;
 mod index;
 mod keys;
 mod limits;
 mod narrow;
 mod reach;
-mod treatment;
 
 /// A source, in millionths.
 #[derive(Drop)]
@@ -32,12 +30,11 @@ struct Source {
     quality: Vec<i64>,
 }
 
-/// A pool, in millionths, and how many thousandths of each quality that enters it leave it.
+/// A pool, in millionths.
 #[derive(Drop)]
 struct Pool {
     name: String,
     max: u64,
-    ratio: Vec<u64>,
 }
 
 /// A product, in millionths.
@@ -53,8 +50,7 @@ struct Product {
 
 /// A pooling network. Sources, pools, products and qualities are numbered from 0 in file order. The arcs are kept by
 /// kind, each kind in file order: feeds go from a source to a pool, outs from a pool to a product, directs from a source
-/// to a product. Paths are a feed and an out of one pool. Money and flow are in millionths. The scale is that of what pools retain:
-/// 1 where none removes anything, else 1000.
+/// to a product. Paths are a feed and an out of one pool. Money and flow are in millionths.
 #[derive(Drop)]
 pub struct Network {
     qualities: Vec<String>,
@@ -67,7 +63,6 @@ pub struct Network {
     paths: Vec<Path>,
     index: Vec<Groups>,
     limits: Limits,
-    scale: u64,
 }
 
 impl Model for Network {
@@ -97,7 +92,7 @@ impl Model for Network {
       feeds = map shown_arc n.feeds.items;
       outs = map shown_arc n.outs.items;
       directs = map shown_arc n.directs.items;
-    } (map shown_path n.paths.items) n.index.items n.limits n.scale };
+    } (map shown_path n.paths.items) n.index.items n.limits };
 }
 
 impl Network {

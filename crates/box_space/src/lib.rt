@@ -10,7 +10,6 @@
 #![tactic(auto)]
 
 mod boxes;
-mod capped;
 mod coordinates;
 mod numbers;
 mod root;

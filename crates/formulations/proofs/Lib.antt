@@ -3,4 +3,3 @@ pub mod FamiliesOfPq
 pub mod FamiliesOfQ
 pub mod ProportionEnvelopes
 pub mod QualityEnvelopes
-pub mod InParts

@@ -5,7 +5,6 @@
 //! beside those of Q.
 #![tactic(auto)]
 
-mod limits;
 pub mod p;
 pub mod pq;
 pub mod q;

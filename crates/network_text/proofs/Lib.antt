@@ -1,5 +1,4 @@
 pub mod CanonicalReads
 pub mod WrittenReads
 pub mod CanonicalSize
-pub mod CanonicalPlain
 pub mod CanonicalText

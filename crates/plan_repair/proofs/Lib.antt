@@ -1,3 +1,2 @@
 mod Leading
-mod Maxima
 pub mod Choosing

@@ -11,8 +11,6 @@ mod halves;
 #[cfg(test)]
 mod rows;
 #[cfg(test)]
-mod treatment;
-#[cfg(test)]
 mod values;
 #[cfg(test)]
 mod witnesses;
