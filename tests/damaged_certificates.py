@@ -3,7 +3,7 @@
 
 `damaged_certificates.py POOL` compares the line and the status of `POOL check NET CERT` with those of the second checker:
 on the certificates of examples/, on mutations of them from a fixed seed, and on certificates with splits and proofs for
-networks that it makes. It prints what differs, and how often each answer was met.
+networks of both versions that it makes. It prints what differs, and how often each answer was met.
 """
 
 import json
@@ -21,6 +21,7 @@ TOP = Path(__file__).resolve().parent.parent
 checker = SourceFileLoader("second_checker", str(TOP / "tools" / "second_checker.py")).load_module()
 MUTATIONS = 500
 TREES = 200
+TREES_OF_VERSION_2 = 200
 SEED = 1976
 EDGES = [0, 1, 2, 2**31, 2**32 - 1, 2**32, 2**63 - 1, 2**63, 2**64 - 1, 2**64, 2**126, 2**127 - 1, 2**127, 10**40]
 
@@ -110,6 +111,24 @@ def some_network(rng):
     return json.dumps(net).encode()
 
 
+def furnished(rng, data):
+    """The same network in version 2: some arcs have a cost or a maximum, and pools take out a part of some qualities."""
+    net = json.loads(data)
+    net["version"] = 2
+    for at, (start, end) in enumerate(net["arcs"]):
+        arc = {"from": start, "to": end}
+        if rng.random() < 0.5:
+            arc["cost"] = rng.choice([-2, 0, 1, "0.25", 4, f"{rng.randrange(6)}.{rng.randrange(10**6):06}"])
+        if rng.random() < 0.5:
+            arc["max"] = rng.choice([0, 7, 20, "12.5", 90, f"{rng.randrange(60)}.{rng.randrange(10**6):06}"])
+        if len(arc) > 2 or rng.random() < 0.2:
+            net["arcs"][at] = arc
+    for pool in net["pools"]:
+        if rng.random() < 0.7:
+            pool["ratio"] = {name: rng.choice([0, 1, 250, 500, 999, 1000, rng.randrange(1001)]) for name in net["qualities"] if rng.random() < 0.7}
+    return json.dumps(net).encode()
+
+
 def some_splits(rng, net):
     """Splits in order, but for a rare one; and the ends of each node's box."""
     splits, boxes, leaves = [], [(net.low, net.high)], [0]
@@ -136,8 +155,9 @@ def scarce(rng, net, scale):
     ns, np = net.shape[:2]
     dear = [scale * source.cost for source in net.sources]
     dear[rng.randrange(ns)] += scale * rng.randrange(20 * 10**6)
-    least = [min(dear[s] for s, l in net.feeds if l == pool) for pool in range(np)]
-    ways = [(least[l], j) for l, j in net.outs] + [(dear[s], j) for s, j in net.directs]
+    least = [min(dear[s] + scale * arc.cost for (s, l), arc in zip(net.feeds, net.into) if l == pool) for pool in range(np)]
+    ways = [(least[l] + scale * arc.cost, j) for (l, j), arc in zip(net.outs, net.out)]
+    ways += [(dear[s] + scale * arc.cost, j) for (s, j), arc in zip(net.directs, net.past)]
     mults = {s: price - scale * net.sources[s].cost for s, price in enumerate(dear)}
     mults |= {ns + pool: price for pool, price in enumerate(least)}
     for j, product in enumerate(net.products):
@@ -232,6 +252,9 @@ def cases(rng):
         yield net, mutated(rng, cert)
     for _ in range(TREES):
         net = some_network(rng) if rng.random() < 0.7 else rng.choice(known)[0]
+        yield net, some_tree(rng, net)
+    for _ in range(TREES_OF_VERSION_2):
+        net = furnished(rng, some_network(rng))
         yield net, some_tree(rng, net)
 
 

@@ -10,6 +10,7 @@ processor's time (SIGXCPU). Prints what differs, and in its last line how much w
 
 import argparse
 import fcntl
+import json
 import os
 import resource
 import shutil
@@ -160,6 +161,39 @@ def chain(count):
     splits = "".join(f"split {2 * t} 3 {t + 1}\n" for t in range(count))
     return (f"poolcert 1\nkind gap\nshape 2 1 1 1 2 1 0\nplan 1 1\nweights 1 0\noutflows 0\ndirect\nsplits {count}\n{splits}proofs 0\n"
             "cost 0 1\nbound -300000000000000\ngap 300000000000000 1\nend\n")
+
+
+LONGEST_TEXT = 1_048_576
+
+
+def largest_network(price):
+    """The most nodes, qualities and arcs, with names that JSON writes with two bytes for each of 40, and numbers that are as long as may be."""
+    names = iter("".join('"\\'[number >> bit & 1] for bit in range(40)) for number in range(64 + 16 + 64 + 8))
+    sources, pools, products, qualities = ([next(names) for _ in range(count)] for count in (64, 16, 64, 8))
+    contents = {name: "-99999.999999" for name in qualities}
+    ends = [(sources[l], pools[l]) for l in range(16)] + [(pools[l], products[l]) for l in range(16)]
+    ends += [(sources[d % 64], products[(d + d // 64) % 64]) for d in range(256 - 32)]
+    return {"version": 2, "qualities": qualities,
+            "sources": [{"name": name, "cost": "-999999.999999", "max": "99999999.999999", "quality": contents} for name in sources],
+            "pools": [{"name": name, "max": "99999999.999999", "ratio": {quality: 999 for quality in qualities}} for name in pools],
+            "products": [{"name": name, "price": price, "min": "0.000001", "max": "999999.999999", "least": contents, "most": contents} for name in products],
+            "arcs": [{"from": start, "to": end, "cost": "-999999.999999", "max": "99999999.999999"} for start, end in ends]}
+
+
+def largest_networks(trial):
+    """The canonical text of the largest networks, which journals hold, is as long as it may be at most; and what is found for them is
+    accepted, also by the second checker, with the greatest costs and earnings that there are."""
+    for price in ("-999999.999999", "999999.999999"):
+        net, cert = trial.folder / "largest.json", trial.folder / "largest.cert"
+        net.write_text(json.dumps(largest_network(price)))
+        text = made.canonical(net.read_bytes())
+        trial.journal.unlink(missing_ok=True)
+        done = run(trial, ["solve", net, "--nodes", "0", "--journal", trial.journal])
+        yield from differs(f"largest network, {price}: {len(text)} bytes", (made.text_of(trial.left()) == text, len(text.encode()) <= LONGEST_TEXT), (True, True))
+        cert.write_text(done.out)
+        told = made.checker.run([str(net), str(cert)])
+        yield from differs(f"largest network, {price}: {done.status} {done.error}", (done.status in (0, 10, 13), told[0], run(trial, ["check", net, cert])), (True, 0, Done(0, told[1] + "\n", "")))
+        trial.tried["largest networks"] += 1
 
 
 # ---- few files
@@ -365,6 +399,7 @@ def parts(trial, long):
     yield from small_stack(trial, [row1, first, many])
     yield from long_texts(trial)
     yield from most_splits(trial)
+    yield from largest_networks(trial)
     yield from few_files(trial, row1)
     yield from odd_files(trial)
     yield from each_size(trial, row1)

@@ -2,6 +2,7 @@
 at what a run left. The canonical text of a network, which a journal holds, is made here too."""
 
 import json
+import math
 import signal
 import struct
 import sys
@@ -140,8 +141,13 @@ def canonical(data):
     pools = [{"name": p.name, "max": amount(p.max)} for p in net.pools]
     products = [{"name": p.name, "price": amount(p.price), "min": amount(p.min), "max": amount(p.max),
                  "least": of_qualities(p.least), "most": of_qualities(p.most)} for p in net.products]
-    arcs = [[net.sources[s].name, net.pools[p].name] for s, p in net.feeds]
-    arcs += [[net.pools[p].name, net.products[x].name] for p, x in net.outs]
-    arcs += [[net.sources[s].name, net.products[x].name] for s, x in net.directs]
-    tree = {"arcs": arcs, "pools": pools, "products": products, "qualities": names, "sources": sources, "version": 1}
+    arcs, version = [list(arc.ends) for arc in net.arcs], 1
+    if net.H > 1 or any(arc.cost or arc.max < math.inf for arc in net.arcs):
+        version = 2
+        for pool, shares in zip(pools, net.tau):
+            pool["ratio"] = {name: share * 1000 // net.H for name, share in zip(names, shares)}
+        arcs = [{"from": arc.ends[0], "to": arc.ends[1], "cost": amount(arc.cost)} for arc in net.arcs]
+        for row, arc in zip(arcs, net.arcs):
+            row.update({"max": amount(arc.max)} if arc.max < math.inf else {})
+    tree = {"arcs": arcs, "pools": pools, "products": products, "qualities": names, "sources": sources, "version": version}
     return json.dumps(tree, sort_keys=True, separators=(",", ":"), ensure_ascii=False)

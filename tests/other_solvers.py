@@ -212,9 +212,8 @@ HAVERLY = {"version": 1, "qualities": ["1"],
            "arcs": [["1", "4"], ["2", "4"], ["3", "5"], ["3", "6"], ["4", "5"], ["4", "6"]]}
 
 UNFIT = [
-    (GAMS, " 4    0   1   1 ;", " 4    1   1   1 ;", "21: the arc from 4 to 4 goes from a pool to a pool, which version 1 has not"),
-    (GAMS, "bl(i) /  1    0.00", "bl(i) /  1    5.00", "29: 1 has a least that passes it, and version 1 has that of products alone"),
-    (GAMS, "        0.00       -9.00", "        0.00       -8.00", "14: the arc between 3 and 6 has a cost that is no cost of a source less a price of a product"),
+    (GAMS, " 4    0   1   1 ;", " 4    1   1   1 ;", "21: the arc from 4 to 4 goes from a pool to a pool, which network files have not"),
+    (GAMS, "bl(i) /  1    0.00", "bl(i) /  1    5.00", "29: 1 has a least that passes it, and network files have that of products alone"),
     (GAMS, "16.00", "16.0000001", "13: no number of six decimals at most: 16.0000001"),
     (GAMS, " 2    1   0   0\n", " 2    1   0\n", "19: 2 numbers in a row of 3 columns"),
     (GAMS, "   5   0.00\n", "   5\n", "29: bl: a name without a number"),
@@ -229,6 +228,18 @@ UNFIT = [
 ]
 
 
+def own_costs(folder):
+    """Where 5 pays 8 for what the pool sends, 3 costs 9 for what it sends to 5, and 1 more for what it sends to 6: the arc's own cost."""
+    (folder / "instance").write_text(GAMS.replace("        0.00       -9.00", "        0.00       -8.00"))
+    found = run("network_from_dat", "instance", at=folder)
+    net = pooling.Network.of(found.stdout.encode())
+    told = ([source.cost for source in net.sources], [product.price for product in net.products], [(*ends, arc.cost) for ends, arc in zip(net.arc_names(), net.arcs) if arc.cost])
+    if (net.value["version"], *told) != (2, [6_000_000, 16_000_000, 9_000_000], [8_000_000, 15_000_000], [("3", "6", 1_000_000)]):
+        yield f"costs of arcs: {told}"
+    if (found := pooling.solve(net, gap="0.001")).cost != -400:
+        yield f"costs of arcs: it costs {found.cost}"
+
+
 def instances(folder):
     for label, text in (("GAMS", GAMS), ("AMPL", AMPL)):
         (folder / "instance").write_text(text)
@@ -241,6 +252,7 @@ def instances(folder):
             yield f"{label}: another network: {net.canonical()}"
         if (found := pooling.solve(net, gap="0.001")).cost != -400:
             yield f"{label}: it costs {found.cost}"
+    yield from own_costs(folder)
     for text, old, new, line in UNFIT:
         assert old in text, old
         (folder / "instance").write_text(text.replace(old, new, 1))

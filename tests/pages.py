@@ -1,7 +1,7 @@
 #!/usr/bin/env python3
 """Whether the pages are true where a script can tell: `pages.py`
 
-Of README.md, docs/ and examples/README.md: each link and each path that they name is there; each certificate that they
+Of README.md, docs/ and the pages of examples/: each link and each path that they name is there; each certificate that they
 show is one of examples/, each network that they show is one, and each line on a certificate is that of the second
 checker; docs/ARCHITECTURE.md has a row for each crate; and each
 command that begins with ./pool or tools/ in a line of its own runs as written, in a folder where the repository's own
@@ -23,7 +23,7 @@ from pathlib import Path
 sys.dont_write_bytecode = True
 TOP = Path(__file__).resolve().parent.parent
 checker = SourceFileLoader("second_checker", str(TOP / "tools" / "second_checker.py")).load_module()
-PAGES = [TOP / "README.md", TOP / "examples" / "README.md", *sorted((TOP / "docs").rglob("*.md"))]
+PAGES = [TOP / "README.md", *sorted((TOP / "examples").glob("*.md")), *sorted((TOP / "docs").rglob("*.md"))]
 LINK = re.compile(r"\]\(([^)\s]+)\)")
 CRATES = TOP / "crates"
 CITED = re.compile(r"\buse Rattle\.(\w+)\.proofs\.(\w+)")

@@ -155,6 +155,25 @@ def wastewater(folder):
         yield "waste water: the report's picture has other arcs"
 
 
+def treated(folder):
+    """A pool that takes out half of the sulfur, and an arc that carries all that it may: with a plan, and the network alone."""
+    net, cert = TOP / "tests" / "worked" / "desulfured.json", TOP / "tests" / "worked" / "desulfured.cert"
+    picture = drawn(net, cert)
+    if sorted(arcs(picture)) != ["A to P: 80 of 80, cost 0.5", "P to X: 80"]:
+        yield f"half of the sulfur: the arcs are {arcs(picture)}"
+    yield from lacking(picture, ["cost -200 \u00a0\u00a0 bound -250 \u00a0\u00a0 gap 50", "passes 80", "sulfur 3 in, 1.5 out", "80 of 80", "80", "1.5 (at most 1.5)"])
+    bold = [text.text for text in picture.iter(NAME + "text") if text.get("font-weight") == "bold"]
+    if "80 of 80" not in bold or "80" in bold:
+        yield f"half of the sulfur: bold are {bold}"
+    alone = drawn(net)
+    if sorted(arcs(alone)) != ["A to P: at most 80, cost 0.5", "P to X"]:
+        yield f"half of the sulfur, the network alone: the arcs are {arcs(alone)}"
+    yield from lacking(alone, ["takes out 50 % of sulfur", "at most 80", "the network alone"])
+    (folder / "treated.report").write_text((TOP / "tests" / "worked" / "desulfured.report").read_text())
+    if arcs(drawn(net, folder / "treated.report")) != arcs(picture):
+        yield "half of the sulfur: the report's picture has other arcs"
+
+
 def mixed(folder):
     """A plan over other bases than 1."""
     (folder / "mixed.cert").write_text(MIXED)
@@ -333,7 +352,7 @@ def refused(folder):
 
 
 def main():
-    parts = [haverly, wastewater, mixed, legible, colours, trees, other_kinds, odd_names, refused]
+    parts = [haverly, wastewater, treated, mixed, legible, colours, trees, other_kinds, odd_names, refused]
     with tempfile.TemporaryDirectory() as folder:
         differ = [fault for part in parts for fault in part(Path(folder))]
     print(*differ, sep="\n", end="\n" if differ else "")

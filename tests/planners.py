@@ -215,6 +215,95 @@ def odd_networks(folder):
         yield from accepted(net, folder / "odd.cert", f"{net.stem}, its plan in whole units")
 
 
+# ---- networks of version 2
+
+
+# A gives sulfur 3 and costs 6, the arc from A costs 0.5 and carries 80, the pool takes out half of the sulfur, and X pays 9 for a
+# unit with 1.5 at most: each unit earns 2.5. The file is tests/worked/desulfured.json.
+DESULFURED = TOP / "tests" / "worked" / "desulfured"
+TREATED = {
+    "flows.csv": "from,to,flow,spent,revenue,max\nA,P,80,520,,80\nP,X,80,,720,\n",
+    "qualities.csv": "kind,name,quality,mean,least,most,leaving\npool,P,sulfur,3,,,1.5\nproduct,X,sulfur,1.5,,1.5,\n",
+    "money.csv": "kind,name,flow,max,spent,revenue\nsource,A,80,100,480,\npool,P,80,,,\nproduct,X,80,100,,720\narc,A -> P,80,80,40,\n",
+}
+# What is changed, what is told then, and whether the plan of 80 stays.
+CHANGES = [
+    ("arcs.A -> P.max=90", "now   : cost -200, bound -225, gap 25", True),
+    ("arcs.A -> P.cost=-0.5", "now   : cost -280, bound -280, gap 0", True),
+    ("arcs.P -> X.cost=1", "now   : cost -120, bound -120, gap 0", True),
+    ("arcs.P -> X.max=60", "now   : no plan known, bound -150", False),
+    ("pools.P.ratio.sulfur=400", "now   : cost -200, bound -200, gap 0", True),
+    ("pools.P.ratio.sulfur=501", "the plan is left out: product X has sulfur 1.503, and 1.5 is the most that it may have", False),
+]
+
+
+def treated(folder):
+    net, cert = DESULFURED.with_suffix(".json"), DESULFURED.with_suffix(".cert")
+    found = run("plan_to_csv", net, cert, folder / "tables")
+    written = {path.name: path.read_text() for path in (folder / "tables").iterdir()} if not found.returncode else {}
+    if written != TREATED:
+        yield f"tables: {found.stderr} {written}"
+    found = run("check_plan", net, folder / "tables" / "flows.csv", "--certificate", folder / "again.cert")
+    rooms = ["source A: 80 of 100, room 20", "product X: 80 of 100, room 20", "A -> P: 80 of 80, room 0", "product X: sulfur 1.5 of at most 1.5, room 0"]
+    if found.stdout.splitlines() != ["the plan obeys", "cost -200", *rooms] or (folder / "again.cert").read_text() != cert.read_text():
+        yield f"its own plan: {found.stdout} {found.stderr}"
+    (folder / "over.csv").write_text(TREATED["flows.csv"].replace("80", "80.000001"))
+    found = run("check_plan", net, folder / "over.csv")
+    if (found.returncode, found.stdout.splitlines()) != (1, ["the plan breaks a rule", "A -> P carries 80.000001, and 80 is its maximum", "cost -200.0000025"]):
+        yield f"a millionth more: {found.stdout} {found.stderr}"
+    for change, words, stays in CHANGES:
+        found = run("what_if", net, cert, "--set", change, "--network", folder / "other.json")
+        (folder / "other.cert").write_text(found.stdout)
+        yield from accepted(folder / "other.json", folder / "other.cert", change)
+        if words not in found.stderr.splitlines() or ("kind gap" in found.stdout) != stays:
+            yield f"{change}: {found.stderr}"
+    rows = {row[0]: row[1:] for row in rows_of(run("prices", net, solved(net, folder, "--gap", "0")).stdout)}
+    if rows.get("arcs.A -> P.max") != ["80", "81", "2.5", "-202.5", "2.5"] or rows.get("products.X.max", [""])[-1] != "0":
+        yield f"a unit more: {rows}"
+    (folder / "scarce.json").write_text(net.read_text().replace('"price":9', '"price":9,"min":90'))
+    found = run("why_none", folder / "scarce.json", solved(folder / "scarce.json", folder), "--keep", folder / "kept")
+    if found.stdout.splitlines() != ["No plan keeps all of these:", "  arc A -> P carries at most 80", "  product X takes at least 90"]:
+        yield f"a demand of 90: {found.stdout} {found.stderr}"
+    yield from accepted(folder / "kept" / "net.json", folder / "kept" / "net.cert", "a demand of 90, these rules alone")
+    cells = Cells(run("page", net, cert).stdout).found
+    for title, row in ((["pool", "passes", "maximum", "used %", "sulfur", "sulfur kept %", "sulfur leaving", "binds"], ["P", "80", "3", "50", "1.5"]),
+                       (["from", "to", "cost", "carries", "maximum", "used %", "spent", "revenue", "binds"], ["A", "P", "0.5", "80", "80", "100", "520", "at its maximum"])):
+        words = "\n".join(cell for cell in cells if cell.strip())
+        if "\n".join([*title, *row]) not in words:
+            yield f"the page lacks a table of {title} that begins with {row}"
+
+
+def furnished_networks(folder):
+    """Networks with arcs that cost something and pools that take something out: what the tools say of the program's plan adds up."""
+    rng = random.Random(SEED)
+    for number in range(DRAWN):
+        net = folder / f"{number}.json"
+        net.write_bytes(damaged.furnished(rng, damaged.some_network(rng)))
+        cert = solved(net, folder, "--nodes", "12", "--gap", "0")
+        if "kind gap" not in cert.read_text():
+            continue
+        read = pooling.Network.read(net)
+        cost = Fraction(*pooling.read_certificate(read, cert)[0].cost) / 10**12
+        found = run("plan_to_csv", net, cert, folder / f"tables {number}", "--exact")
+        for table, last in (("flows.csv", 4), ("money.csv", 5)):
+            rows = rows_of((folder / f"tables {number}" / table).read_text())[1:]
+            if sum(Fraction(row[last - 1] or 0) - Fraction(row[last] or 0) for row in rows) != cost:
+                yield f"network {number}: {table} adds up to another cost than {cost}: {rows}"
+        again = run("check_plan", net, folder / f"tables {number}" / "flows.csv", "--certificate", folder / "again.cert")
+        yield from accepted(net, folder / "again.cert", f"network {number}: its plan again")
+        if found.returncode or not again.stdout.startswith(f"the plan obeys\ncost {pooling.exact(cost)}\n"):
+            yield f"network {number}: {found.stderr} {again.stdout} {again.stderr}"
+        arc = rng.choice(read.arcs)
+        change = rng.choice([f"arcs.{arc.name()}.max={rng.choice([0, '0.5', 17, 60])}", f"arcs.{arc.name()}.cost={rng.choice(['-0.5', 0, 3])}",
+                             *(f"pools.{pool.name}.ratio.{name}={rng.choice([0, 250, 1000])}" for pool in read.pools for name in read.qualities)])
+        found = run("what_if", net, cert, "--set", change, "--network", folder / "other.json")
+        (folder / "other.cert").write_text(found.stdout)
+        yield from accepted(folder / "other.json", folder / "other.cert", f"network {number}, {change}")
+        best = pooling.solve(folder / "other.json", nodes=30)
+        if best.cost is not None and (bound_of(found.stdout) is None or bound_of(found.stdout) > best.cost):
+            yield f"network {number}, {change}: the bound is {bound_of(found.stdout)}, and a plan costs {best.cost}"
+
+
 # ---- plans of one's own, tables of plans, runs of so many minutes
 
 
@@ -347,6 +436,9 @@ BAD = [
     ("what_if", ["{row1}", "{row1c}", "--plot", "plot.svg"], 2, "usage: what_if"),
     ("what_if", ["{row1}", "{row1c}", "--journal", "nowhere/journal"], 21, "before: cost -300, bound -300, gap 0"),
     ("what_if", ["bad.json", "{row1c}"], 3, "bad.json:2:32: sources[0].cost: a quantity is a number that is not whole, or not of 64 bits (7)"),
+    ("what_if", ["{row1}", "{row1c}", "--set", "arcs.X -> A.max=1"], 2, "arcs.X -> A.max: no member of this network"),
+    ("what_if", ["{treated}.json", "{treated}.cert", "--set", "pools.P.ratio.sulfur=500.5"], 3, "the changed network:20:15: pools[0].ratio.sulfur: something is of the wrong kind (3)"),
+    ("what_if", ["{treated}.json", "{treated}.cert", "--set", "arcs.A -> P.max=-1"], 3, "the changed network:39:11: arcs[0].max: a number is outside its limits (9 11)"),
     ("prices", ["{row1}", "{refused}/gap.cert"], 1, "{refused}/gap.cert: refused gap"),
     ("prices", ["{examples}/no_plan.json", "{examples}/no_plan.cert"], 1, "{examples}/no_plan.cert: no plan obeys, so there is nothing to be worth more (tools/why_none says why)"),
     ("prices", ["{row1}", "{row1c}", "--step", "0"], 2, "usage: prices"),
@@ -389,7 +481,7 @@ def bad_input(folder):
     (folder / "form.json").write_text('{"flows": [{"from": "A", "flow": 1}]}')
     (folder / "other.journal").write_bytes(pooling.journal_of(pooling.Network.read(EXAMPLES / "haverly1.json"), None))
     (folder / "bad.journal").write_bytes(pooling.journal_of(row1, pooling.WrittenPlan(1, 1, [], [], [100_000_001])))
-    names = {"row1": EXAMPLES / "row1.json", "row1c": EXAMPLES / "row1.cert", "refused": EXAMPLES / "refused", "examples": EXAMPLES}
+    names = {"row1": EXAMPLES / "row1.json", "row1c": EXAMPLES / "row1.cert", "refused": EXAMPLES / "refused", "examples": EXAMPLES, "treated": DESULFURED}
     before = sorted(path.name for path in folder.rglob("*"))
     for tool, words, status, line in BAD:
         found = run(tool, *(word.format(**names) for word in words), at=folder)
@@ -414,7 +506,7 @@ def main(*program):
     if program:
         os.environ["POOL"] = os.path.abspath(program[0])
     os.environ["LC_ALL"] = "C"
-    parts = [same_network, literature, by_hand, drawn_networks, a_unit_more, no_plans, odd_networks, own_plans, tables_of_plans, minutes, bad_input]
+    parts = [same_network, literature, by_hand, drawn_networks, a_unit_more, no_plans, odd_networks, treated, furnished_networks, own_plans, tables_of_plans, minutes, bad_input]
     differ = []
     for part in parts:
         with tempfile.TemporaryDirectory() as folder:

@@ -24,7 +24,7 @@ import journal_bytes as made
 import pooling
 
 SEED = 1978
-EXAMPLES = TOP / "examples"
+EXAMPLES, WORKED = TOP / "examples", TOP / "tests" / "worked"
 checker = damaged.checker
 
 # Best costs that the literature has, to so many decimals, and what their networks are called here.
@@ -59,12 +59,24 @@ def networks(_):
     """Canonical texts, and numbers that stand for absent ones; a made network's text is canonical."""
     rng = random.Random(SEED)
     texts = [path.read_bytes() for path in sorted(EXAMPLES.glob("*.json"))] + [damaged.some_network(rng) for _ in range(40)]
+    texts += [damaged.furnished(rng, damaged.some_network(rng)) for _ in range(40)] + [(WORKED / "desulfured.json").read_bytes()]
     for text in texts:
         if pooling.Network.of(text).canonical() != made.canonical(text):
             yield f"another canonical text of {text[:200]!r}"
     shown = '{"arcs":[["A","X"]],"pools":[],"products":[{"least":{},"max":100,"min":0,"most":{"sulfur":3},"name":"X","price":9}],"qualities":["sulfur"],"sources":[{"cost":6,"max":100,"name":"A","quality":{"sulfur":3}}],"version":1}'
     if pooling.Network.read(EXAMPLES / "row1.json").canonical() != shown:
         yield "the canonical text of docs/FORMATS.md is another"
+    if pooling.Network.read(WORKED / "desulfured.json").canonical() != (WORKED / "desulfured.canonical").read_text():
+        yield "the canonical text of a pool that takes out half of the sulfur is another"
+    yield from (f"{what} makes another network" for what, net in neutral_networks() if net.canonical() != shown or not net.is_plain())
+
+
+def neutral_networks():
+    """What version 2 can write and version 1 can say: the first row's network, with members that change nothing."""
+    value = pooling.json.loads((EXAMPLES / "row1.json").read_text())
+    arcs = ["a list", ["A", "X"]], ["an object", {"from": "A", "to": "X"}], ["a cost of 0", {"from": "A", "to": "X", "cost": "-0"}]
+    for what, arc in arcs:
+        yield what, pooling.network_of({**value, "version": 2, "arcs": [arc]})
 
 
 def changes(_):
@@ -77,7 +89,18 @@ def changes(_):
         yield f"changed: {other.sources} {other.products}"
     if (net.quantity("sources.S.max.max"), net.quantity("products.X.least.a.b"), net.quantity("sources.S.max.quality.a.b")) != (10_000_000, None, 2_000_000):
         yield "the numbers of members are others"
-    for path, number, status in (("products.Y.max", 1, 2), ("products.X.cost", 1, 2), ("products.X.most", 1, 2), ("products.X.max", -1, 3), ("", 1, 2)):
+    treated = pooling.Network.read(WORKED / "desulfured.json")
+    other = treated.changed({"arcs.A -> P.max": 90_000_000, "arcs.P -> X.cost": -250_000, "pools.P.ratio.sulfur": 400_000_000})
+    if [(arc.cost, arc.max) for arc in other.arcs] != [(500_000, 90_000_000), (-250_000, None)] or other.pools[0].ratio != [400]:
+        yield f"changed: {other.arcs} {other.pools}"
+    if [treated.quantity(f"arcs.{member}") for member in ("A -> P.cost", "A -> P.max", "P -> X.cost", "P -> X.max")] != [500_000, 80_000_000, 0, None]:
+        yield "the numbers of arcs are others"
+    if treated.quantity("pools.P.ratio.sulfur") != 500_000_000 or pooling.Network.read(EXAMPLES / "two_feeds.json").quantity("pools.P.ratio.sulfur") != 1_000_000_000:
+        yield "the ratios are others"
+    second = net.changed({"arcs.S.max -> X.max": 3_000_000})
+    if (second.value["version"], second.value["arcs"], net.value["version"]) != (2, [{"from": "S.max", "to": "X", "max": 3}], 1):
+        yield f"a maximum of an arc makes {second.value}"
+    for path, number, status in (("arcs.S.max -> X.min", 1, 2), ("arcs.X -> S.max.max", 1, 2), ("arcs.S.max -> X.max", -1, 3), ("products.Y.max", 1, 2), ("products.X.cost", 1, 2), ("products.X.most", 1, 2), ("products.X.max", -1, 3), ("", 1, 2)):
         try:
             net.changed({path: number})
             yield f"{path} = {number} is taken"
@@ -101,6 +124,15 @@ RULES = [
     ([60, 50], [110], "pool P passes 110, and 100 is its maximum"),
 ]
 
+# A pool that takes out half of A's sulfur of 3, where the arc from A carries 80 at most and costs 0.5: the same for its one feed
+# and its one out, where so many thousandths of the sulfur leave the pool.
+TREATED = [
+    (500, 80, None),
+    (500, Fraction(80_000_001, 10**6), "A -> P carries 80.000001, and 80 is its maximum"),
+    (501, 80, "product X has sulfur 1.503, and 1.5 is the most that it may have"),
+    (501, 81, "product X has sulfur 1.503, and 1.5 is the most that it may have"),
+]
+
 
 def rules(_):
     net = pooling.Network.read(EXAMPLES / "two_feeds.json")
@@ -119,6 +151,14 @@ def rules(_):
     half = pooling.Flows(*[[Fraction(flow * pooling.UNIT) for flow in part] for part in ([50, 50], [0, 100], [0, 100])])
     if next(pooling.broken_rules(net, half)).words != "product Y has sulfur 2, and 1.5 is the most that it may have":
         yield "Haverly 1 with half of each feed keeps the limit of Y"
+    net = pooling.Network.read(WORKED / "desulfured.json")
+    for ratio, flow, words in TREATED:
+        other, flows = net.changed({"pools.P.ratio.sulfur": ratio * pooling.UNIT}), pooling.Flows(*[[Fraction(flow * pooling.UNIT)] * n for n in (1, 1, 0)])
+        found = next(pooling.broken_rules(other, flows), None)
+        if (found and found.words) != words or pooling.cost_of(other, flows) != -flow * 2_500_000 * pooling.UNIT:
+            yield f"a ratio of {ratio} and {flow}: {found}, {pooling.cost_of(other, flows)}"
+        if (pooling.pool_means(other, flows), pooling.leaving_means(other, flows)) != ({(0, 0): 3_000_000}, {(0, 0): 3000 * ratio}):
+            yield f"a ratio of {ratio}: the means of the pool are others"
 
 
 def journals(_):

@@ -2,8 +2,8 @@
 """Whether `tools/network_from_csv` and `tools/csv_from_network` do what they say: `tables.py`
 
 The template of examples/csv is the network of examples/wastewater.json; tables as a spreadsheet saves them give a text that
-is written out here; each network of examples/ comes back from its tables; and each fault is told at its file, line and
-column. It prints what differs, and how many cases there were.
+is written out here; each network of examples/ and of tests/worked comes back from its tables; tables without a cost or a maximum of
+an arc and without a ratio give version 1; and each fault is told at its file, line and column. It prints what differs, and how many cases there were.
 """
 
 import json
@@ -38,6 +38,20 @@ NETWORK = r"""{"version":1,"qualities":["sulfur","octane"],
 ["B \"old\"","P"],
 ["P","X "],
 ["P","Y"],
+["B \"old\"","X "]]}
+"""
+
+# The same with what version 2 has: columns in another order, empty cells, and numbers as a spreadsheet writes them.
+SAVED_2 = {
+    **SAVED,
+    "pools.csv": b'ratio:octane,name,max,ratio:sulfur\r\n"1,000",P,,500\r\n',
+    "arcs.csv": b'max,to,from,cost\r\n"1,080.5",P,"A, north",-0.50\r\n,P,"B ""old""",\r\n,X ,P,0\r\n0,Y,P,\r\n,X ,"B ""old""",\r\n',
+}
+NETWORK_2 = NETWORK.replace('"version":1', '"version":2').replace('"max":1000}],\n"products"', '"ratio":{"sulfur":500,"octane":1000}}],\n"products"')
+NETWORK_2 = NETWORK_2[: NETWORK_2.index('"arcs"')] + r""""arcs":[{"from":"A, north","to":"P","cost":"-0.5","max":"1080.5"},
+["B \"old\"","P"],
+{"from":"P","to":"X ","cost":0},
+{"from":"P","to":"Y","max":0},
 ["B \"old\"","X "]]}
 """
 
@@ -78,6 +92,16 @@ FAULTS = [
     ("arcs", "P,X\n", "P,X\nA,P\n", "5: an arc stands twice (9 7)", "once: it is arcs.csv:2"),
     ("arcs", "A,P\nB,P\n", "A,X\n", "2: column A (name): no arc goes into a pool (9 8)", "an arc from a source to P"),
     ("arcs", "P,X", "P,", "4: column B (to): a name is absent", "the name of a source, a pool or a product"),
+    ("arcs", "from,to\nA,P", 'from,to,cost\nA,P,"0,5"', "2: column C (cost): a number of another form", "0.5"),
+    ("arcs", "from,to\nA,P", "from,to,cost\nA,P,-1000000.1", "2: column C (cost): a number is outside its limits (9 11)", "from -1,000,000 to 1,000,000"),
+    ("arcs", "from,to\nA,P", "from,to,max\nA,P,-1", "2: column C (max): a number is outside its limits (9 11)", "from 0 to 100,000,000"),
+    ("arcs", "from,to\nA,P", "from,to,max\nA,Q,1", "2: column B (to): an end of an arc names no source, pool or product (9 4)", 'one of "A", "B", "P", "X"'),
+    ("arcs", "from,to\nA,P", "from,to,max\nB,P,1", "3: an arc stands twice (9 7)", "once: it is arcs.csv:2"),
+    ("arcs", "from,to\nA,P", "from,to,most\nA,P,1", "1: column C: a column that the table may not have", '"cost"'),
+    ("pools", "name,max\nP,", "name,ratio:sulfur\nP,0.5", "2: column B (ratio:sulfur): a quantity is a number that is not whole, or not of 64 bits (7)", "a whole number of thousandths, from 0 to 1,000: 500"),
+    ("pools", "name,max\nP,", "name,ratio:sulfur\nP,1001", "2: column B (ratio:sulfur): a number is outside its limits (9 11)", "from 0 to 1,000"),
+    ("pools", "name,max\nP,", "name,ratio:sulphur\nP,5", "1: column B: a quality that no source has", '"sulfur"'),
+    ("pools", "name,max\nP,", "name,ratio sulfur\nP,5", "1: column B: a column that the table may not have", '"ratio:sulfur"'),
 ]
 
 
@@ -106,6 +130,14 @@ def odd_network():
     return {"version": 1, "qualities": qualities, "sources": sources, "pools": [{"name": '"', "max": "0.5"}], "products": products, "arcs": arcs}
 
 
+def odd_network_2():
+    """The odd network, of which a pool keeps parts of two qualities and two arcs have more than their ends."""
+    net = {**odd_network(), "version": 2}
+    net["pools"] = [{"name": '"', "ratio": {" max ": 0, 'a "b", c': 1000}}]
+    net["arcs"][1:] = [{"from": "x" * 40, "to": '"', "cost": "-0.000001"}, {"to": ",", "from": '"', "max": "0.1"}]
+    return net
+
+
 def template(_):
     run_ = run("network_from_csv", TOP / "examples" / "csv", "--title", "Outlets")
     if run_.returncode or network(run_.stdout.encode()) != network((TOP / "examples" / "wastewater.json").read_bytes()):
@@ -115,36 +147,57 @@ def template(_):
 
 
 def saved_by_a_spreadsheet(folder):
-    found = run("network_from_csv", written(folder / "saved", SAVED))
-    if (found.returncode, found.stdout, found.stderr) != (0, NETWORK, ""):
-        yield f"saved tables: {found.returncode} {found.stdout} {found.stderr}"
+    for tables, text in ((SAVED, NETWORK), (SAVED_2, NETWORK_2)):
+        found = run("network_from_csv", written(folder / "saved", tables))
+        if (found.returncode, found.stdout, found.stderr) != (0, text, ""):
+            yield f"saved tables: {found.returncode} {found.stdout} {found.stderr}"
+
+
+def version_by_cells(_):
+    """Columns of version 2 in which nothing stands are as good as none; a 0 says something, as a cost and as a ratio."""
+    plain = csv_tables.network_of([(name, text.encode()) for name, text in GOOD.items()], "")[0]
+    cases = [("arcs", "from,to,cost,max\nA,P,,\nB,P,,\nP,X,,\n", plain), ("pools", "name,max,ratio:sulfur\nP,,\n", plain),
+             ("arcs", "from,to,cost\nA,P,0\nB,P,\nP,X,\n", plain.replace(":1,", ":2,", 1).replace('["A","P"]', '{"from":"A","to":"P","cost":0}')),
+             ("pools", "name,ratio:sulfur\nP,0\n", plain.replace(":1,", ":2,", 1).replace('{"name":"P"}', '{"name":"P","ratio":{"sulfur":0}}'))]
+    for table, text, wanted in cases:
+        found = csv_tables.network_of([(name, data.encode()) for name, data in {**GOOD, f"{table}.csv": text}.items()], "")
+        if found != (wanted, []):
+            yield f"{text!r}: {found}"
 
 
 def way_back(folder):
-    nets = {path.stem: path.read_text() for path in (TOP / "examples").glob("*.json")}
-    nets["odd"] = json.dumps(odd_network())
+    nets = {path.stem: path.read_text() for folder in ("examples", "tests/worked") for path in (TOP / folder).glob("*.json")}
+    nets["odd"], nets["odd, version 2"] = json.dumps(odd_network()), json.dumps(odd_network_2())
     for name, text in nets.items():
         tables = csv_tables.tables_of(text)
         back, found = csv_tables.network_of([(file, table.encode()) for file, table in tables.items()], "")
-        if found or network(back.encode()) != network(text.encode()):
+        if found or network(back.encode()) != network(text.encode()) or json.loads(back)["version"] != json.loads(text)["version"]:
             yield f"{name} does not come back: {found}"
-    (folder / "odd.json").write_text(nets["odd"])
-    if run("csv_from_network", "odd.json", "odd", at=folder).returncode or network(run("network_from_csv", "odd", at=folder).stdout.encode()) != network(nets["odd"].encode()):
-        yield "the commands lose odd names"
+    for name in ("odd", "odd, version 2"):
+        (folder / "odd.json").write_text(nets[name])
+        if run("csv_from_network", "odd.json", name, at=folder).returncode or network(run("network_from_csv", name, at=folder).stdout.encode()) != network(nets[name].encode()):
+            yield f"the commands lose odd names: {name}"
 
 
 def row_by_hand(folder):
-    """The tables of two feeds, with what the network leaves out left empty."""
-    run("csv_from_network", TOP / "examples" / "two_feeds.json", folder / "by_hand")
+    """The tables of two feeds, with what the network leaves out left empty; and those of a pool that takes out half of the sulfur."""
     wanted = {
         "sources.csv": "name,cost,max,quality sulfur\nA,6,,3\nB,16,,1\n",
         "pools.csv": "name,max\nP,\n",
         "products.csv": "name,price,max,min,least sulfur,most sulfur\nX,9,100,,,\n",
         "arcs.csv": "from,to\nA,P\nB,P\nP,X\n",
     }
-    for name, text in wanted.items():
-        if (folder / "by_hand" / name).read_bytes() != text.encode():
-            yield f"two_feeds: {name} is {(folder / 'by_hand' / name).read_text()!r}"
+    treated = {
+        "sources.csv": "name,cost,max,quality sulfur\nA,6,100,3\n",
+        "pools.csv": "name,max,ratio:sulfur\nP,,500\n",
+        "products.csv": "name,price,max,min,least sulfur,most sulfur\nX,9,100,,,1.5\n",
+        "arcs.csv": "from,to,cost,max\nA,P,0.5,80\nP,X,,\n",
+    }
+    for net, tables in (("examples/two_feeds", wanted), ("tests/worked/desulfured", treated)):
+        run("csv_from_network", TOP / f"{net}.json", folder / "by_hand", "--force")
+        for name, text in tables.items():
+            if (folder / "by_hand" / name).read_bytes() != text.encode():
+                yield f"{net}: {name} is {(folder / 'by_hand' / name).read_text()!r}"
 
 
 def faults(_):
@@ -193,7 +246,7 @@ def files_and_words(folder):
 
 def main():
     os.environ["LC_ALL"] = "C"
-    parts = [template, saved_by_a_spreadsheet, way_back, row_by_hand, faults, bytes_that_are_no_text, files_and_words]
+    parts = [template, saved_by_a_spreadsheet, version_by_cells, way_back, row_by_hand, faults, bytes_that_are_no_text, files_and_words]
     with tempfile.TemporaryDirectory() as folder:
         differ = [fault for part in parts for fault in part(Path(folder))]
     print(*differ, sep="\n", end="\n" if differ else "")

@@ -417,6 +417,11 @@ sour_direct no_plan, proof 0 0 2 2 1000000 3 1 to proof 0 0 2 2 -1000000 3 1 = r
 sour_direct no_plan, proof 0 0 2 2 1000000 3 1 to proof 0 0 1 3 1 = refused proof 0 6
 sour_direct no_plan, proofs 1 to proofs 2/proof 0 0 2 2 1000000 3 1 = refused place 1
 two_products two_products = accepted gap cost -50000000000000 base 1 bound -50000000000000 gap 0
+desulfured desulfured = accepted gap cost -200000000000000 base 1 bound -250000000000000 gap 50000000000000
+desulfured desulfured, outflows 80000000 to outflows 80000001 = refused plan 9
+desulfured desulfured, outflows 80000000 to outflows 80000001, bound -250000000000000 to bound -240000000000000 = refused plan 9
+desulfured desulfured, cost -200000000000000 to cost -240000000000000 = refused cost
+desulfured desulfured, bound -250000000000000 to bound -249999999999999 = refused bound
 """
 
 # Proofs on the root of Haverly's first network, which has 45 rows, and their first faults. Row 6 is Y's maximum.
@@ -446,6 +451,20 @@ PLANS = """
 2 1 1 = refused plan 7
 1 0 0 = refused plan 2
 0 0 1 = refused plan 1
+"""
+
+# Plans of networks with maxima of arcs and with treatment: the two bases, weights, outflows, flows of directs and cost. Each keeps a
+# maximum or a limit, or passes it by the least amount. Costs by hand.
+TREATED = """
+piped, 3 1, 2 1, 30, 7, -261 = accepted gap cost -261 base 3 bound -240 gap 459
+piped, 1 1, 0 1, 30, 7, -127 = accepted gap cost -127 base 1 bound -240 gap 113
+piped, 30 1, 21 9, 30, 7, 0 = refused plan 9
+piped, 31 1, 20 11, 31, 7, 0 = refused plan 9
+piped, 3 1, 2 1, 30, 8, 0 = refused plan 9
+piped, 3 2, 2 1, 60, 15, 0 = refused plan 9
+cleaned, 1 1, 1, 10, 0, -40 = accepted gap cost -40 base 1 bound -240 gap 200
+cleaned, 1 1, 1, 10, 10, -70 = accepted gap cost -70 base 1 bound -240 gap 170
+cleaned, 1 1, 1, 10, 11, 0 = refused plan 7
 """
 
 
@@ -489,6 +508,18 @@ def plans(pool):
     certificate = claimed("3 1 2 1 2 2 2", (4, 1), "1 3", "0 200000000", "0 0", -3000000000000000, -2100000000000000)
     answer = "accepted gap cost -3000000000000000 base 4 bound -2100000000000000 gap 5400000000000000\n"
     yield "a plan over base 4", pool.on("check", text("haverly3.json"), certificate), (0, answer, "")
+
+
+def treated_plans(pool):
+    shapes = {"piped": "2 1 1 0 2 1 1", "cleaned": "2 1 1 1 1 1 1"}
+    for line, answer in lines(TREATED):
+        name, bases, weights, outflows, direct, cost = line.split(", ")
+        certificate = claimed(shapes[name], [int(base) for base in bases.split()], weights, outflows, direct, int(cost), -240)
+        done = pool.on("check", text(f"{name}.json"), certificate)
+        yield f"a plan of {line}", done, (status_of(answer), f"{answer}\n", "")
+    less = text("desulfured.json").replace('"sulfur":500', '"sulfur":501')
+    done = pool.on("check", less, text("desulfured.cert"))
+    yield "a plan where 501 thousandths are left", done, (1, "refused plan 7\n", "")
 
 
 def chain_of_proofs():
@@ -796,7 +827,7 @@ def longest_trees(pool):
 def cases(pool):
     """Each case: what it is, what was found, and what is wanted."""
     for part in (statuses, words_that_ask_nothing, single_writes, refused_networks, refused_rows, answers, root_proofs, plans,
-                 thousands_of_proofs, damaged_bytes, reports, programs, canonical_texts, made_networks, starts, searches,
+                 treated_plans, thousands_of_proofs, damaged_bytes, reports, programs, canonical_texts, made_networks, starts, searches,
                  longer_searches, squeezed_searches, journals, longest_trees):
         yield from part(pool)
     trials = [pool.run("trial", 7) for _ in range(2)]

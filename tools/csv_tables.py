@@ -4,15 +4,17 @@ from them to a network file and back. `tools/network_from_csv` and `tools/csv_fr
 | Table | Columns that must be there | Columns that may be absent |
 |---|---|---|
 | sources | `name`, `cost` | `max`; `quality K` for each quality K, in the order of the network's qualities |
-| pools | `name` | `max` |
+| pools | `name` | `max`; `ratio:K` for qualities K |
 | products | `name`, `price`, `max` | `min`; `least K` and `most K` for qualities K |
-| arcs | `from`, `to` | |
+| arcs | `from`, `to` | `cost`, `max` |
 
 The first line has the titles, in any order, and every other line is a row; a line of empty cells is none. A cell of
-`max` of a source or a pool, of `min`, `least K` or `most K` may be empty, and says nothing then. Tables are CSV with
-commas between cells, in UTF-8 with a byte order mark or without. A number has a point before its decimals, of which at
-most six are not 0, and may have thousands separators: commas (in double quotes), spaces or apostrophes. Names are taken
-as they stand.
+`max` of a source, a pool or an arc, of `min`, `least K`, `most K` or `ratio:K`, or of `cost` of an arc may be empty, and
+says nothing then. A ratio is how many thousandths of a quality leave a pool, from 0 to 1000; where it is empty, all does.
+The network is of version 2 where `ratio:K`, or `cost` or `max` of an arc, says something, and else of version 1. Tables
+are CSV with commas between cells, in UTF-8 with a byte order mark or without. A number has a point before its decimals,
+of which at most six are not 0, and may have thousands separators: commas (in double quotes), spaces or apostrophes. Names
+are taken as they stand.
 """
 
 import csv
@@ -26,14 +28,14 @@ import pooling
 
 explain = pooling.explain
 
-# Of each table: the titles that must be there, those that may be absent, and the words before the name of a quality.
+# Of each table: the titles that must be there, those that may be absent, and what stands before the name of a quality.
 COLUMNS = {
-    "sources": (["name", "cost"], ["max"], ["quality"]),
-    "pools": (["name"], ["max"], []),
-    "products": (["name", "price", "max"], ["min"], ["least", "most"]),
-    "arcs": (["from", "to"], [], []),
+    "sources": (["name", "cost"], ["max"], ["quality "]),
+    "pools": (["name"], ["max"], ["ratio:"]),
+    "products": (["name", "price", "max"], ["min"], ["least ", "most "]),
+    "arcs": (["from", "to"], ["cost", "max"], []),
 }
-PLAN = (["from", "to", "flow"], ["spent", "revenue"], [])  # the table of a plan's flows
+PLAN = (["from", "to", "flow"], ["spent", "revenue", "max"], [])  # the table of a plan's flows
 NAMES = {"name", "from", "to"}
 PLAIN = re.compile(r"-?(0|[1-9][0-9]*)(\.[0-9]+)?")
 GROUPED = re.compile(r"-?[1-9][0-9]{0,2}([,' \u2019\u00a0\u202f])[0-9]{3}(\1[0-9]{3})*(\.[0-9]+)?")
@@ -141,22 +143,27 @@ class Table:
             if title in cells[:column] and title:
                 self.tell(cell, "a title stands twice", "one column of that title")
             elif title not in known and not self.family_of(title) and title:
-                titles = known + [f"{word} NAME" for word in self.families]
-                self.tell(cell, "a column that the table may not have", explain.similar(title.strip(), titles, ""))
+                self.tell(cell, "a column that the table may not have", self.title_meant(title.strip()))
         for title in self.needed:
             if title not in cells:
                 cell = Cell(self.file, line, None, "", ",".join(cells))
                 self.tell(cell, "a column is absent", f'a column "{title}"')
 
-    def family_of(self, title):
-        word, space, name = title.partition(" ")
-        return (word, name) if space and name and word in self.families else None
+    def title_meant(self, title):
+        for front in self.families:
+            if re.match(front[:-1] + "[ :].", title, re.IGNORECASE):
+                return f'"{front}{title[len(front) :]}"'
+        return explain.similar(title, self.needed + self.optional + [f"{front}NAME" for front in self.families], "")
 
-    def qualities(self, word):
-        """The names of the qualities that have a column of that word, each with the cell of its title."""
+    def family_of(self, title):
+        """What stands in a title before the name of a quality, and the name; nothing where it has no such title."""
+        return next(((front, title[len(front) :]) for front in self.families if title.startswith(front) and title != front), None)
+
+    def qualities(self, front):
+        """The names of the qualities that have a column of that family, each with the cell of its title."""
         for column, title in enumerate(self.titles):
             found = self.family_of(title)
-            if found and found[0] == word and title not in self.titles[:column]:
+            if found and found[0] == front and title not in self.titles[:column]:
                 yield found[1], Cell(self.file, self.title_line, column, "", title)
 
     def take_row(self, line, texts):
@@ -177,7 +184,7 @@ class Table:
 
     def judge(self, cell):
         """Tells of a cell that is empty and may not be, and of a number of another form."""
-        may_be_empty = cell.title in self.optional or self.kind == "products" and self.family_of(cell.title)
+        may_be_empty = cell.title in self.optional or self.kind != "sources" and self.family_of(cell.title)
         if cell.title in NAMES or not (cell.title in self.needed + self.optional or self.family_of(cell.title)):
             if cell.title in self.needed and not cell.text:
                 self.tell(cell, "a name is absent", "the name of a source, a pool or a product")
@@ -222,7 +229,8 @@ def member(table, row, title):
         return None
     if title in NAMES:
         return json.dumps(cell.text, ensure_ascii=False)
-    return explain.as_written(millionths(cell.text))
+    written = explain.as_written(millionths(cell.text))
+    return written.strip('"') if title.startswith("ratio:") else written
 
 
 def object_text(members):
@@ -234,13 +242,14 @@ class Joined:
 
     def __init__(self, tables, title):
         self.cells = {}
-        qualities = list(tables["sources"].qualities("quality"))
+        qualities = list(tables["sources"].qualities("quality "))
         for number, (name, cell) in enumerate(qualities):
             self.cells[f"qualities[{number}]"] = cell
         self.names = [name for name, _ in qualities]
+        self.second = False
         rows = {kind: [self.row(table, n, row) for n, row in enumerate(table.rows)] for kind, table in tables.items()}
         lists = [f'"{kind}":[' + ",\n".join(rows[kind]) + "]" for kind in COLUMNS]
-        first = [("version", "1"), ("title", json.dumps(title) if title else None)]
+        first = [("version", "2" if self.second else "1"), ("title", json.dumps(title) if title else None)]
         first += [("qualities", json.dumps(self.names, ensure_ascii=False, separators=(",", ":")))]
         self.whole = Cell(tables["sources"].file, 1, None, "", "")
         self.text = ",\n".join([object_text(first)[:-1], *lists]) + "}\n"
@@ -248,19 +257,21 @@ class Joined:
     def row(self, table, number, row):
         path = f"{table.kind}[{number}]"
         self.cells[path] = row.get("name", row[""])
-        if table.kind == "arcs":
-            ends = [row["from"], row["to"]]
-            self.cells.update({f"{path}[{n}]": end for n, end in enumerate(ends)})
-            return json.dumps([end.text for end in ends], ensure_ascii=False, separators=(",", ":"))
         members = []
         for title in table.needed + table.optional:
             self.cells[f"{path}.{title}"] = row.get(title, row[""])
             members.append((title, member(table, row, title)))
-        for word in table.families:
-            limits = [(name, member(table, row, f"{word} {name}")) for name in self.names]
-            self.cells.update({f"{path}.{word}.{name}": row.get(f"{word} {name}", row[""]) for name in self.names})
+        if table.kind == "arcs" and all(text is None for _, text in members[2:]):
+            ends = [row["from"], row["to"]]
+            self.cells.update({f"{path}[{n}]": end for n, end in enumerate(ends)})
+            return json.dumps([end.text for end in ends], ensure_ascii=False, separators=(",", ":"))
+        for front in table.families:
+            word = front[:-1]
+            limits = [(name, member(table, row, front + name)) for name in self.names]
+            self.cells.update({f"{path}.{word}.{name}": row.get(front + name, row[""]) for name in self.names})
             if word == "quality" or any(text is not None for _, text in limits):
                 members.append((word, object_text(limits)))
+        self.second = self.second or table.kind == "arcs" or members[-1][0] == "ratio"
         return object_text(members)
 
     def cell_of(self, path):
@@ -284,9 +295,9 @@ def network_of(tables_data, title):
         except Refused as refused:
             faults.append(refused.args[0])
     if "sources" in tables and "products" in tables:
-        names = [name for name, _ in tables["sources"].qualities("quality")]
-        for word in ("least", "most"):
-            for name, cell in tables["products"].qualities(word):
+        names = [name for name, _ in tables["sources"].qualities("quality ")]
+        for kind, front in (("products", "least "), ("products", "most "), ("pools", "ratio:")):
+            for name, cell in tables[kind].qualities(front) if kind in tables else []:
                 if name not in names:
                     right = explain.similar(name, names, f'a column "quality {name}" in {tables["sources"].file}')
                     faults.append(Fault(cell, "a quality that no source has", right))
@@ -304,14 +315,22 @@ def number_text(value):
     return f"{Decimal(explain.millionths(value)).scaleb(-6):f}".rstrip("0").rstrip(".")
 
 
-def cell_text(row, title):
-    word, _, name = title.partition(" ")
-    value = row.members.get(word)
-    if value is not None and name:
-        value = value.members.get(name)
+def cell_text(row, title, families):
+    """The cell of a row's member, or of a member of it that is named by a quality."""
+    if row.kind == "list":
+        return row.data[title == "to"].data if title in NAMES else ""
+    front = next((front for front in families if title.startswith(front) and title != front), "")
+    value = row.members.get(front[:-1] or title)
+    if value is not None and front:
+        value = value.members.get(title[len(front) :])
     if value is None:
         return ""
     return value.data if title in NAMES else number_text(value)
+
+
+def is_of_version_2(kind, title):
+    """Whether a column is written only where a row says something there."""
+    return kind == "arcs" and title not in NAMES or title.startswith("ratio:")
 
 
 def tables_of(text):
@@ -320,9 +339,10 @@ def tables_of(text):
     lists = {kind: top[kind].data if kind in top else [] for kind in [*COLUMNS, "qualities"]}
     written = {}
     for kind, (needed, optional, families) in COLUMNS.items():
-        titles = needed + optional + [f"{word} {name.data}" for name in lists["qualities"] for word in families]
-        rows = [[end.data for end in row.data] if kind == "arcs" else [cell_text(row, t) for t in titles] for row in lists[kind]]
+        titles = needed + optional + [front + name.data for name in lists["qualities"] for front in families]
+        columns = [[title, *(cell_text(row, title, families) for row in lists[kind])] for title in titles]
+        rows = zip(*(column for column in columns if any(column[1:]) or not is_of_version_2(kind, column[0])))
         out = io.StringIO()
-        csv.writer(out, lineterminator="\n").writerows([titles, *rows])
+        csv.writer(out, lineterminator="\n").writerows(rows)
         written[f"{kind}.csv"] = out.getvalue()
     return written

@@ -31,7 +31,7 @@ from types import ModuleType, SimpleNamespace
 HERE = os.path.dirname(os.path.realpath(__file__))
 if HERE not in sys.path:
     sys.path.append(HERE)  # behind the folders of who imports this
-from pooling_plans import PICOS, UNIT, Broken, Flows, WrittenPlan, broken_rules, cost_of, exact, money, pool_means, product_means, quantity, shown, totals, units, written_plan
+from pooling_plans import PICOS, UNIT, Broken, Flows, WrittenPlan, broken_rules, cost_of, exact, leaving_means, money, pool_means, product_means, quantity, shown, totals, units, written_plan
 from pooling_rows import GRAIN, MAX_SPLITS, Fault, Proof, Rows, Shown, Tree, leaf_bound, new_leaf, refuse, tree_bounds
 
 CERTIFICATE_BYTES = 1_073_741_824
@@ -74,6 +74,19 @@ class Pool:
     name: str
     max: int
     limited: bool
+    ratio: list  # by the number of the quality: how many thousandths of what enters leave it
+
+
+@dataclass
+class Arc:
+    start: str
+    end: str
+    cost: int = 0
+    max: object = None  # or nothing
+    at: int = 0  # its number in the file
+
+    def name(self):
+        return f"{self.start} -> {self.end}"
 
 
 @dataclass
@@ -102,14 +115,20 @@ class Network:
         most = lambda row: count(row["max"]) if "max" in row else whole
         self.sources = [Source(row["name"], count(row["cost"]), most(row), "max" in row, [count(row["quality"][name]) for name in self.qualities])
                         for row in value["sources"]]
-        self.pools = [Pool(row["name"], most(row), "max" in row) for row in value.get("pools", [])]
-        self.number_arcs(value["arcs"])
+        self.pools = [Pool(row["name"], most(row), "max" in row, [row.get("ratio", {}).get(name, 1000) for name in self.qualities]) for row in value.get("pools", [])]
+        self.scale = 1 if all(ratio == 1000 for pool in self.pools for ratio in pool.ratio) else 1000
+        self.retained = [[ratio if self.scale > 1 else 1 for ratio in pool.ratio] for pool in self.pools]  # in parts of the scale
+        rows = [row if isinstance(row, dict) else {"from": row[0], "to": row[1]} for row in value["arcs"]]
+        self.number_arcs([Arc(row["from"], row["to"], count(row.get("cost", 0)), count(row["max"]) if "max" in row else None, at) for at, row in enumerate(rows)])
 
     def number_arcs(self, arcs):
         source, pool, product = ({node.name: n for n, node in enumerate(part)} for part in (self.sources, self.pools, self.products))
-        self.feeds = [(source[start], pool[end]) for start, end in arcs if end in pool]
-        self.outs = [(pool[start], product[end]) for start, end in arcs if start in pool]
-        self.directs = [(source[start], product[end]) for start, end in arcs if start in source and end in product]
+        kinds = [[arc for arc in arcs if arc.end in pool], [arc for arc in arcs if arc.start in pool], [arc for arc in arcs if arc.start in source and arc.end in product]]
+        self.feed_arcs, self.out_arcs, self.direct_arcs = kinds
+        self.arcs = [arc for kind in kinds for arc in kind]  # in the order of feeds, outs, directs
+        self.feeds = [(source[arc.start], pool[arc.end]) for arc in self.feed_arcs]
+        self.outs = [(pool[arc.start], product[arc.end]) for arc in self.out_arcs]
+        self.directs = [(source[arc.start], product[arc.end]) for arc in self.direct_arcs]
         self.paths = [(e, o) for l in range(len(self.pools)) for e, (_, end) in enumerate(self.feeds) if end == l
                       for o, (start, _) in enumerate(self.outs) if start == l]
         self.shape = [len(part) for part in (self.sources, self.pools, self.products, self.qualities, self.feeds, self.outs, self.directs)]
@@ -138,7 +157,11 @@ class Network:
 
     def arc_names(self):
         """The ends of each arc, in the order of feeds, outs, directs."""
-        return [(start[s].name, end[e].name) for _, start, end, pairs in self.kinds_of_arcs() for s, e in pairs]
+        return [(arc.start, arc.end) for arc in self.arcs]
+
+    def is_plain(self):
+        """Whether version 1 of the file can say all of the network: no pool takes out anything, and no arc has a cost or a maximum."""
+        return self.scale == 1 and not any(arc.cost or arc.max is not None for arc in self.arcs)
 
     def limits(self):
         """The limits that are set: sign, product, quality, limit; all mosts, then all leasts."""
@@ -148,46 +171,54 @@ class Network:
     def canonical(self):
         """The canonical text of docs/FORMATS.md."""
         named = lambda limits: {self.qualities[k]: quantity(limit) for k, limit in limits.items()}
-        value = {"version": 1, "qualities": self.qualities, "arcs": [list(ends) for ends in self.arc_names()]}
+        plain = self.is_plain()
+        value = {"version": 1 if plain else 2, "qualities": self.qualities, "arcs": [list(ends) for ends in self.arc_names()]}
+        if not plain:
+            most = lambda arc: {} if arc.max is None else {"max": quantity(arc.max)}
+            value["arcs"] = [{"from": arc.start, "to": arc.end, "cost": quantity(arc.cost), **most(arc)} for arc in self.arcs]
         value["sources"] = [{"name": s.name, "cost": quantity(s.cost), "max": quantity(s.max), "quality": named(dict(enumerate(s.quality)))} for s in self.sources]
-        value["pools"] = [{"name": pool.name, "max": quantity(pool.max)} for pool in self.pools]
+        ratios = lambda pool: {} if plain else {"ratio": dict(zip(self.qualities, pool.ratio))}
+        value["pools"] = [{"name": pool.name, "max": quantity(pool.max), **ratios(pool)} for pool in self.pools]
         value["products"] = [{"name": p.name, "price": quantity(p.price), "min": quantity(p.min), "max": quantity(p.max), "least": named(p.least), "most": named(p.most)}
                              for p in self.products]
         return json.dumps(value, sort_keys=True, separators=(",", ":"))
 
     def changed(self, changes):
-        """The network with other quantities in some of its members, which are named as in `products.X.max`."""
+        """The network with other quantities in some of its members, which are named as in `products.X.max`, `pools.P.ratio.sulfur`
+        and `arcs.A -> P.max`. A member of version 2 makes it one of version 2."""
         value = json.loads(json.dumps(self.value))
         for path, number in changes.items():
-            row, names = self.member(value, path)
-            for name in names[:-1]:
-                row = row.setdefault(name, {})
-            row[names[-1]] = quantity(number)
+            kind, row, member, quality = self.member(path)
+            rows, at = value[kind], row.at if kind == "arcs" else getattr(self, kind).index(row)
+            if isinstance(rows[at], list):
+                rows[at] = {"from": row.start, "to": row.end}
+            if kind == "arcs" or member == "ratio":
+                value["version"] = 2
+            (rows[at].setdefault(member, {}) if quality else rows[at])[quality or member] = quantity(number)
         return Network.of(json.dumps(value, indent=1).encode(), "the changed network")
 
-    def member(self, value, path):
-        """The row of a member's name and the names from there on; names of nodes may have points."""
+    def member(self, path):
+        """The list of a member's name, its row there, the member, and its quality or nothing; names of nodes may have points."""
         kind, _, rest = path.partition(".")
-        for row in value.get(kind, []) if kind in ("sources", "pools", "products") else []:
-            member, _, quality = rest[len(row["name"]) + 1 :].partition(".")
-            if rest.startswith(row["name"] + ".") and member in MEMBERS[kind] and (quality in self.qualities) == (member in OF_QUALITY):
-                return row, [member, quality][: 1 + (member in OF_QUALITY)]
-        raise Ends(2, f"{path}: no member of this network, as sources.NAME.cost, pools.NAME.max or products.NAME.most.QUALITY")
+        for row in getattr(self, kind) if kind in MEMBERS else []:
+            name = row.name() if kind == "arcs" else row.name
+            member, _, quality = rest[len(name) + 1 :].partition(".")
+            if rest.startswith(name + ".") and member in MEMBERS[kind] and (quality in self.qualities) == (member in OF_QUALITY):
+                return kind, row, member, quality if member in OF_QUALITY else None
+        raise Ends(2, f"{path}: no member of this network, as sources.NAME.cost, pools.NAME.max or products.NAME.most.QUALITY, or arcs.FROM -> TO.max")
 
     def quantity(self, path):
         """The millionths of a member that is named like that: its stand-in where it is absent, or nothing."""
-        row, (member, *quality) = self.member(self.value, path)
-        kind = path.partition(".")[0]
-        node = next(node for node in getattr(self, kind) if node.name == row["name"])
-        found = getattr(node, member)
-        if quality:
-            k = self.qualities.index(quality[0])
-            return found[k] if member == "quality" else found.get(k)
-        return found
+        _, row, member, quality = self.member(path)
+        found = getattr(row, member)
+        if quality is None:
+            return found
+        k = self.qualities.index(quality)
+        return found.get(k) if isinstance(found, dict) else found[k] * (UNIT if member == "ratio" else 1)
 
 
-MEMBERS = {"sources": ("cost", "max", "quality"), "pools": ("max",), "products": ("price", "min", "max", "least", "most")}
-OF_QUALITY = ("quality", "least", "most")
+MEMBERS = {"sources": ("cost", "max", "quality"), "pools": ("max", "ratio"), "products": ("price", "min", "max", "least", "most"), "arcs": ("cost", "max")}
+OF_QUALITY = ("quality", "least", "most", "ratio")
 
 
 def millionths_of(text):

@@ -114,9 +114,10 @@ def totals(net, flows):
 
 
 def cost_of(net, flows):
-    """Purchases less revenue, in picos."""
+    """Purchases and what the arcs cost, less revenue, in picos."""
     sent, _, taken = totals(net, flows)
-    return sum(flow * source.cost for flow, source in zip(sent, net.sources)) - sum(flow * product.price for flow, product in zip(taken, net.products))
+    carriage = sum(flow * arc.cost for flow, arc in zip(flows.all(), net.arcs))
+    return sum(flow * source.cost for flow, source in zip(sent, net.sources)) + carriage - sum(flow * product.price for flow, product in zip(taken, net.products))
 
 
 def mean(parts):
@@ -131,9 +132,14 @@ def pool_means(net, flows):
     return {place: found for place, found in means.items() if found is not None}
 
 
+def leaving_means(net, flows):
+    """The same of what leaves a pool, which may take out a part of what enters."""
+    return {(l, k): found * net.retained[l][k] / net.scale for (l, k), found in pool_means(net, flows).items()}
+
+
 def product_means(net, flows):
-    """The same of products."""
-    pools, means = pool_means(net, flows), {}
+    """The same of what enters a product."""
+    pools, means = leaving_means(net, flows), {}
     for j in range(len(net.products)):
         for k in range(len(net.qualities)):
             parts = [(flow, pools.get((l, k), 0)) for flow, (l, end) in zip(flows.outs, net.outs) if end == j]
@@ -165,6 +171,9 @@ def broken_rules(net, flows):
         if found is not None and sign * found > sign * limit:
             words = "most that it may have" if sign > 0 else "least that it may have"
             yield Broken(7 if sign > 0 else 8, f"product {net.products[j].name} has {net.qualities[k]} {say(found)}, and {say(limit)} is the {words}")
+    for arc, flow in zip(net.arcs, flows.all()):
+        if arc.max is not None and flow > arc.max:
+            yield Broken(9, f"{arc.name()} carries {say(flow)}, and {say(arc.max)} is its maximum")
 
 
 def written_plan(net, flows):

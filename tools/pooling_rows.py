@@ -20,6 +20,11 @@ def refuse(fault, why):
 # ---- the rows
 
 
+def capped(arc, *amounts):
+    """The least of these amounts and of the maximum of the arc, if it has one."""
+    return min(amounts) if arc.max is None else min(arc.max, *amounts)
+
+
 class Rows:
     """The rows of docs/FORMATS.md of a network, each with what it speaks of, and the root box.
 
@@ -35,18 +40,20 @@ class Rows:
         contents = [[net.sources[s].quality[k] for s, end in net.feeds if end == l] for l in range(len(net.pools)) for k in range(nk)]
         self.first_quality, self.first_out = nf, nf + len(contents)
         self.low = [0] * nf + [min(part) for part in contents] + [0] * no
-        self.high = [GRAIN] * nf + [max(part) for part in contents] + [min(net.pools[l].max, net.products[j].max) for l, j in net.outs]
+        self.high = [GRAIN] * nf + [max(part) for part in contents]
+        self.high += [capped(arc, net.pools[l].max, net.products[j].max) for arc, (l, j) in zip(net.out_arcs, net.outs)]
         self.ends_of = self.variables(nk)
         cost, price = [source.cost for source in net.sources], [product.price for product in net.products]
-        self.costs = [cost[s] for s, _ in net.feeds] + [-price[j] for _, j in net.outs] + [cost[s] - price[j] for s, j in net.directs]
+        bought_and_sold = [cost[s] for s, _ in net.feeds] + [-price[j] for _, j in net.outs] + [cost[s] - price[j] for s, j in net.directs]
+        self.costs = [arc.cost + amount for arc, amount in zip(net.arcs, bought_and_sold)]
         self.rows = [row for family in (self.network_rows, self.quality_rows, self.proportion_rows, self.further_rows) for row in family()]
 
     def variables(self, nk):
         """How the ends of each variable come of a box: a pair of ends, a coordinate, a path's, or a product's."""
         net, out = self.net, self.first_out
-        found = [(0, min(net.sources[s].max, net.pools[l].max)) for s, l in net.feeds] + [out + o for o in range(len(net.outs))]
-        found += [(0, min(net.sources[s].max, net.products[j].max)) for s, j in net.directs]
-        found += [("path", net.sources[net.feeds[e][0]].max, out + o) for e, o in net.paths]
+        found = [(0, capped(arc, net.sources[s].max, net.pools[l].max)) for arc, (s, l) in zip(net.feed_arcs, net.feeds)] + [out + o for o in range(len(net.outs))]
+        found += [(0, capped(arc, net.sources[s].max, net.products[j].max)) for arc, (s, j) in zip(net.direct_arcs, net.directs)]
+        found += [("path", capped(net.feed_arcs[e], net.sources[net.feeds[e][0]].max), out + o) for e, o in net.paths]
         found += list(range(self.first_out))
         return found + [("product", self.first_quality + l * nk + k, out + o) for o, (l, _) in enumerate(net.outs) for k in range(nk)]
 
@@ -80,10 +87,10 @@ class Rows:
             yield True, -product.min, into(j, 1), ("minimum", j)
 
     def limit_row(self, sign, j, k, limit, carried):
-        """The row of a most, or of a least with all signs turned; `carried` is what brings quality through pools."""
-        net = self.net
-        terms = [(self.y + o, sign * limit) for o, (_, end) in enumerate(net.outs) if end == j] + [(f, -sign * a) for f, a in carried]
-        terms += [(self.z + d, sign * (limit - net.sources[s].quality[k])) for d, (s, end) in enumerate(net.directs) if end == j]
+        """The row of a most, or of a least with all signs turned; `carried` is what brings quality through pools, in parts of the scale."""
+        net, scale = self.net, self.net.scale
+        terms = [(self.y + o, sign * scale * limit) for o, (_, end) in enumerate(net.outs) if end == j] + [(f, -sign * a) for f, a in carried]
+        terms += [(self.z + d, sign * scale * (limit - net.sources[s].quality[k])) for d, (s, end) in enumerate(net.directs) if end == j]
         return True, 0, terms, ("most" if sign > 0 else "least", j, k)
 
     def envelope(self, scale, a, b, f, name):
@@ -98,7 +105,7 @@ class Rows:
                 terms = [(self.x + e, net.sources[s].quality[k]) for e, (s, end) in enumerate(net.feeds) if end == l]
                 yield False, 0, terms + [(self.v + o * nk + k, -1) for o, (start, _) in enumerate(net.outs) if start == l], ("mixing", l, k)
         for sign, j, k, limit in net.limits():
-            yield self.limit_row(sign, j, k, limit, [(self.v + o * nk + k, 1) for o, (_, end) in enumerate(net.outs) if end == j])
+            yield self.limit_row(sign, j, k, limit, [(self.v + o * nk + k, net.retained[l][k]) for o, (l, end) in enumerate(net.outs) if end == j])
         for o, (l, _) in enumerate(net.outs):
             for k in range(nk):
                 yield from self.envelope(1, self.p + l * nk + k, self.y + o, self.v + o * nk + k, ("envelope", "p", l, k))
@@ -110,7 +117,7 @@ class Rows:
         for e in range(len(net.feeds)):
             yield False, 0, [(self.x + e, 1)] + self.along(e, -1), ("feed", e)
         for sign, j, k, limit in net.limits():
-            carried = [(self.w + a, net.sources[net.feeds[e][0]].quality[k]) for a, (e, o) in enumerate(net.paths) if net.outs[o][1] == j]
+            carried = [(self.w + a, net.retained[net.outs[o][0]][k] * net.sources[net.feeds[e][0]].quality[k]) for a, (e, o) in enumerate(net.paths) if net.outs[o][1] == j]
             yield self.limit_row(sign, j, k, limit, carried)
         for a, (e, o) in enumerate(net.paths):
             yield from self.envelope(GRAIN, self.Q + e, self.y + o, self.w + a, ("envelope", "Q", e))
@@ -139,8 +146,10 @@ class Rows:
 
     def reach_bound(self):
         net, best = self.net, [0] * len(self.net.products)
-        for s, j in net.directs + [(net.feeds[e][0], net.outs[o][1]) for e, o in net.paths]:
-            best[j] = max(best[j], net.products[j].price - net.sources[s].cost)
+        ways = [(s, j, arc.cost) for arc, (s, j) in zip(net.direct_arcs, net.directs)]
+        ways += [(net.feeds[e][0], net.outs[o][1], net.feed_arcs[e].cost + net.out_arcs[o].cost) for e, o in net.paths]
+        for s, j, carriage in ways:
+            best[j] = max(best[j], net.products[j].price - net.sources[s].cost - carriage)
         return -sum(margin * product.max for margin, product in zip(best, net.products))
 
 

@@ -49,23 +49,30 @@ def quantity(value):
     return int(parts[1] + (parts[2] or "").ljust(6, "0"))
 def walk(value):
     top = members(value, ["version", "sources", "products", "arcs"], ["title", "qualities", "pools"])
-    refuse(typed(top["version"], Number).text != "1", 6)                        # the version
+    version = typed(top["version"], Number).text
+    refuse(version not in ("1", "2"), 6)                                        # the version
     typed(top.get("title", ""), str)
     qualities = [typed(name, str) for name in typed(top.get("qualities", []), list)]
     place = {name: k for k, name in enumerate(qualities)}
-    def contents(item, needed=()):                          # quantities by the number of their quality
-        return {place[name]: quantity(item[name]) for name in sorted(members(item, needed, place), key=place.get)}
-    read = {"name": lambda item: typed(item, str), "cost": quantity, "price": quantity, "min": quantity,
-            "max": quantity, "quality": lambda item: contents(item, place), "least": contents, "most": contents}
-    def node(item, needed, optional):                       # `read` has the members in the order of every kind of node
+    def contents(item, needed=(), kind=(Number, str)):      # quantities by the number of their quality
+        return {place[name]: quantity(typed(item[name], kind)) for name in sorted(members(item, needed, place), key=place.get)}
+    def name_of(item): return typed(item, str)
+    read = {"name": name_of, "from": name_of, "to": name_of, "cost": quantity, "price": quantity, "min": quantity,
+            "max": quantity, "quality": lambda item: contents(item, place), "least": contents, "most": contents,
+            "ratio": lambda item: contents(item, kind=Number)}                  # in thousandths, counted as a quantity
+    def row(item, needed, optional):                        # `read` has the members in the order of every kind of row
         members(item, needed, optional)
         values = {name: read[name](item[name]) for name in read if name in item}
-        return types.SimpleNamespace(**{"min": 0, "max": None, "least": {}, "most": {}, **values})
-    sources = [node(item, ["name", "cost", "quality"], ["max"]) for item in typed(top["sources"], list)]
-    pools = [node(item, ["name"], ["max"]) for item in typed(top.get("pools", []), list)]
-    products = [node(item, ["name", "price", "max"], ["min", "least", "most"]) for item in typed(top["products"], list)]
-    arcs = [tuple(typed(end, str) for end in typed(item, list)) for item in typed(top["arcs"], list)]
-    refuse(any(len(arc) != 2 for arc in arcs), 3)
+        return types.SimpleNamespace(**{"cost": 0, "min": 0, "max": None, "least": {}, "most": {}, "ratio": {}, **values})
+    def arc(item):                                          # a list of its ends; in version 2 an object too
+        if version == "2" and not isinstance(item, list): return row(item, ["from", "to"], ["cost", "max"])
+        refuse(len([typed(end, str) for end in typed(item, list)]) != 2, 3)
+        return row(dict(zip(("from", "to"), item)), (), ("from", "to"))
+    sources = [row(item, ["name", "cost", "quality"], ["max"]) for item in typed(top["sources"], list)]
+    pools = [row(item, ["name"], ["max", "ratio"][:int(version)]) for item in typed(top.get("pools", []), list)]
+    products = [row(item, ["name", "price", "max"], ["min", "least", "most"]) for item in typed(top["products"], list)]
+    arcs = [arc(item) for item in typed(top["arcs"], list)]
+    for each in arcs: each.ends = vars(each)["from"], each.to
     return types.SimpleNamespace(qualities=qualities, sources=sources, pools=pools, products=products, arcs=arcs)
 # THE NETWORK FILE: its rows, judged and numbered.
 def outside(low, high, *lists): return not all(low * UNIT <= n <= high * UNIT for n in itertools.chain(*lists))
@@ -76,21 +83,25 @@ def judge_rows(net):
     refuse(not all(re.fullmatch("[ -~]{1,40}", name) for name in names + qualities), "9 2")  # 1 to 40 signs
     refuse(len(set(names)) < len(names) or len(set(qualities)) < len(qualities), "9 3")                     # unique
     source, pool, product = ({node.name: i for i, node in enumerate(nodes)} for nodes in (sources, pools, products))
-    refuse(any(end not in names for arc in arcs for end in arc), "9 4")                   # every end is a node
-    refuse(any(start in product or end in source for start, end in arcs), "9 5")          # ways that no arc goes
-    refuse(any(start in pool and end in pool for start, end in arcs), "9 6")              # from pool to pool
-    refuse(len(set(arcs)) < len(arcs), "9 7")                                             # an arc twice
-    net.feeds = [(source[start], pool[end]) for start, end in arcs if end in pool]
-    net.outs = [(pool[start], product[end]) for start, end in arcs if start in pool]
-    net.directs = [(source[start], product[end]) for start, end in arcs if start in source and end in product]
+    both = [arc.ends for arc in arcs]
+    refuse(any(end not in names for ends in both for end in ends), "9 4")                 # every end is a node
+    refuse(any(start in product or end in source for start, end in both), "9 5")          # ways that no arc goes
+    refuse(any(start in pool and end in pool for start, end in both), "9 6")              # from pool to pool
+    refuse(len(set(both)) < len(both), "9 7")                                             # an arc twice, by its ends
+    net.into, net.out = [arc for arc in arcs if arc.ends[1] in pool], [arc for arc in arcs if arc.ends[0] in pool]
+    net.past = [arc for arc in arcs if arc.ends[0] in source and arc.ends[1] in product]
+    net.arcs = net.into + net.out + net.past                # in the order of their numbers
+    net.feeds, net.outs, net.directs = ([(starts[arc.ends[0]], ends[arc.ends[1]]) for arc in kind] for kind, starts, ends in
+                                        ((net.into, source, pool), (net.out, pool, product), (net.past, source, product)))
     net.paths = [(e, o) for l in range(len(pools)) for e, (_, end) in enumerate(net.feeds) if end == l
                  for o, (start, _) in enumerate(net.outs) if start == l]
     refuse(len({l for _, l in net.feeds}) < len(pools), "9 8")                            # a pool that nothing enters
     refuse(len({l for l, _ in net.outs}) < len(pools), "9 9")                             # a pool that nothing leaves
     refuse(len(net.paths) > 512, "9 10")                                                  # too many paths
-    refuse(outside(-1_000_000, 1_000_000, [s.cost for s in sources], [p.price for p in products])
+    refuse(outside(-1_000_000, 1_000_000, [s.cost for s in sources], [p.price for p in products], [a.cost for a in arcs])
            or outside(0, 1_000_000, [p.max for p in products], [p.min for p in products])
-           or outside(0, 100_000_000, [node.max or 0 for node in sources + pools])      # None where absent
+           or outside(0, 100_000_000, [node.max or 0 for node in sources + pools + arcs])       # None where absent
+           or outside(0, 1000, *[pool.ratio.values() for pool in pools])
            or outside(-100_000, 100_000, *[s.quality.values() for s in sources],
                       *[limits.values() for p in products for limits in (p.least, p.most)]), "9 11")
     refuse(any(p.min > p.max or any(p.least[k] > p.most.get(k, p.least[k]) for k in p.least) for p in products), "9 12")
@@ -99,6 +110,11 @@ def judge_rows(net):
     net.limits += [(-1, j, k, p.least[k]) for j, p in enumerate(products) for k in p.least]         # .. quality, limit
     for node in sources + pools:
         if node.max is None: node.max = sum(p.max for p in products)
+    for arc in arcs:
+        if arc.max is None: arc.max = math.inf              # it bounds nothing
+    ratios = [[pool.ratio.get(k, 1000 * UNIT) // UNIT for k in range(len(qualities))] for pool in pools]
+    net.H = 1 if all(ratio == 1000 for part in ratios for ratio in part) else 1000
+    net.tau = [[ratio * net.H // 1000 for ratio in part] for part in ratios]
     return net
 # THE CERTIFICATE: line after line. A fault is told with the number of the line that was taken last.
 class Text:
@@ -158,15 +174,19 @@ def plan_cost(net, plan):
     refuse(any(flow < d * product.min for flow, product in zip(taken, net.products)), "plan 6")     # minimum
     for sign, j, k, limit in net.limits:                    # rule 7 for all mosts, then rule 8 for all leasts
         q = [source.quality[k] for source in net.sources]
-        M = [sum(weight * q[s] for weight, (s, end) in zip(r, feeds) if end == l) for l in range(len(net.pools))]
+        M = [net.tau[l][k] * sum(pick([weight * q[s] for weight, (s, _) in zip(r, feeds)], feeds, 1, l)) for l in range(len(T))]
         carried = (sum(M[l] * flow for flow, (l, end) in zip(y, outs) if end == j)
-                   + sum(R * q[s] * flow for flow, (s, end) in zip(z, directs) if end == j))
-        refuse(sign * carried > sign * limit * R * taken[j], "plan 7" if sign > 0 else "plan 8")
+                   + net.H * sum(R * q[s] * flow for flow, (s, end) in zip(z, directs) if end == j))
+        refuse(sign * carried > sign * limit * net.H * R * taken[j], "plan 7" if sign > 0 else "plan 8")
+    along = x + [R * flow for flow in y + z]
+    refuse(any(flow > d * R * arc.max for flow, arc in zip(along, net.arcs)), "plan 9")             # arc
     return [sum(source.cost * flow for flow, source in zip(drawn, net.sources))
+            + sum(arc.cost * flow for flow, arc in zip(along, net.arcs))
             - R * sum(product.price * flow for flow, product in zip(taken, net.products)), d * R]
 
 # VARIABLES AND ROWS. A box has the ends of the coordinates, and behind them those of x and z, which nothing cuts. So a
-# variable x, y, z, Q or p is the number of its ends. A w is its feed, A of the feed's source, and y; a v is p and y.
+# variable x, y, z, Q or p is the number of its ends. A w is its feed, A of the feed's source or the feed's own maximum, and
+# y; a v is p and y.
 def ends(variable, low, high):
     if isinstance(variable, int): return low[variable], high[variable]
     if len(variable) == 3: return 0, min(variable[1], high[variable[2]])
@@ -179,25 +199,29 @@ def make_rows(net):
     scale, a, b, f for coefficients."""
     feeds, outs, directs, paths, sides = net.feeds, net.outs, net.directs, net.paths, (1, 2, 3, 4)
     A, S, D = ([node.max for node in nodes] for nodes in (net.sources, net.pools, net.products))
-    c, q = [source.cost for source in net.sources], [source.quality for source in net.sources]
+    c, q, H, tau = [source.cost for source in net.sources], [source.quality for source in net.sources], net.H, net.tau
     price, least = [product.price for product in net.products], [product.min for product in net.products]
     sources, pools, products, qualities = (range(count) for count in net.shape[:4])
     contents = [[q[s][k] for s, end in feeds if end == l] for l in pools for k in qualities]
     net.low = [0] * len(feeds) + [min(content) for content in contents] + [0] * (len(outs) + len(feeds) + len(directs))
-    net.high = ([G] * len(feeds) + [max(content) for content in contents] + [min(S[l], D[j]) for l, j in outs]
-                + [min(A[s], S[l]) for s, l in feeds] + [min(A[s], D[j]) for s, j in directs])
+    net.high = ([G] * len(feeds) + [max(content) for content in contents]
+                + [min(S[l], D[j], arc.max) for (l, j), arc in zip(outs, net.out)]
+                + [min(A[s], S[l], arc.max) for (s, l), arc in zip(feeds, net.into)]
+                + [min(A[s], D[j], arc.max) for (s, j), arc in zip(directs, net.past)])
     net.coordinates = len(feeds) + len(contents) + len(outs)
     numbers = iter(range(len(net.low)))
     Q, p, y, x, z = ([next(numbers) for _ in part] for part in (feeds, contents, outs, feeds, directs))
-    w = [(e, A[feeds[e][0]], y[o]) for e, o in paths]
+    w = [(e, min(A[feeds[e][0]], net.into[e].max), y[o]) for e, o in paths]
     v = [[(p[l * len(qualities) + k], y[o]) for o, (l, _) in enumerate(outs)] for k in qualities]
-    costs = [-price[j] for _, j in outs] + [c[s] for s, _ in feeds] + [c[s] - price[j] for s, j in directs]
+    costs = [arc.cost - price[j] for (_, j), arc in zip(outs, net.out)]
+    costs += [c[s] + arc.cost for (s, _), arc in zip(feeds, net.into)]
+    costs += [c[s] + arc.cost - price[j] for (s, j), arc in zip(directs, net.past)]
     net.costs = dict(zip(y + x + z, costs))
     net.variables = x + y + z + w + Q + p + [v[k][o] for o in range(len(outs)) for k in qualities]
     def times(factor, *variables): return dict.fromkeys(itertools.chain(*variables), factor)
     def limit_row(sign, j, k, U, carried):                  # of a most; for a least all signs are turned
-        direct = {z[i]: sign * (U - q[s][k]) for i, (s, end) in enumerate(directs) if end == j}
-        return True, 0, times(sign * U, pick(y, outs, 1, j)) | {f: -sign * a for f, a in carried.items()} | direct
+        direct = {z[i]: sign * H * (U - q[s][k]) for i, (s, end) in enumerate(directs) if end == j}
+        return True, 0, times(sign * H * U, pick(y, outs, 1, j)) | {f: -sign * a for f, a in carried.items()} | direct
     rows = [(True, A[s], times(-1, pick(x, feeds, 0, s), pick(z, directs, 0, s))) for s in sources]             # N1
     rows += [(False, 0, times(1, pick(x, feeds, 1, l)) | times(-1, pick(y, outs, 0, l))) for l in pools]        # N2
     rows += [(True, S[l], times(-1, pick(y, outs, 0, l))) for l in pools]                                       # N3
@@ -206,13 +230,14 @@ def make_rows(net):
     after_n = len(rows)
     rows += [(False, 0, {x[e]: q[s][k] for e, (s, end) in enumerate(feeds) if end == l}
               | times(-1, pick(v[k], outs, 0, l))) for l in pools for k in qualities]                           # P1
-    rows += [limit_row(sign, j, k, U, times(1, pick(v[k], outs, 1, j))) for sign, j, k, U in net.limits]        # P2, P3
+    rows += [limit_row(sign, j, k, U, {v[k][o]: tau[l][k] for o, (l, end) in enumerate(outs) if end == j})
+             for sign, j, k, U in net.limits]                                                                   # P2, P3
     rows += [(True, side, (1, *v[k][o], v[k][o])) for o in range(len(outs)) for k in qualities for side in sides]  # P4
     after_p = len(rows)
     rows += [(False, -G, times(1, pick(Q, feeds, 1, l))) for l in pools]                                        # Q1
     rows += [(False, 0, {x[e]: 1} | times(-1, pick(w, paths, 0, e))) for e in range(len(feeds))]                # Q2
-    rows += [limit_row(sign, j, k, U, {w[i]: q[feeds[e][0]][k] for i, (e, o) in enumerate(paths) if outs[o][1] == j})
-             for sign, j, k, U in net.limits]                                                                   # Q3, Q4
+    rows += [limit_row(sign, j, k, U, {w[i]: tau[outs[o][0]][k] * q[feeds[e][0]][k] for i, (e, o) in enumerate(paths)
+                                       if outs[o][1] == j}) for sign, j, k, U in net.limits]                    # Q3, Q4
     rows += [(True, side, (G, Q[e], y[o], w[i])) for i, (e, o) in enumerate(paths) for side in sides]           # Q5
     after_q = len(rows)
     rows += [(False, 0, times(1, pick(w, paths, 1, o)) | {y[o]: -1}) for o in range(len(outs))]                 # PQ1
@@ -262,8 +287,9 @@ def proof_number(net, proof, low, high):
     refuse(scale == 0 and number <= 0, f"proof {node} 6")                                           # shows nothing
     return number
 def reach_bound(net):
-    margins = [(j, net.products[j].price - net.sources[s].cost)
-               for s, j in net.directs + [(net.feeds[e][0], net.outs[o][1]) for e, o in net.paths]]
+    ways = [(s, j, arc.cost) for (s, j), arc in zip(net.directs, net.past)]
+    ways += [(net.feeds[e][0], net.outs[o][1], net.into[e].cost + net.out[o].cost) for e, o in net.paths]
+    margins = [(j, net.products[j].price - net.sources[s].cost - carriage) for s, j, carriage in ways]
     return -sum(p.max * max([0] + [margin for end, margin in margins if end == j]) for j, p in enumerate(net.products))
 def node_bound(net, bound, proof, low, high):               # of the parent's bound, or None where it holds no plan
     if proof is None: return bound

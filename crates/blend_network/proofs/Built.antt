@@ -5,7 +5,7 @@ use Rattle.std.proofs.lemmas.List.{length-map, get_or-map}
 use Rattle.std.proofs.lemmas.Int.{ints}
 use Rattle.pool_model.specs.Rows.{Rows, IsRectangular}
 use Rattle.pool_model.specs.Naming.{source_names, pool_names, product_names, source_of, pool_of, product_of, stand_in, network_of}
-use Rattle.pool_model.specs.Network.{Source, Pool, Product, Network, net_of, IsWithin, IsLimited, no_source, no_pool, no_product}
+use Rattle.pool_model.specs.Network.{Source, Pool, Product, Network, net_of, IsWithin, IsLimited, no_source, no_pool, no_product, removes_nothing, scale_of}
 use Rattle.network_parts.specs.Faults.{row_count, row_limit, IsUpTo, no_source_row, no_pool_row, no_product_row}
 use Rattle.network_parts.specs.Ready.{IsReady}
 use Rattle.network_parts.specs.Views.{shown_path}
@@ -16,6 +16,8 @@ use Rattle.network_parts.specs.declared.fault.Kind.{Kind}
 use Rattle.network_parts.specs.declared.fault.Kind.TheVariants as kind
 use Rattle.network_parts.specs.declared.arcs.Arcs.{Arcs}
 use Rattle.blend_network.specs.declared.network.limits.Limits.{Limits}
+use Rattle.blend_network.proofs.Carried.{arcs-carried}
+use Rattle.blend_network.proofs.Ratios.{share-most, scale-least, scale-most}
 use Rattle.network_parts.proofs.Joined.{arcs-between, few_arcs, one_of}
 
 -- what holds of each mapped row holds of each row
@@ -36,6 +38,11 @@ amount_within size z h = omega (arith, ints, h.0, h.1)
 
 amounts_in_order : (a b : ℤ) → pos 0 ≤ℤ a → a ≤ℤ b → unsigned_abs a ≤ unsigned_abs b
 amounts_in_order a b h k = omega (arith, ints)
+
+-- what leaves a pool, of what its row says
+share : (ratios : List ℤ) (k : ℕ) → All (IsUpTo 1000) ratios → k < length ratios → get_or (map unsigned_abs ratios) k 1000 ≤ 1000
+share ratios k all within =
+    omega (arith, get_or-map unsigned_abs ratios k (pos 0) 1000 within, amount_within 1000 (get_or ratios k (pos 0)) (all k (pos 0) within))
 
 -- the network is within the limits
 pub limited : (r : Rows) (arcs : Arcs) → IsRectangular r → IsReady r arcs → IsUpTo (10 ^ 14) (stand_in r) → IsLimited (net_of (network_of r))
@@ -91,13 +98,23 @@ limited r arcs rect checked up =
           (ap (λ (p : Product). get_or p.most k None) (at_p j h) ∙ high);
       fed = λ l h. one_of (λ a. a.to) l (network_of r).feeds (λ all. checked.faultless.inputs l (here_l l h, all));
       drained = λ l h. one_of (λ a. a.from) l (network_of r).outs (λ all. checked.faultless.outputs l (here_l l h, all));
+      feed_costs = λ e h. (arcs-carried (source_names r) (pool_names r) r checked.ranges.arcs e h).cost;
+      out_costs = λ e h. (arcs-carried (pool_names r) (product_names r) r checked.ranges.arcs e h).cost;
+      direct_costs = λ e h. (arcs-carried (source_names r) (product_names r) r checked.ranges.arcs e h).cost;
+      feed_maxima = λ e m h is. (arcs-carried (source_names r) (pool_names r) r checked.ranges.arcs e h).max m is;
+      out_maxima = λ e m h is. (arcs-carried (pool_names r) (product_names r) r checked.ranges.arcs e h).max m is;
+      direct_maxima = λ e m h is. (arcs-carried (source_names r) (product_names r) r checked.ranges.arcs e h).max m is;
+      scale = (scale-least (removes_nothing (network_of r).pools), scale-most (removes_nothing (network_of r).pools));
+      shares_retained = λ l k h m. share-most (removes_nothing (network_of r).pools) (get_or (get_or (network_of r).pools l no_pool).ratio k 1000)
+          (subst (λ (p : Pool). get_or p.ratio k 1000 ≤ 1000) (at_l l h)
+          (share (get_or r.pools l no_pool_row).ratio k (checked.ranges.pools l (here_l l h)).ratio (omega (arith, rect.ratio l no_pool_row (here_l l h), m))));
     }
 
 -- the whole of what a network keeps
 pub built : (r : Rows) (arcs : Arcs) → IsRectangular r → IsReady r arcs → IsLimited (net_of (network_of r)) → (index : List (List (List ℕ))) → IsIndexOf (net_of (network_of r)) index
-    → (limits : Limits) → AreLimitsOf (net_of (network_of r)) limits → IsBuilt (network_of r) (map shown_path arcs.paths.items) index limits
+    → (limits : Limits) → AreLimitsOf (net_of (network_of r)) limits → (scale : ℕ) → scale ≡ scale_of (network_of r).pools → IsBuilt (network_of r) (map shown_path arcs.paths.items) index limits scale
 unfolding net_of
-built r arcs rect checked limited index is_index limits are_set =
+built r arcs rect checked limited index is_index limits are_set scale is_scale =
     record {
       made = record { rows = r; rectangular = rect; faultless = checked.faultless; named = refl };
       limited = limited;
@@ -111,4 +128,8 @@ built r arcs rect checked limited index is_index limits are_set =
       few = omega (arith, ap length checked.found.paths, checked.faultless.paths);
       grouped = is_index;
       set = are_set;
+      ratio = λ l h. let lt : l < length r.pools = omega (arith, length-map r.pools (pool_of (stand_in r)), h) in
+          subst (λ (p : Pool). length p.ratio ≡ length r.qualities) (sym (get_or-map (pool_of (stand_in r)) r.pools l no_pool_row no_pool lt))
+          (length-map (get_or r.pools l no_pool_row).ratio unsigned_abs ∙ rect.ratio l no_pool_row lt);
+      scaled = is_scale;
     }

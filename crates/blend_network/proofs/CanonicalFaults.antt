@@ -1,12 +1,13 @@
 -- The canonical rows of a network are rectangular and faultless.
-use Rattle.std.proofs.Common.{◌≡◌, ℕ, zero, suc, ◌+◌, ◌^◌, ◌<◌, ◌≤◌, ℤ, pos, List, [], ◌∷◌, ◌++◌, length, map, get_or, All, Contains, ◌⊎◌, Option, None, Some}
+use Rattle.std.proofs.Common.{◌≡◌, ℕ, zero, suc, ◌+◌, ◌^◌, ◌<◌, ◌≤◌, ℤ, pos, unsigned_abs, option_map, List, [], ◌∷◌, ◌++◌, length, map, take, get_or, All, Contains, ◌⊎◌, Option, None, Some}
 use Rattle.std.proofs.Common.{refl, sym, ap, subst, ◌∙◌, inl, inr, arith}
 use Rattle.std.specs.Option.{ForSome}
-use Rattle.std.proofs.lemmas.List.{length-map, length-append, get_or-map, get_or_default}
-use Rattle.std.proofs.lemmas.List.Elements.{All-map, All-from_get_or, Contains-append_cases, Contains-get_or}
+use Rattle.std.proofs.lemmas.List.{length-map, length-append, get_or-map}
+use Rattle.std.proofs.lemmas.List.Elements.{All-map, All-append, All-get_or, All-from_get_or, Contains-append_cases, Contains-get_or}
 use Rattle.std.proofs.lemmas.Int.{ints}
+use Rattle.integers.proofs.Elements.{Contains-map}
 use Rattle.pool_model.specs.Rows.{Rows, IsRectangular}
-use Rattle.pool_model.specs.Naming.{source_names, pool_names, product_names, arc_between, arcs_between, stand_in, source_of, product_of, network_of}
+use Rattle.pool_model.specs.Naming.{source_names, pool_names, product_names, arc_between, arcs_between, stand_in, source_of, pool_of, product_of, network_of}
 use Rattle.pool_model.specs.Network as model
 use Rattle.pool_model.specs.Network.{Network, net_of, IsLimited, IsWithin, no_source, no_pool, no_product, no_arc}
 use Rattle.pool_model.specs.Paths.{paths_of}
@@ -14,12 +15,13 @@ use Rattle.network_parts.specs.declared.fault.Kind.{Kind}
 use Rattle.network_parts.specs.declared.fault.Kind.TheVariants.{Source, Pool, Product, Quality, Arc}
 use Rattle.network_parts.specs.Faults.{IsTooMany, IsBadAt, IsBadName, IsRepeatAt, IsDuplicateName, IsUnknownName, IsArcBackwards, IsPoolToPool, IsDuplicateArc}
 use Rattle.network_parts.specs.Faults.{IsPoolWithoutInput, IsPoolWithoutOutput, IsOutOfRange, IsLeastAboveMost, IsUpTo, IsSourceInRange, IsPoolInRange}
-use Rattle.network_parts.specs.Faults.{IsProductInRange, IsOrderly, no_source_row, no_pool_row, no_product_row, row_names, names_before, node_names, ends_of}
+use Rattle.network_parts.specs.Faults.{IsProductInRange, IsArcInRange, IsOrderly, no_source_row, no_pool_row, no_product_row, no_arc_row, row_names, names_before, node_names, row_ends, ends_of}
 use Rattle.network_parts.specs.Faults.{IsFaultless}
 use Rattle.blend_network.specs.Kinds.{names_of}
 use Rattle.blend_network.specs.Made.{IsMade}
 use Rattle.blend_network.specs.Canonical.{canonical_source, canonical_pool, canonical_product, canonical_arc, canonical_arcs, canonical_rows}
-use Rattle.blend_network.proofs.CanonicalArcs.{IsOnce, all_named, all_once, named, kept_there, once_kept, once_from, never_again}
+use Rattle.blend_network.proofs.CanonicalArcs.{IsOnce, all_named, all_ends, ends_named, all_once, named_ends, named, kept_there, once_kept, once_from, never_again}
+use Rattle.blend_network.proofs.Ratios.{ratio-most}
 use Rattle.blend_network.proofs.CanonicalRows.{sources_same, pools_same, products_same, joined, arcs_are, network_again}
 
 -- ---- rows that are as long
@@ -33,6 +35,9 @@ rectangular_again r rect =
       sources = All-map (λ s. length s.quality ≡ length r.qualities) canonical_source (network_of r).sources (All-map len (source_of (stand_in r)) r.sources rect.sources);
       least = All-map (λ p. length p.least ≡ length r.qualities) canonical_product (network_of r).products (All-map least product_of r.products rect.least);
       most = All-map (λ p. length p.most ≡ length r.qualities) canonical_product (network_of r).products (All-map most product_of r.products rect.most);
+      ratio = All-map (λ p. length p.ratio ≡ length r.qualities) canonical_pool (network_of r).pools
+          (All-map (λ (p : model.Pool). length (map pos p.ratio) ≡ length r.qualities) (pool_of (stand_in r)) r.pools
+          (λ k d lt. length-map (map unsigned_abs (get_or r.pools k d).ratio) pos ∙ length-map (get_or r.pools k d).ratio unsigned_abs ∙ rect.ratio k d lt));
     }
 
 -- ---- counts
@@ -93,7 +98,34 @@ module _ (n : Network) (lim : IsLimited (net_of n)) (rect : IsRectangular (canon
 
   pub pool_in : (l : ℕ) → l < length n.pools → IsPoolInRange (canonical_pool (get_or n.pools l no_pool))
   unfolding net_of
-  pool_in l h = record { max = some_up_to (get_or n.pools l no_pool).max (10 ^ 14) (lim.pool_maxima l h) }
+  pool_in l h =
+      let rs = (get_or n.pools l no_pool).ratio in
+      let len : length (map pos (get_or n.pools l no_pool).ratio) ≡ length n.qualities = held (λ p. length p.ratio ≡ length n.qualities) canonical_pool n.pools no_pool rect.ratio l h in
+      record {
+        max = some_up_to (get_or n.pools l no_pool).max (10 ^ 14) (lim.pool_maxima l h);
+        ratio = All-map (IsUpTo 1000) pos rs (All-from_get_or (λ r. IsUpTo 1000 (pos r)) rs 1000
+            (λ k m. up_to (get_or rs k 1000) 1000 (ratio-most n lim l k h (omega (arith, m, len, length-map rs pos)))));
+      }
+
+  all_carried : (froms tos : List (List ℕ)) (arcs : List model.Arc) → ((e : ℕ) → e < length arcs → IsWithin (10 ^ 12) (get_or arcs e no_arc).cost)
+      → ((e m : ℕ) → e < length arcs → (get_or arcs e no_arc).max ≡ Some m → m ≤ 10 ^ 14) → All IsArcInRange (map (canonical_arc froms tos) arcs)
+  all_carried froms tos arcs costs maxima =
+      All-map IsArcInRange (canonical_arc froms tos) arcs
+      (All-from_get_or (λ a. IsArcInRange (canonical_arc froms tos a)) arcs no_arc (λ e h. record { cost = costs e h; max = maximum (get_or arcs e no_arc).max (λ m is. maxima e m h is) }))
+    where
+      maximum : (o : Option ℕ) → ((m : ℕ) → o ≡ Some m → m ≤ 10 ^ 14) → ForSome (option_map pos o) (IsUpTo (10 ^ 14))
+      maximum None h = λ q e. absurd cc
+      maximum (Some m) h = some_up_to m (10 ^ 14) (h m refl)
+
+  pub arcs_in : All IsArcInRange (canonical_arcs n)
+  unfolding net_of
+  arcs_in =
+      let s = names_of n Source in
+      let p = names_of n Pool in
+      let d = names_of n Product in
+      All-append IsArcInRange (map (canonical_arc s p) n.feeds ++ map (canonical_arc p d) n.outs) (map (canonical_arc s d) n.directs)
+      (All-append IsArcInRange (map (canonical_arc s p) n.feeds) (map (canonical_arc p d) n.outs)
+      (all_carried s p n.feeds lim.feed_costs lim.feed_maxima) (all_carried p d n.outs lim.out_costs lim.out_maxima)) (all_carried s d n.directs lim.direct_costs lim.direct_maxima)
 
   pub product_in : (j : ℕ) → j < length n.products → IsProductInRange (canonical_product (get_or n.products j no_product))
   unfolding net_of
@@ -130,7 +162,7 @@ module _ (n : Network) (lim : IsLimited (net_of n)) (rect : IsRectangular (canon
   not_outside Pool i bad = bad.1 (rows_in IsPoolInRange canonical_pool n.pools no_pool no_pool_row pool_in i bad.0)
   not_outside Product i bad = bad.1 (rows_in IsProductInRange canonical_product n.products no_product no_product_row product_in i bad.0)
   not_outside Quality i bad = bad
-  not_outside Arc i bad = bad
+  not_outside Arc i bad = bad.1 (All-get_or IsArcInRange (canonical_arcs n) i no_arc_row bad.0 arcs_in)
 
   not_disorderly : (i : ℕ) → ¬ IsLeastAboveMost (canonical_rows n) i
   not_disorderly i bad = bad.1 (rows_in IsOrderly canonical_product n.products no_product no_product_row product_orderly i bad.0)
@@ -164,21 +196,25 @@ module _ (r : Rows) (ok : IsFaultless r) where
       subst (λ names. ¬ IsRepeatAt (names_before (canonical_rows (network_of r)) kind) names i) (sym (names_same kind))
       (subst (λ before. ¬ IsRepeatAt before (row_names r kind) i) (sym (before_same kind)) (ok.distinct kind i))
 
-  -- each arc is one of the file
-  from_file : (x : List ℕ × List ℕ) → Contains (canonical_arcs (network_of r)) x → Contains r.arcs x
+  -- the names of the ends of the canonical arcs
+  ends_are : map row_ends (canonical_arcs (network_of r)) ≡ all_ends (source_names r) (pool_names r) (product_names r) (network_of r).feeds (network_of r).outs (network_of r).directs
+  ends_are = ap (map row_ends) (arcs_are r ok) ∙ ends_named (source_names r) (pool_names r) (product_names r) (network_of r).feeds (network_of r).outs (network_of r).directs
+
+  -- each arc joins what one of the file does
+  from_file : (x : List ℕ × List ℕ) → Contains (map row_ends (canonical_arcs (network_of r))) x → Contains (map row_ends r.arcs) x
   from_file x there =
       let s = source_names r in
       let p = pool_names r in
       let d = product_names r in
       let n = network_of r in
-      let f = map (canonical_arc s p) n.feeds in
-      let o = map (canonical_arc p d) n.outs in
-      elim (Contains-append_cases (f ++ o) (map (canonical_arc s d) n.directs) x (subst (λ arcs. Contains arcs x) (arcs_are r ok) there)) [
+      let f = map (named_ends s p) n.feeds in
+      let o = map (named_ends p d) n.outs in
+      elim (Contains-append_cases (f ++ o) (map (named_ends s d) n.directs) x (subst (λ arcs. Contains arcs x) ends_are there)) [
         | inl c ↦ elim (Contains-append_cases f o x c) [
-          | inl a ↦ kept_there (arc_between s p) (canonical_arc s p) (named s p) r.arcs x a
-          | inr a ↦ kept_there (arc_between p d) (canonical_arc p d) (named p d) r.arcs x a
+          | inl a ↦ kept_there (arc_between s p) (named_ends s p) row_ends (named s p) r.arcs x a
+          | inr a ↦ kept_there (arc_between p d) (named_ends p d) row_ends (named p d) r.arcs x a
         ]
-        | inr a ↦ kept_there (arc_between s d) (canonical_arc s d) (named s d) r.arcs x a
+        | inr a ↦ kept_there (arc_between s d) (named_ends s d) row_ends (named s d) r.arcs x a
       ]
 
   -- what holds of the ends of no arc of the file holds of none here
@@ -186,8 +222,10 @@ module _ (r : Rows) (ok : IsFaultless r) where
       → i < length (canonical_arcs (network_of r)) → ¬ P (ends_of (canonical_rows (network_of r)) i)
   none_here P none i h bad =
       let x = ends_of (canonical_rows (network_of r)) i in
-      let at = from_file x (Contains-get_or (canonical_arcs (network_of r)) i ([], []) h) in
-      none at.0 at.1 (subst P (sym (get_or_default r.arcs at.0 ([], []) x at.1 ∙ at.2)) bad)
+      let arcs = canonical_arcs (network_of r) in
+      let at = from_file x (Contains-map row_ends arcs (get_or arcs i no_arc_row) (Contains-get_or arcs i no_arc_row h)) in
+      let within : at.0 < length r.arcs = omega (arith, at.1, length-map r.arcs row_ends) in
+      none at.0 within (subst P (sym (sym (get_or-map row_ends r.arcs at.0 no_arc_row x within) ∙ at.2)) bad)
 
   not_unknown : (i : ℕ) → ¬ IsUnknownName (canonical_rows (network_of r)) i
   not_unknown i bad =
@@ -207,8 +245,8 @@ module _ (r : Rows) (ok : IsFaultless r) where
       none_here (λ e. Contains (pool_names r) e.0 × Contains (pool_names r) e.1) (λ m h b. ok.single m (h, b.0, b.1)) i bad.0
       (subst (λ names. Contains names (ends_of (canonical_rows (network_of r)) i).0 × Contains names (ends_of (canonical_rows (network_of r)) i).1) (pools_same r ok) (bad.1, bad.2))
 
-  kind_once : (froms tos : List (List ℕ)) → IsOnce r.arcs → IsOnce (map (canonical_arc froms tos) (arcs_between froms tos r))
-  kind_once froms tos once = once_kept (arc_between froms tos) (canonical_arc froms tos) (named froms tos) r.arcs once
+  kind_once : (froms tos : List (List ℕ)) → IsOnce (map row_ends r.arcs) → IsOnce (map (named_ends froms tos) (arcs_between froms tos r))
+  kind_once froms tos once = once_kept (arc_between froms tos) (named_ends froms tos) row_ends (named froms tos) r.arcs once
 
   not_repeated : (i : ℕ) → ¬ IsDuplicateArc (canonical_rows (network_of r)) i
   not_repeated i bad =
@@ -216,9 +254,13 @@ module _ (r : Rows) (ok : IsFaultless r) where
       let p = pool_names r in
       let d = product_names r in
       let n = network_of r in
-      let once = once_from ([], []) r.arcs (λ m h c. ok.once m (h, c)) in
+      let arcs = canonical_arcs (network_of r) in
+      let once = once_from ([], []) (map row_ends r.arcs) (λ m h c.
+      let within : m < length r.arcs = omega (arith, h, length-map r.arcs row_ends) in
+      ok.once m (within, subst (Contains (take m (map row_ends r.arcs))) (get_or-map row_ends r.arcs m no_arc_row ([], []) within) c)) in
       let all = all_once s p d n.feeds n.outs n.directs (joined r ok) (kind_once s p once) (kind_once p d once) (kind_once s d once) in
-      never_again ([], []) (canonical_arcs (network_of r)) (subst IsOnce (sym (arcs_are r ok)) all) i bad.0 bad.1
+      never_again ([], []) (map row_ends arcs) (subst IsOnce (sym ends_are) all) i (omega (arith, bad.0, length-map arcs row_ends))
+      (subst (Contains (take i (map row_ends arcs))) (sym (get_or-map row_ends arcs i no_arc_row ([], []) bad.0)) bad.1)
 
   -- ---- pools and paths
 

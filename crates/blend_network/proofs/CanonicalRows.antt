@@ -1,5 +1,5 @@
 -- The canonical rows of a network are faultless, and are rows of the same network.
-use Rattle.std.proofs.Common.{◌≡◌, ℕ, List, [], ◌∷◌, ◌++◌, map, get_or, take, refl, ap, ◌∙◌}
+use Rattle.std.proofs.Common.{◌≡◌, ℕ, List, [], ◌∷◌, ◌++◌, map, get_or, take, ℤ, pos, unsigned_abs, refl, ap, ◌∙◌}
 use Rattle.std.specs.List.{filter_map}
 use Rattle.std.proofs.lemmas.List.Elements.{Contains-append_left, Contains-append_right}
 use Rattle.std.proofs.lemmas.Simd.{map-map}
@@ -17,6 +17,10 @@ use Rattle.blend_network.proofs.CanonicalArcs.{AreJoined, all_named, all_between
 map_back : {X Y : Type 0} (f : X → Y) (g : Y → X) → ((y : Y) → f (g y) ≡ y) → (ys : List Y) → map f (map g ys) ≡ ys
 map_back f g h [] = refl
 map_back f g h (y ∷ ys) = rw (h y, map_back f g h ys) refl
+
+-- a pool that is written out and read again
+pool_back : (stand : ℤ) (p : model.Pool) → pool_of stand (canonical_pool p) ≡ p
+pool_back stand p = λ i. record { name = p.name; max = p.max; ratio = map_back unsigned_abs pos (λ r. refl) p.ratio i }
 
 own_fresh : (before names : List (List ℕ)) → IsFresh before names → IsFresh [] names
 own_fresh before names h n bad = h n (bad.0, Contains-append_right before (take n names) (get_or names n []) bad.1)
@@ -79,7 +83,7 @@ module _ (r : Rows) (ok : IsFaultless r) where
       let p = pool_names r in
       let d = product_names r in
       let sources = map_back (source_of (stand_in c)) canonical_source (λ x. refl) n.sources in
-      let pools = map_back (pool_of (stand_in c)) canonical_pool (λ x. refl) n.pools in
+      let pools = map_back (pool_of (stand_in c)) canonical_pool (pool_back (stand_in c)) n.pools in
       let products = map_back product_of canonical_product (λ x. refl) n.products in
       let feeds = kind_by s (source_names c) p (pool_names c) n.feeds sources_same pools_same (feeds_again s p d n.feeds n.outs n.directs joined) in
       let outs = kind_by p (pool_names c) d (product_names c) n.outs pools_same products_same (outs_again s p d n.feeds n.outs n.directs joined) in

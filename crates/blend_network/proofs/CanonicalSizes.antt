@@ -1,15 +1,15 @@
 -- How long the names of a faultless file are, and how large the numbers of its canonical rows.
 use Rattle.std.proofs.Common.{ℕ, ◌<◌, ◌≤◌, List, [], ◌++◌, length, map, get_or, All, inl, inr, arith}
 use Rattle.std.proofs.lemmas.List.Elements.{All-append, All-contains, All-from_get_or}
-use Rattle.pool_model.specs.Rows.{Rows}
+use Rattle.pool_model.specs.Rows.{ArcRow, Rows}
 use Rattle.pool_model.specs.Naming.{source_names, pool_names, product_names}
 use Rattle.pool_model.specs.Network.{Network, net_of, IsLimited, no_source, no_pool, no_product}
 use Rattle.network_parts.specs.declared.fault.Kind.{Kind}
 use Rattle.network_parts.specs.declared.fault.Kind.TheVariants.{Source, Pool, Product, Quality}
-use Rattle.network_parts.specs.Faults.{row_names, node_names, ends_of, IsFaultless, IsSourceInRange, IsPoolInRange, IsProductInRange}
+use Rattle.network_parts.specs.Faults.{row_names, node_names, no_arc_row, ends_of, IsFaultless, IsSourceInRange, IsPoolInRange, IsProductInRange, IsArcInRange}
 use Rattle.blend_network.specs.Made.{IsMade}
 use Rattle.blend_network.specs.Canonical.{canonical_source, canonical_pool, canonical_product, canonical_arcs, canonical_rows}
-use Rattle.blend_network.proofs.CanonicalFaults.{held, source_in, pool_in, product_in, canonical_rectangular, canonical_faultless}
+use Rattle.blend_network.proofs.CanonicalFaults.{held, source_in, pool_in, product_in, arcs_in, canonical_rectangular, canonical_faultless}
 
 -- ---- names of a faultless file
 
@@ -28,12 +28,12 @@ short_nodes r ok =
     (All-append IsShort (source_names r) (pool_names r) (short_names r ok Source) (short_names r ok Pool)) (short_names r ok Product)
 
 -- both ends of an arc have short names
-pub record AreShortEnds (e : List ℕ × List ℕ) : Type 0 where
-  pub from : IsShort e.0
-  pub to : IsShort e.1
+pub record AreShortEnds (a : ArcRow) : Type 0 where
+  pub from : IsShort a.from
+  pub to : IsShort a.to
 
 pub short_ends : (r : Rows) → IsFaultless r → All AreShortEnds r.arcs
-short_ends r ok = All-from_get_or AreShortEnds r.arcs ([], []) (λ i h.
+short_ends r ok = All-from_get_or AreShortEnds r.arcs no_arc_row (λ i h.
     let e = ends_of r i in
     let from : 40 < length (ends_of r i).0 → ⊥ = λ lt. ok.known i (h, inl (λ there. omega (arith, All-contains IsShort (node_names r) e.0 (short_nodes r ok) there, lt))) in
     let to : 40 < length (ends_of r i).1 → ⊥ = λ lt. ok.known i (h, inr (λ there. omega (arith, All-contains IsShort (node_names r) e.1 (short_nodes r ok) there, lt))) in
@@ -75,3 +75,6 @@ module _ (n : Network) (made : IsMade n) (lim : IsLimited (net_of n)) where
 
   pub products_in : All (λ p. IsProductInRange (canonical_product p)) n.products
   products_in = All-from_get_or (λ p. IsProductInRange (canonical_product p)) n.products no_product (product_in n lim (canonical_rectangular n made))
+
+  pub carriage_in : All IsArcInRange (canonical_arcs n)
+  carriage_in = arcs_in n lim (canonical_rectangular n made)

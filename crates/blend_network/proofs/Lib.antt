@@ -1,4 +1,6 @@
 pub mod Margins
+pub mod Ratios
+pub mod Carried
 pub mod Built
 pub mod Indexed
 pub mod Within

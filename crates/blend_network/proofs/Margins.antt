@@ -1,15 +1,14 @@
 -- How large a margin is, and the costs that it is taken over.
-use Rattle.std.proofs.Common.{◌≡◌, ℕ, ◌<◌, ◌≤◌, unsigned_abs, ◌^◌, ◌*◌, ◌*ℤ◌, Option, Some, None, ℤ, pos, ◌≤ℤ◌, ◌-ℤ◌, ◌==◌, if◌then◌else◌, zero, suc, Bool, true, false, refl, FitsSigned, w64, arith}
+use Rattle.std.proofs.Common.{◌≡◌, ℕ, ◌<◌, ◌≤◌, unsigned_abs, ◌^◌, ◌*◌, ◌*ℤ◌, Option, Some, None, ℤ, pos, ◌+◌, ◌≤ℤ◌, ◌+ℤ◌, ◌-ℤ◌, option_map, ◌==◌, if◌then◌else◌, zero, suc, Bool, true, false, refl, FitsSigned, w64, arith}
 use Rattle.std.specs.Option.{ForSome}
 use Rattle.std.specs.Int.{int_min, int_max}
 use Rattle.std.proofs.lemmas.Int.{ints, clamps}
-use Rattle.pool_model.specs.Network.{Net, IsWithin, IsLimited}
+use Rattle.pool_model.specs.Network.{Net, IsWithin, IsLimited, feed_delivered, direct_delivered}
 use Rattle.std.proofs.Math.Nat.{mul_comm}
 use Rattle.integers.proofs.Ring.{mul_comm_ℤ}
-use Rattle.integers.specs.Sums.{int_sum_below}
-use Rattle.integers.proofs.Order.{abs-mul-le, nonneg-mul, le-mul, le_trans_ℤ}
+use Rattle.integers.proofs.Order.{nonneg-mul, le-mul, le_trans_ℤ}
 use Rattle.network_parts.specs.Faults.{IsUpTo}
-use Rattle.pool_model.specs.Starting.{lesser, least_below, margin, pool_cost, reach_bound, reach_cost}
+use Rattle.pool_model.specs.Starting.{lesser, least_below, pool_cost, out_delivered, reach_cost}
 
 pub margin_above : (cost price : ℤ) → cost ≤ℤ price → int_max (pos 0) (price -ℤ cost) ≡ price -ℤ cost
 margin_above cost price h = omega (arith, ints, clamps)
@@ -38,27 +37,49 @@ chosen-within size false o h = λ x is. cc
 some-within : (size : ℕ) (z : ℤ) → IsWithin size z → ForSome (Some z) (IsWithin size)
 some-within size z h x is = let e : z ≡ x = cc in (omega (arith, ints), omega (arith, ints))
 
--- what reaches a product costs no more than a source may
-pub pool_cost-within : (n : Net) (l : ℕ) → IsLimited n → ForSome (pool_cost n l) (IsWithin (10 ^ 12))
-pool_cost-within n l limited = least_below-within (10 ^ 12) (λ e. if n.feed_pool e == l then Some (n.source_cost (n.feed_source e)) else None) n.feeds
-    (λ e h. chosen-within (10 ^ 12) (n.feed_pool e == l) (Some (n.source_cost (n.feed_source e)))
-    (some-within (10 ^ 12) (n.source_cost (n.feed_source e)) (limited.source_costs (n.feed_source e) (limited.feed_sources e h))))
+sum-within : (a b : ℕ) (x y : ℤ) → IsWithin a x → IsWithin b y → IsWithin (a + b) (x +ℤ y)
+sum-within a b x y (xl, xh) (yl, yh) = (omega (arith, ints), omega (arith, ints))
 
-pub reach_cost-within : (n : Net) (j : ℕ) → IsLimited n → ForSome (reach_cost n j) (IsWithin (10 ^ 12))
+-- what reaches a pool or a product costs no more than a source and two arcs may
+pub pool_cost-below : (n : Net) (l count : ℕ) → IsLimited n → count ≤ n.feeds
+    → ForSome (least_below (λ e. if n.feed_pool e == l then Some (feed_delivered n e) else None) count) (IsWithin (2 * 10 ^ 12))
+pool_cost-below n l count limited few = least_below-within (2 * 10 ^ 12) (λ e. if n.feed_pool e == l then Some (feed_delivered n e) else None) count
+    (λ e lt. let h : e < n.feeds = omega (arith, lt, few) in chosen-within (2 * 10 ^ 12) (n.feed_pool e == l) (Some (feed_delivered n e))
+    (some-within (2 * 10 ^ 12) (feed_delivered n e)
+    (sum-within (10 ^ 12) (10 ^ 12) (n.source_cost (n.feed_source e)) (n.feed_cost e) (limited.source_costs (n.feed_source e) (limited.feed_sources e h)) (limited.feed_costs e h))))
+
+pool_cost-within : (n : Net) (l : ℕ) → IsLimited n → ForSome (pool_cost n l) (IsWithin (2 * 10 ^ 12))
+pool_cost-within n l limited = pool_cost-below n l n.feeds limited (omega arith)
+
+out_delivered-within : (n : Net) (o : ℕ) → IsLimited n → o < n.outs → ForSome (out_delivered n o) (IsWithin (3 * 10 ^ 12))
+out_delivered-within n o limited h = carried (pool_cost n (n.out_pool o)) (pool_cost-within n (n.out_pool o) limited)
+  where
+    carried : (c : Option ℤ) → ForSome c (IsWithin (2 * 10 ^ 12)) → ForSome (option_map (λ z. z +ℤ n.out_cost o) c) (IsWithin (3 * 10 ^ 12))
+    carried None within = λ z is. cc
+    carried (Some c) within = some-within (3 * 10 ^ 12) (c +ℤ n.out_cost o) (sum-within (2 * 10 ^ 12) (10 ^ 12) c (n.out_cost o) (within c refl) (limited.out_costs o h))
+
+wider : (small large : ℕ) (x : ℤ) → small ≤ large → IsWithin small x → IsWithin large x
+wider small large x h (low, high) = (omega (arith, ints), omega (arith, ints))
+
+pub reach_cost-within : (n : Net) (j : ℕ) → IsLimited n → ForSome (reach_cost n j) (IsWithin (3 * 10 ^ 12))
 reach_cost-within n j limited =
-    lesser-within (10 ^ 12)
-    (least_below (λ e. if n.direct_product e == j then Some (n.source_cost (n.direct_source e)) else None) n.directs)
-    (least_below (λ o. if n.out_product o == j then pool_cost n (n.out_pool o) else None) n.outs)
-    (least_below-within (10 ^ 12) (λ e. if n.direct_product e == j then Some (n.source_cost (n.direct_source e)) else None) n.directs
-    (λ e h. chosen-within (10 ^ 12) (n.direct_product e == j) (Some (n.source_cost (n.direct_source e)))
-    (some-within (10 ^ 12) (n.source_cost (n.direct_source e)) (limited.source_costs (n.direct_source e) (limited.direct_sources e h)))))
-    (least_below-within (10 ^ 12) (λ o. if n.out_product o == j then pool_cost n (n.out_pool o) else None) n.outs
-    (λ o h. chosen-within (10 ^ 12) (n.out_product o == j) (pool_cost n (n.out_pool o)) (pool_cost-within n (n.out_pool o) limited)))
+    lesser-within (3 * 10 ^ 12)
+    (least_below (λ e. if n.direct_product e == j then Some (direct_delivered n e) else None) n.directs)
+    (least_below (λ o. if n.out_product o == j then out_delivered n o else None) n.outs)
+    (least_below-within (3 * 10 ^ 12) (λ e. if n.direct_product e == j then Some (direct_delivered n e) else None) n.directs
+    (λ e h. chosen-within (3 * 10 ^ 12) (n.direct_product e == j) (Some (direct_delivered n e))
+    (some-within (3 * 10 ^ 12) (direct_delivered n e) (wider (2 * 10 ^ 12) (3 * 10 ^ 12) (direct_delivered n e) (omega arith)
+    (sum-within (10 ^ 12) (10 ^ 12) (n.source_cost (n.direct_source e)) (n.direct_cost e) (limited.source_costs (n.direct_source e) (limited.direct_sources e h)) (limited.direct_costs e h))))))
+    (least_below-within (3 * 10 ^ 12) (λ o. if n.out_product o == j then out_delivered n o else None) n.outs
+    (λ o h. chosen-within (3 * 10 ^ 12) (n.out_product o == j) (out_delivered n o) (out_delivered-within n o limited h)))
 
 -- ---- fits and sizes of the sums
 
-pub difference-fits : (price cost : ℤ) → IsWithin (10 ^ 12) price → IsWithin (10 ^ 12) cost → FitsSigned w64 (price -ℤ cost)
+pub difference-fits : (price cost : ℤ) → IsWithin (10 ^ 12) price → IsWithin (3 * 10 ^ 12) cost → FitsSigned w64 (price -ℤ cost)
 difference-fits price cost hp hc = omega (arith, ints)
+
+pub sum-fits : (a b : ℤ) → unsigned_abs a ≤ 3 * 10 ^ 12 → unsigned_abs b ≤ 10 ^ 12 → FitsSigned w64 (a +ℤ b)
+sum-fits a b ha hb = omega (arith, ints)
 
 pub product-up_to : (m n : ℕ) (a b : ℤ) → IsUpTo m a → IsUpTo n b → IsUpTo (m * n) (a *ℤ b)
 product-up_to m n a b ha hb = (
@@ -66,25 +87,3 @@ product-up_to m n a b ha hb = (
   le_trans_ℤ (a *ℤ b) (a *ℤ pos n) (pos (m * n)) (le-mul a b (pos n) ha.0 hb.1)
       (rw (mul_comm_ℤ a (pos n)) (rw (mul_comm m n) (le-mul (pos n) a (pos m) (omega (arith, ints)) ha.1))),
 )
-
--- ---- the bound that margins alone give
-
-margin-small : (o : Option ℤ) (price : ℤ) → ForSome o (IsWithin (10 ^ 12)) → IsWithin (10 ^ 12) price → unsigned_abs (margin o price) ≤ 2 * 10 ^ 12
-margin-small None price cost is = omega arith
-margin-small (Some z) price cost is = let within = cost z refl in omega (arith, ints, clamps, within.0, within.1, is.0, is.1)
-
-sum-small : (f : ℕ → ℤ) (m n : ℕ) → ((i : ℕ) → i < n → unsigned_abs (f i) ≤ m) → unsigned_abs (int_sum_below f n) ≤ n * m
-sum-small f m zero h = omega arith
-sum-small f m (suc n) h = omega (arith, ints, h n (omega arith), sum-small f m n (λ i lt. h i (omega arith)))
-
--- no network's is greater
-pub reach-small : (n : Net) → IsLimited n → unsigned_abs (reach_bound n) ≤ 128 * 10 ^ 24
-reach-small n limited =
-    let each = λ (j : ℕ) (lt : j < n.products). abs-mul-le (pos (n.product_max j)) (margin (reach_cost n j) (n.price j)) (10 ^ 12) (2 * 10 ^ 12)
-    (limited.product_maxima j lt) (margin-small (reach_cost n j) (n.price j) (reach_cost-within n j limited) (limited.prices j lt)) in
-    omega (
-      arith,
-      ints,
-      limited.products,
-      sum-small (λ j. pos (n.product_max j) *ℤ margin (reach_cost n j) (n.price j)) (10 ^ 12 * (2 * 10 ^ 12)) n.products each,
-    )

@@ -1,5 +1,5 @@
 -- What arcs and paths are looked up by, as the code keeps them before there is a network.
-use Rattle.std.specs.Prelude.{ℕ, ◌<◌, length, get_or, All}
+use Rattle.std.specs.Prelude.{ℕ, ◌<◌, length, get_or, All, None, pos}
 use Rattle.network_parts.specs.declared.arcs.Arc.{Arc}
 use Rattle.network_parts.specs.declared.arcs.Path.{Path}
 use Rattle.network_parts.specs.declared.arcs.Arcs.{Arcs}
@@ -8,7 +8,7 @@ use Rattle.blend_network.specs.declared.keys.Key.TheVariants.{FeedsFrom, FeedsIn
 
 -- what stands behind the end of a list
 abbrev pub no_kept_arc : Arc
-no_kept_arc = record { from = 0; to = 0 }
+no_kept_arc = record { from = 0; to = 0; cost = pos 0; max = None }
 
 abbrev pub no_kept_path : Path
 no_kept_path = record { feed = 0; out = 0 }

@@ -10,4 +10,5 @@ pub mod Kinds
 pub mod Made
 pub mod Built
 pub mod Canonical
+pub mod Ratios
 pub mod Reach

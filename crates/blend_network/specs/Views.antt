@@ -11,7 +11,7 @@ abbrev pub shown_source : Source → model.Source
 shown_source s = record { name = string_bytes s.name; cost = s.cost; max = s.max; quality = s.quality.items }
 
 abbrev pub shown_pool : Pool → model.Pool
-shown_pool p = record { name = string_bytes p.name; max = p.max }
+shown_pool p = record { name = string_bytes p.name; max = p.max; ratio = p.ratio.items }
 
 abbrev pub shown_product : Product → model.Product
 shown_product p = record { name = string_bytes p.name; price = p.price; min = p.min; max = p.max; least = p.least.items; most = p.most.items }

@@ -10,6 +10,10 @@
 //!   that a reader gives; [`Network::counts`], that it was made from rows with no reason to refuse them, besides.
 //! - the numbers of a node ([`Network::source_cost`] and its like), and the two ends of an arc or a path, which are nodes that
 //!   are there ([`Network::feed`], [`Network::out`], [`Network::direct`], [`Network::path`], [`Network::path_ends`]).
+//! - what an arc costs and how much it can carry, by its kind ([`Network::feed_cost`], [`Network::feed_max`] and their like) and by
+//!   its number among all ([`Network::arc_cost`], [`Network::arc_max`]); how much of a quality leaves a pool
+//!   ([`Network::retained`] of [`Network::scale`] parts; [`Network::pool_ratio`] in thousandths); and whether a file of
+//!   version 1 can say the network ([`Network::is_plain`]).
 //! - [`Network::numbers_at`]: the arcs or paths that meet a node, by a [`Key`], without a search; [`Network::limit_at`]: the limits
 //!   that are set, one after another.
 //! - [`Network::reach_bound`]: a bound on cost that margins alone give.
@@ -17,7 +21,7 @@
 //! Where the rows come from, and what text they were, is left to the crates above.
 //!
 //! Proofs above may cite, of `proofs/`, what holds of the rows that a network is written as: `CanonicalArcs`, `CanonicalFaults`,
-//! `CanonicalSizes`. Also `Margins`: how large margins and the reach bound are at the most.
+//! `CanonicalSizes`.
 #![tactic(auto, unfolding(pool_model::specs::Network::net_of))]
 
 mod counts;
@@ -33,4 +37,4 @@ pub use laws::canonical_law;
 pub use lesser::lesser_of;
 pub use limits::{Limit, LimitSide};
 pub use network::Network;
-pub use network_parts::{Kind, NetFault, Parts, PoolRow, ProductRow, SourceRow};
+pub use network_parts::{ArcRow, Kind, NetFault, Parts, PoolRow, ProductRow, SourceRow};

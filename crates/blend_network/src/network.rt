@@ -15,11 +15,13 @@ use number_groups::Groups;
 use std::marker::Model;
 
 mod assemble;
+mod carriage;
 mod index;
 mod keys;
 mod limits;
 mod narrow;
 mod reach;
+mod treatment;
 
 /// A source, in millionths.
 #[derive(Drop)]
@@ -30,11 +32,12 @@ struct Source {
     quality: Vec<i64>,
 }
 
-/// A pool, in millionths.
+/// A pool, in millionths, and how many thousandths of each quality that enters it leave it.
 #[derive(Drop)]
 struct Pool {
     name: String,
     max: u64,
+    ratio: Vec<u64>,
 }
 
 /// A product, in millionths.
@@ -50,7 +53,8 @@ struct Product {
 
 /// A pooling network. Sources, pools, products and qualities are numbered from 0 in file order. The arcs are kept by
 /// kind, each kind in file order: feeds go from a source to a pool, outs from a pool to a product, directs from a source
-/// to a product. Paths are a feed and an out of one pool. Money and flow are in millionths.
+/// to a product. Paths are a feed and an out of one pool. Money and flow are in millionths. The scale is that of what pools retain:
+/// 1 where none removes anything, else 1000.
 #[derive(Drop)]
 pub struct Network {
     qualities: Vec<String>,
@@ -63,6 +67,7 @@ pub struct Network {
     paths: Vec<Path>,
     index: Vec<Groups>,
     limits: Limits,
+    scale: u64,
 }
 
 impl Model for Network {
@@ -92,7 +97,7 @@ impl Model for Network {
       feeds = map shown_arc n.feeds.items;
       outs = map shown_arc n.outs.items;
       directs = map shown_arc n.directs.items;
-    } (map shown_path n.paths.items) n.index.items n.limits };
+    } (map shown_path n.paths.items) n.index.items n.limits n.scale };
 }
 
 impl Network {

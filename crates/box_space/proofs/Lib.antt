@@ -4,3 +4,4 @@ pub mod Writing
 pub mod Roots
 pub mod ViewSteps
 pub mod Halving
+pub mod Scaled

@@ -1,9 +1,10 @@
 -- Blocks of variables: the variables of one kind, numbered one after another. Qualities of pools, and those times flows along
 -- outs, make a block for each quality.
-use Rattle.std.specs.Prelude.{ℕ, ◌+◌, ◌*◌, ◌<◌, ℤ}
+use Rattle.std.specs.Prelude.{ℕ, ◌+◌, ◌*◌, ◌<◌, ℤ, pos}
 use Rattle.pool_model.specs.Network.{Net}
-use Rattle.row_model.specs.Variables.{PerVariable, path_count, path_feed}
-use Rattle.row_model.specs.Catalogue.{when}
+use Rattle.pool_model.specs.Starting.{straight, way_quality}
+use Rattle.row_model.specs.Variables.{PerVariable, path_count}
+use Rattle.row_model.specs.Catalogue.{when, path_quality}
 use Rattle.box_space.specs.declared.table.Block.{Block}
 use Rattle.box_space.specs.declared.table.Block.TheVariants.{Feeds, Outs, Directs, Paths, Proportions, Qualities, Mixed}
 
@@ -65,19 +66,22 @@ number_of n Proportions i = first_proportions n + i
 number_of n (Qualities k) i = first_qualities n + (i * n.qualities + k)
 number_of n (Mixed k) i = first_mixed n + (i * n.qualities + k)
 
--- the source of a feed, of a direct and of a path
-abbrev pub source_of : Net → Block → ℕ → ℕ
-source_of n Feeds e = n.feed_source e
-source_of n Directs e = n.direct_source e
-source_of n Paths p = n.feed_source (path_feed n p)
-source_of n _ i = 0
+-- What a unit of a block's variable brings of a quality: a feed what its source has; a direct and a path the same in parts of
+-- the scale, less what the path's pool removes; and a mixed variable, which counts quality times flow, what its pool retains.
+abbrev pub brought : Net → Block → ℕ → ℕ → ℤ
+brought n Feeds e k = n.source_quality (n.feed_source e) k
+brought n Directs e k = way_quality n (straight e) k
+brought n Paths p k = path_quality n p k
+brought n (Mixed h) o k = pos (n.retained (n.out_pool o) k)
+brought n _ i k = pos 0
 
--- flows that come from one source
-abbrev pub HasSource : Block → Type 0
-HasSource Feeds = Unit {0}
-HasSource Directs = Unit {0}
-HasSource Paths = Unit {0}
-HasSource _ = ⊥
+-- variables that bring qualities
+abbrev pub Brings : Block → Type 0
+Brings Feeds = Unit {0}
+Brings Directs = Unit {0}
+Brings Paths = Unit {0}
+Brings (Mixed h) = Unit {0}
+Brings _ = ⊥
 
 -- the same numbers, but those of a block, which are f
 abbrev pub with_block : Block → (ℕ → ℤ) → PerVariable → PerVariable

@@ -4,7 +4,7 @@ use Rattle.integers.specs.Numbers.{numbers_at}
 use Rattle.pool_model.specs.Network.{Net}
 use Rattle.row_model.specs.Variables.{PerVariable, none}
 use Rattle.row_model.specs.Catalogue.{when, Row}
-use Rattle.box_space.specs.Blocks.{IsBlock, rank, size_of, number_of, source_of, HasSource, with_block}
+use Rattle.box_space.specs.Blocks.{IsBlock, rank, size_of, number_of, brought, Brings, with_block}
 use Rattle.blend_network.specs.Keys.{key_of, nodes_of, count_of}
 use Rattle.box_space.specs.Lines.{term_of, terms_at}
 use Rattle.box_space.specs.Views.{shown_kind}
@@ -18,7 +18,7 @@ use Rattle.box_space.specs.declared.table.Terms.{Terms}
 use Rattle.box_space.specs.declared.table.Terms.TheVariants.{Nothing, One, All}
 use Rattle.box_space.specs.declared.table.RowTable.{RowTable}
 
--- what is made of a quality
+-- what is made of what is brought of a quality
 abbrev pub rated : Rate → ℤ → ℤ
 rated Plain q = q
 rated Less q = neg_ℤ q
@@ -28,7 +28,7 @@ rated (Above u) q = q -ℤ u
 -- the coefficient of a block's variable
 abbrev pub factor_of : Net → Block → Factor → ℕ → ℤ
 factor_of n b (Same c) i = c
-factor_of n b (OfQuality k r) i = rated r (n.source_quality (source_of n b i) k)
+factor_of n b (OfQuality k r) i = rated r (brought n b i k)
 
 -- coefficients with those of some terms
 abbrev pub with_terms : Net → Terms → PerVariable → PerVariable
@@ -60,10 +60,10 @@ most_of n (All b key node f) = size_of n b
 
 -- ---- tables of a network
 
--- the quality that a coefficient comes of is there
+-- the quality that a coefficient comes of is there, and the variables bring it
 abbrev pub IsFactor : Net → Block → Factor → Type 0
 IsFactor n b (Same c) = Unit {0}
-IsFactor n b (OfQuality k r) = (k < n.qualities) × HasSource b
+IsFactor n b (OfQuality k r) = (k < n.qualities) × Brings b
 
 -- what the terms name is there
 abbrev pub AreTerms : Net → Terms → Type 0

@@ -10,6 +10,7 @@
 #![tactic(auto)]
 
 mod boxes;
+mod capped;
 mod coordinates;
 mod numbers;
 mod root;

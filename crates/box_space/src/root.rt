@@ -9,6 +9,7 @@ ghost use Rattle.box_space.specs.Forms.{IsCoord};
 ghost use Rattle.box_space.specs.Views.{shown_coord, AreRoot, AreEnds};
 
 use crate::boxes::BoxEnds;
+use crate::capped::capped;
 use crate::coordinates::{Coord, coord_at, coords};
 use blend_network::{Network, lesser_of};
 use edge_io::Memory;
@@ -45,7 +46,8 @@ pub fn root_ends(net: &Network, coord: Coord) -> (i64, i64)
         Coord::Qual(pool, quality) => quality_range(net, pool, quality),
         Coord::Flow(out) => {
             let (pool, product) = net.out(out);
-            (0, net.pool_max(pool).min(net.product_max(product)))
+            let nodes = net.pool_max(pool).min(net.product_max(product));
+            (0, capped(net.out_max(out), nodes))
         }
     }
 }

@@ -22,12 +22,12 @@ pub enum Block {
     Mixed(u32),
 }
 
-/// What is made of a source's quality, in millionths.
+/// What is made of what a variable brings of a quality. A limit counts as what is brought does: in parts of the network's scale.
 #[derive(Clone, Copy, Debug)]
 pub enum Rate {
-    /// The quality.
+    /// What is brought.
     Plain,
-    /// Less the quality.
+    /// Less what is brought.
     Less,
     /// How far it is below a limit.
     Below(i64),
@@ -40,7 +40,8 @@ pub enum Rate {
 pub enum Factor {
     /// One for all.
     Same(i128),
-    /// What is made of a quality of the source that each comes from.
+    /// What is made of what each brings of a quality: a feed its source's, in millionths; a direct and a path the same in parts of
+    /// the scale, a path what its pool retains of it; a mixed variable the parts that its pool retains.
     OfQuality(u32, Rate),
 }
 

@@ -1,6 +1,6 @@
 //! The variables of the programs: by number and by name, their ends in a box and their costs.
 
-ghost use Rattle.std.specs.Prelude.{◌≡◌, ◌<◌, ◌≤◌, ◌*◌, ◌^◌, pos, neg_ℤ, ◌-ℤ◌, ◌*ℤ◌, unsigned_abs};
+ghost use Rattle.std.specs.Prelude.{◌≡◌, ◌<◌, ◌≤◌, ◌*◌, ◌^◌, pos, ◌+ℤ◌, ◌-ℤ◌, ◌*ℤ◌, unsigned_abs};
 ghost use Rattle.std.specs.Int.{int_min, int_max};
 ghost use Rattle.pool_model.specs.Network.{net_of, IsLimited};
 ghost use Rattle.row_model.specs.Variables.{PerVariable, variables, by_number, lows, highs, costs, least_product, greatest_product};
@@ -8,6 +8,7 @@ ghost use Rattle.box_space.specs.Variables.{at_variable, IsVariable};
 ghost use Rattle.box_space.specs.Views.{IsView, shown_box};
 
 use crate::boxes::BoxView;
+use crate::capped::capped;
 use crate::numbers::{flow_coordinate, grid, quality_coordinate};
 use blend_network::Network;
 
@@ -83,7 +84,7 @@ pub fn variable_at(net: &Network, var: u32) -> Variable
 pub fn var_cost(net: &Network, var: u32) -> i64
     requires { var < variables (net_of net.now) }
     // Promise: Coordinates, the root box, ends and costs of variables are the definitions'
-    ensures small { unsigned_abs result ≤ 2 * 10 ^ 12 }
+    ensures small { unsigned_abs result ≤ 3 * 10 ^ 12 }
     ensures cost { result ≡ by_number (net_of net.now) (costs (net_of net.now)) var }
 {
     cost_of(net, variable_at(net, var))
@@ -91,31 +92,43 @@ pub fn var_cost(net: &Network, var: u32) -> i64
 
 fn cost_of(net: &Network, variable: Variable) -> i64
     requires { IsVariable (net_of net.now) variable }
-    ensures small { unsigned_abs result ≤ 2 * 10 ^ 12 }
+    ensures small { unsigned_abs result ≤ 3 * 10 ^ 12 }
     ensures cost { result ≡ at_variable (costs (net_of net.now)) variable }
 {
     match variable {
-        Variable::Feed(feed) => net.source_cost(net.feed(feed).0),
-        Variable::Out(out) => opposite(net.product_price(net.out(out).1)),
+        Variable::Feed(feed) => {
+            let (source, _) = net.feed(feed);
+            delivered(net.source_cost(source), net.feed_cost(feed))
+        }
+        Variable::Out(out) => {
+            let (_, product) = net.out(out);
+            margin(net.out_cost(out), net.product_price(product))
+        }
         Variable::Direct(direct) => {
             let (source, product) = net.direct(direct);
-            margin(net.source_cost(source), net.product_price(product))
+            let cost = delivered(net.source_cost(source), net.direct_cost(direct));
+            margin(cost, net.product_price(product))
         }
         _ => 0,
     }
 }
 
-fn opposite(price: i64) -> i64
-    requires { unsigned_abs price ≤ 10 ^ 12 }
-    ensures { result ≡ neg_ℤ price }
+/// What a unit costs at its source and along an arc.
+fn delivered(source: i64, arc: i64) -> i64
+    requires source { unsigned_abs source ≤ 10 ^ 12 }
+    requires arc { unsigned_abs arc ≤ 10 ^ 12 }
+    ensures value { result ≡ source +ℤ arc }
+    ensures size { unsigned_abs result ≤ 2 * 10 ^ 12 }
 {
-    -price
+    source + arc
 }
 
+/// A cost less a price.
 fn margin(cost: i64, price: i64) -> i64
-    requires cost { unsigned_abs cost ≤ 10 ^ 12 }
+    requires cost { unsigned_abs cost ≤ 2 * 10 ^ 12 }
     requires price { unsigned_abs price ≤ 10 ^ 12 }
-    ensures { result ≡ cost -ℤ price }
+    ensures value { result ≡ cost -ℤ price }
+    ensures size { unsigned_abs result ≤ 3 * 10 ^ 12 }
 {
     cost - price
 }
@@ -140,7 +153,8 @@ fn ends_of(net: &Network, v: &BoxView, variable: Variable) -> (i128, i128)
     match variable {
         Variable::Feed(feed) => {
             let (source, pool) = net.feed(feed);
-            (0, least_of(net.source_max(source), net.pool_max(pool)))
+            let nodes = net.source_max(source).min(net.pool_max(pool));
+            (0, capped(net.feed_max(feed), nodes).into())
         }
         Variable::Out(out) => {
             let flow = flow_coordinate(net, out);
@@ -148,16 +162,15 @@ fn ends_of(net: &Network, v: &BoxView, variable: Variable) -> (i128, i128)
         }
         Variable::Direct(direct) => {
             let (source, product) = net.direct(direct);
-            (
-                0,
-                least_of(net.source_max(source), net.product_max(product)),
-            )
+            let nodes = net.source_max(source).min(net.product_max(product));
+            (0, capped(net.direct_max(direct), nodes).into())
         }
         Variable::Path(path) => {
             let (feed, out) = net.path(path);
             let (source, _) = net.feed(feed);
             let flow = flow_coordinate(net, out);
-            (0, least_of(net.source_max(source), v.high_at(flow)))
+            let sent = capped(net.feed_max(feed), net.source_max(source));
+            (0, least_of(sent, v.high_at(flow)))
         }
         Variable::Proportion(feed) => (v.low_at(feed).into(), v.high_at(feed).into()),
         Variable::Quality(pool, quality) => {

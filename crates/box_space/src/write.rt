@@ -1,10 +1,12 @@
 //! Rows written from their tables.
 
-ghost use Rattle.std.specs.Prelude.{◌≡◌, ◌++◌, ◌+◌, ◌<◌, ◌≤◌, length};
+ghost use Rattle.std.specs.Prelude.{◌≡◌, ◌++◌, ◌+◌, ◌^◌, ◌<◌, ◌≤◌, length, ◌*ℤ◌, unsigned_abs};
 ghost use Rattle.pool_model.specs.Network.{IsLimited, net_of};
 ghost use Rattle.pool_model.specs.Paths.{paths_of};
+ghost use Rattle.row_model.specs.Variables.{path_count};
+ghost use Rattle.row_model.specs.Catalogue.{path_quality};
 ghost use Rattle.blend_network.specs.Counts.{AreCounts};
-ghost use Rattle.box_space.specs.Blocks.{IsBlock, size_of, source_of as source_in, HasSource};
+ghost use Rattle.box_space.specs.Blocks.{IsBlock, size_of, brought as brought_in, Brings};
 ghost use Rattle.blend_network.specs.Keys.{nodes_of, count_of};
 ghost use Rattle.box_space.specs.Tables.{IsTable, row_of, AreTerms, IsFactor, terms_of, most_of, factor_of, rated as made_of};
 ghost use Rattle.box_space.specs.Written.{IsLineOf};
@@ -85,37 +87,60 @@ fn coef_at(net: &Network, block: Block, factor: Factor, number: u32) -> i128
 {
     match factor {
         Factor::Same(coef) => coef,
-        Factor::OfQuality(quality, rate) => {
-            let source = source_of(net, block, number);
-            rated(rate, net.source_quality(source, quality))
-        }
+        Factor::OfQuality(quality, rate) => rated(rate, brought(net, block, number, quality)),
     }
 }
 
-/// The source of a feed, of a direct or of a path.
-fn source_of(net: &Network, block: Block, number: u32) -> u32
-    requires flow { HasSource block }
+/// What a unit of a block's variable brings of a quality.
+fn brought(net: &Network, block: Block, number: u32, quality: u32) -> i64
+    requires brings { Brings block }
     requires among { number < size_of (net_of net.now) block }
-    ensures source { result ≡ source_in (net_of net.now) block number }
-    ensures known { result < (net_of net.now).sources }
+    requires quality { quality < (net_of net.now).qualities }
+    ensures { result ≡ brought_in (net_of net.now) block number quality }
 {
     match block {
-        Block::Feeds => net.feed(number).0,
-        Block::Directs => net.direct(number).0,
-        Block::Paths => net.path_ends(number).0,
+        Block::Feeds => net.source_quality(net.feed(number).0, quality),
+        Block::Directs => {
+            let (source, _) = net.direct(number);
+            in_parts(net.scale(), net.source_quality(source, quality))
+        }
+        Block::Paths => along_path(net, number, quality),
+        Block::Mixed(_) => net.retained(net.out(number).0, quality),
         _ => unreachable!(),
     }
 }
 
-/// What is made of a quality.
-fn rated(rate: Rate, quality: i64) -> i128
-    ensures { result ≡ made_of rate quality }
+/// What a path brings of a quality: so many parts of its source's as its pool retains.
+fn along_path(net: &Network, path: u32, quality: u32) -> i64
+    requires path { path < path_count (net_of net.now) }
+    requires quality { quality < (net_of net.now).qualities }
+    ensures { result ≡ path_quality (net_of net.now) path quality }
 {
-    let quality = i128::from(quality);
+    let (feed, out) = net.path(path);
+    let (source, _) = net.feed(feed);
+    let (pool, _) = net.out(out);
+    let retained = net.retained(pool, quality);
+    in_parts(retained, net.source_quality(source, quality))
+}
+
+/// So many parts of a quality.
+fn in_parts(parts: i64, quality: i64) -> i64
+    requires parts { unsigned_abs parts ≤ 1000 }
+    requires quality { unsigned_abs quality ≤ 10 ^ 11 }
+    ensures { result ≡ parts *ℤ quality }
+{
+    parts * quality
+}
+
+/// What is made of what is brought of a quality.
+fn rated(rate: Rate, brought: i64) -> i128
+    ensures { result ≡ made_of rate brought }
+{
+    let brought = i128::from(brought);
     match rate {
-        Rate::Plain => quality,
-        Rate::Less => -quality,
-        Rate::Below(limit) => i128::from(limit) - quality,
-        Rate::Above(limit) => quality - i128::from(limit),
+        Rate::Plain => brought,
+        Rate::Less => -brought,
+        Rate::Below(limit) => i128::from(limit) - brought,
+        Rate::Above(limit) => brought - i128::from(limit),
     }
 }

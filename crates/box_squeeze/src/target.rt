@@ -8,7 +8,7 @@ use plan_core::Cost;
 /// What a plan has to cost less than to be worth a search, in picos: the cost of the best plan, rounded up, less the gap that is enough.
 pub fn target_of(cost: &Cost, gap: i128) -> i128
     requires base { 0 < cost.now.base }
-    requires size { unsigned_abs cost.now.num ≤ 2 ^ 123 }
+    requires size { unsigned_abs cost.now.num ≤ 2 ^ 124 }
     requires least { pos 0 ≤ℤ gap }
     requires most { gap ≤ℤ pos (10 ^ 24) }
     ensures { result ≡ rounded_up cost.now.num cost.now.base -ℤ gap }
@@ -19,9 +19,9 @@ pub fn target_of(cost: &Cost, gap: i128) -> i128
 /// The least whole number that is not below a fraction.
 fn rounded(num: i128, base: u64) -> i128
     requires base { 0 < base }
-    requires size { unsigned_abs num ≤ 2 ^ 123 }
+    requires size { unsigned_abs num ≤ 2 ^ 124 }
     ensures rounded { result ≡ rounded_up num base }
-    ensures size { unsigned_abs result ≤ 2 ^ 123 }
+    ensures size { unsigned_abs result ≤ 2 ^ 124 }
 {
     -((-num).div_euclid(base.into()))
 }

@@ -6,9 +6,10 @@ use Rattle.integers.proofs.Ring.{additive}
 use Rattle.faults.proofs.First.{IsClear, lone-first}
 use Rattle.pool_model.specs.Network.{Net}
 use Rattle.pool_model.specs.Plan.{Written, plan_of, IsWritten, Obeys}
+use Rattle.pool_model.proofs.ArcCosts.{keeps-by_number}
 use Rattle.plan_core.specs.Faults as plans
 use Rattle.plan_core.specs.declared.fault.PlanFault.{PlanFault}
-use Rattle.plan_core.specs.declared.fault.PlanFault.TheVariants.{Shape, WeightSum, SourceOver, PoolOver, ProductOver, ProductUnder, QualityOver, QualityUnder}
+use Rattle.plan_core.specs.declared.fault.PlanFault.TheVariants.{Shape, WeightSum, SourceOver, PoolOver, ProductOver, ProductUnder, QualityOver, QualityUnder, ArcOver}
 use Rattle.row_model.specs.Boxes.{Box, root}
 use Rattle.row_model.specs.Multipliers.{Proof, IsInOrder}
 use Rattle.row_model.specs.Trees.{Split, most_splits, box_of}
@@ -99,6 +100,7 @@ no-plan-fault n w (ProductOver j) is o h = let keeps = o.carries.at_most j h.0 i
 no-plan-fault n w (ProductUnder j) is o h = let keeps = o.carries.at_least j h.0 in omega (arith, keeps, h.1)
 no-plan-fault n w (QualityOver j k) is o h = let keeps = o.blends.at_most j k h.2.most h.0 h.1 h.2.is in omega (arith, additive, keeps, h.2.above)
 no-plan-fault n w (QualityUnder j k) is o h = let keeps = o.blends.at_least j k h.2.least h.0 h.1 h.2.is in omega (arith, additive, keeps, h.2.below)
+no-plan-fault n w (ArcOver a) is o h = let keeps = keeps-by_number n (plan_of n w) o.carries.arcs a h.1.most h.0 h.1.is in omega (arith, keeps, h.1.above)
 
 pub bad-plan : (n : Net) (s : Searched) (w : Written) (f : PlanFault) → plans.IsFirstFault n w f → IsFirstFault n s (improve w) (BadPlan f)
 bad-plan n s w f h = lone-first {about = λ f. []} (BadPlan f) refl h record { none = none }

@@ -146,7 +146,7 @@ finish-answered n most m k q r (Err fault) new halts other kept finished text lo
 
 -- ---- a whole certificate
 
-pub walked-room : (n : Net) (m k : Moment) (w : Walked) → IsWalked n m k w → IsLimited n → unsigned_abs (reach_bound n) ≤ 128 * 10 ^ 24 → HasRoom w.cost w.bound
+pub walked-room : (n : Net) (m k : Moment) (w : Walked) → IsWalked n m k w → IsLimited n → unsigned_abs (reach_bound n) ≤ 256 * 10 ^ 24 → HasRoom w.cost w.bound
 walked-room n m k w is limited reach =
     has-room n (tree_with is.is.list is.is.lines) (shown_claim w.claim) w.cost w.bound limited reach is.is.tree.tree is.is.tree.bound_is is.is.cost_is
 

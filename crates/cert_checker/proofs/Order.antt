@@ -5,8 +5,9 @@ use Rattle.integers.proofs.Ring.{additive}
 use Rattle.faults.specs.First.{IsBelow}
 use Rattle.faults.proofs.First.{IsClear, clear-next, first-of, lone-first}
 use Rattle.pool_model.specs.Network.{Net, counts_of}
-use Rattle.pool_model.specs.Plan.{Written}
+use Rattle.pool_model.specs.Plan.{Written, plan_of}
 use Rattle.pool_model.specs.Claim.{Claimed, with_gap, with_bound, no_plan}
+use Rattle.pool_model.proofs.ArcCosts.{keeps-by_number}
 use Rattle.row_model.specs.Multipliers.{Proof, IsInOrder}
 use Rattle.row_model.specs.Trees.{Split, Tree, nodes, box_of, tree_bound}
 use Rattle.plan_core.specs.Faults as plans
@@ -103,6 +104,7 @@ cost_no_fault n w c (faults.ProductOver j) is h = let k = is.obeys.carries.at_mo
 cost_no_fault n w c (faults.ProductUnder j) is h = let k = is.obeys.carries.at_least j h.0 in absurd (omega (arith, h.1))
 cost_no_fault n w c (faults.QualityOver j k) is h = let b = is.obeys.blends.at_most j k h.2.most h.0 h.1 h.2.is in absurd (omega (arith, additive, b, h.2.above))
 cost_no_fault n w c (faults.QualityUnder j k) is h = let b = is.obeys.blends.at_least j k h.2.least h.0 h.1 h.2.is in absurd (omega (arith, additive, b, h.2.below))
+cost_no_fault n w c (faults.ArcOver a) is h = let k = keeps-by_number n (plan_of n w) is.obeys.carries.arcs a h.1.most h.0 h.1.is in absurd (omega (arith, k, h.1.above))
 
 claim_no_fault : (n : Net) (claim : Claimed) (c : Option Cost) (f : PlanFault) → IsClaimCost n claim c → ¬ HasPlanFault n claim f
 claim_no_fault n (with_gap plan cost base bound gap) None f is h = is

@@ -39,7 +39,7 @@ pub(crate) fn walk<S: Shelf>(
 ) -> Result<Walked, StreamRefusal>
     requires ready { IsReady (moment reader.old (S.told shelf.old)) states.Begin }
     ensures limited { OnOk result (IsLimited (net_of net.now)) }
-    ensures reach { OnOk result (unsigned_abs (reach_bound (net_of net.now)) ≤ 128 * 10 ^ 24) }
+    ensures reach { OnOk result (unsigned_abs (reach_bound (net_of net.now)) ≤ 256 * 10 ^ 24) }
     ensures walked { Walks (net_of net.now) (moment reader.old (S.told shelf.old)) (moment reader.new (S.told shelf.new)) result }
 {
     let kind = begin(net, reader, shelf)?;

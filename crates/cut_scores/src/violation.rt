@@ -48,7 +48,8 @@ pub fn violations(
     }
 }
 
-/// In form P: how far each mixed variable is from its pool's quality times its flow, for both coordinates.
+/// In form P: how far each mixed variable is from its pool's quality times its flow, for both coordinates; the more the pool leaves of the
+/// quality, the more of that reaches a product.
 fn mixed_violations(
     alloc: Global,
     net: &Network,
@@ -66,7 +67,8 @@ fn mixed_violations(
             );
             let mixed = point_at(advice, variable_number(net, Block::Mixed(quality), out));
             let product = held.wrapping_mul(flow.unbounded_shr(8)).unbounded_shr(12);
-            let violation = mixed.wrapping_sub(product).wrapping_abs().unbounded_shr(40);
+            let gap = mixed.wrapping_sub(product).wrapping_abs().unbounded_shr(40);
+            let violation = gap.wrapping_mul(net.retained(pool, quality).into());
             add(&mut sums, quality_coordinate(net, pool, quality), violation);
             add(&mut sums, flow_coordinate(net, out), violation);
         }
@@ -77,7 +79,7 @@ fn mixed_violations(
 /// What the weights of paths are made of.
 #[derive(Drop)]
 struct Worths {
-    /// How far the qualities of each feed are from the means of its pool, in thousandths, and 1 more.
+    /// How far what is left of each feed's qualities is from the means of its pool, in thousandths, and 1 more.
     feeds: Vec<u64>,
     /// What a unit along each path is worth by the duals of the rows without envelopes, in parts of 2^20.
     paths: Vec<i128>,
@@ -148,7 +150,7 @@ fn root(a: u64, b: u64) -> u64 {
     square_root(u128::from(a).saturating_mul(u128::from(b)))
 }
 
-/// How far the qualities of each feed are from the means of its pool, in thousandths, and 1 more.
+/// How far what is left of each feed's qualities is from the means of its pool, in thousandths, and 1 more.
 fn feed_distances(alloc: Global, net: &Network, advice: &Advice) -> Result<Vec<u64>, AllocError> {
     let means = pool_qualities(alloc, net, advice)?;
     let mut distances = Vec::new(alloc);
@@ -158,7 +160,7 @@ fn feed_distances(alloc: Global, net: &Network, advice: &Advice) -> Result<Vec<u
     Ok(distances)
 }
 
-/// How far the qualities of a feed are from the means of its pool, in thousandths, and 1 more.
+/// How far the qualities of a feed are from the means of its pool, as far as this leaves them, in thousandths, and 1 more.
 fn feed_distance(net: &Network, means: &[i128], feed: u32) -> u64
     requires { feed < (net_of net.now).feeds }
 {
@@ -168,7 +170,8 @@ fn feed_distance(net: &Network, means: &[i128], feed: u32) -> u64
     for quality in 0..counts.qualities {
         let own = i128::from(net.source_quality(source, quality)).wrapping_mul(GRAIN);
         let mean = at(means, (pool * counts.qualities + quality) as usize, 0);
-        far = far.saturating_add(own.wrapping_sub(mean).wrapping_abs().unbounded_shr(20));
+        let apart = own.wrapping_sub(mean).wrapping_abs().unbounded_shr(20);
+        far = far.saturating_add(apart.wrapping_mul(net.retained(pool, quality).into()));
     }
     clamped(far / 1000).max(0).unsigned_abs().saturating_add(1)
 }

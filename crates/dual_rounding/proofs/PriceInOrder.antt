@@ -1,6 +1,6 @@
 -- The price proof is in order in each proper box.
 use Rattle.std.proofs.Common.{◌≡◌, ◌≢◌, ℕ, zero, suc, ◌+◌, ◌-◌, ◌*◌, ◌^◌, ◌<◌, ◌≤◌, max, min, nat_lt, Bool, true, false, if◌then◌else◌, Some, None, ◌==◌}
-use Rattle.std.proofs.Common.{List, [], ◌∷◌, ◌++◌, length, All, ℤ, pos, neg_ℤ, unsigned_abs, ◌⊎◌, inl, inr, arith, refl, sym, ap, subst, ◌∙◌}
+use Rattle.std.proofs.Common.{Option, List, [], ◌∷◌, ◌++◌, length, All, ℤ, pos, neg_ℤ, ◌+ℤ◌, ◌-ℤ◌, unsigned_abs, ◌⊎◌, inl, inr, arith, refl, sym, ap, subst, ◌∙◌}
 use Rattle.std.specs.Prelude.{filter}
 use Rattle.std.specs.List.{sum_by, flat_map, AllPairs}
 use Rattle.std.proofs.Math.Nat.{mul-le-mul_left, mul-le-mul_right}
@@ -14,7 +14,8 @@ use Rattle.integers.specs.Numbers.{tabulate, numbers_at}
 use Rattle.integers.specs.Sums.{sum_below}
 use Rattle.integers.proofs.ByNode.{sum_below-most}
 use Rattle.integers.proofs.Tabulate.{length-tabulate, get_or-tabulate, All-tabulate}
-use Rattle.pool_model.specs.Network.{Net, IsLimited}
+use Rattle.pool_model.specs.Network.{Net, IsLimited, IsWithin, capped, feed_delivered, direct_delivered}
+use Rattle.pool_model.proofs.Capped.{capped-le}
 use Rattle.pool_model.specs.Starting.{pool_cost}
 use Rattle.pool_model.specs.Paths.{Path, feed_paths, pool_paths, paths_below}
 use Rattle.row_model.specs.Boxes.{Box, IsProper, root, flow_number}
@@ -25,7 +26,7 @@ use Rattle.row_model.proofs.Numbering.{by_number-each}
 use Rattle.row_book.proofs.Families.{row_count-append, row_in-front}
 use Rattle.row_book.proofs.NearEnds.{within, few_least, few_unwrapped, few_if, ends-near}
 use Rattle.row_book.proofs.NetworkRows.{at_balance}
-use Rattle.dual_rounding.specs.Price.{is_nonzero, feed_cost, price_part, price_proof}
+use Rattle.dual_rounding.specs.Price.{is_nonzero, pool_price, price_part, price_proof}
 
 -- ---- the rows
 
@@ -50,7 +51,7 @@ known n = All-filter is_nonzero (λ q. q.row < rows n) (tabulate (price_part n) 
 signed : (n : Net) (b : Box) → All (λ q. IsSigned (row_at n b q.row).kind q.mult) (price_proof n).parts
 signed n b = All-filter is_nonzero (λ q. IsSigned (row_at n b q.row).kind q.mult) (tabulate (price_part n) n.pools)
     (All-tabulate (λ (q : Part). IsSigned (row_at n b q.row).kind q.mult) (price_part n) n.pools
-    (λ l lt. subst (λ (r : Row). IsSigned r.kind (feed_cost n l)) (sym (balance-at n b l lt)) tt))
+    (λ l lt. subst (λ (r : Row). IsSigned r.kind (pool_price n l)) (sym (balance-at n b l lt)) tt))
 
 not_zero : (m : ℤ) → nat_lt 0 (unsigned_abs m) ≡ true → m ≢ pos 0
 not_zero m h e = absurd (above (unsigned_abs m) h (ap unsigned_abs e))
@@ -78,16 +79,25 @@ rising n i j lt in' = pairs i j record { row = 0; mult = pos 0 } lt in'
 
 -- ---- sizes
 
-cost-few : (n : Net) (i : ℕ) → IsLimited n → i < n.sources → unsigned_abs (n.source_cost i) ≤ 10 ^ 12
-cost-few n i limited lt = within (10 ^ 12) (n.source_cost i) (omega arith) (limited.source_costs i lt)
+out-few : (n : Net) (o : ℕ) → IsLimited n → o < n.outs → unsigned_abs (n.out_cost o) ≤ 10 ^ 12
+out-few n o limited lt = within (10 ^ 12) (n.out_cost o) (omega arith) (limited.out_costs o lt)
 
 price-few : (n : Net) (j : ℕ) → IsLimited n → j < n.products → unsigned_abs (n.price j) ≤ 10 ^ 12
 price-few n j limited lt = within (10 ^ 12) (n.price j) (omega arith) (limited.prices j lt)
 
-feed_cost-few : (n : Net) (l : ℕ) → IsLimited n → unsigned_abs (feed_cost n l) ≤ 10 ^ 12
-feed_cost-few n l limited = few_unwrapped (pool_cost n l)
-    (few_least (λ e. if n.feed_pool e == l then Some (n.source_cost (n.feed_source e)) else None) n.feeds
-    (λ e lt. few_if (n.feed_pool e == l) (n.source_cost (n.feed_source e)) (cost-few n (n.feed_source e) limited (limited.feed_sources e lt))))
+delivered : (cost carriage : ℤ) → IsWithin (10 ^ 12) cost → IsWithin (10 ^ 12) carriage → unsigned_abs (cost +ℤ carriage) ≤ 2 * 10 ^ 12
+delivered cost carriage (low, high) (least, most) = omega (arith, ints)
+
+feed-few : (n : Net) (e : ℕ) → IsLimited n → e < n.feeds → unsigned_abs (feed_delivered n e) ≤ 2 * 10 ^ 12
+feed-few n e limited lt = delivered (n.source_cost (n.feed_source e)) (n.feed_cost e) (limited.source_costs (n.feed_source e) (limited.feed_sources e lt)) (limited.feed_costs e lt)
+
+direct-few : (n : Net) (e : ℕ) → IsLimited n → e < n.directs → unsigned_abs (direct_delivered n e) ≤ 2 * 10 ^ 12
+direct-few n e limited lt = delivered (n.source_cost (n.direct_source e)) (n.direct_cost e) (limited.source_costs (n.direct_source e) (limited.direct_sources e lt)) (limited.direct_costs e lt)
+
+pool_price-few : (n : Net) (l : ℕ) → IsLimited n → unsigned_abs (pool_price n l) ≤ 2 * 10 ^ 12
+pool_price-few n l limited = few_unwrapped (2 * 10 ^ 12) (pool_cost n l)
+    (few_least (2 * 10 ^ 12) (λ e. if n.feed_pool e == l then Some (feed_delivered n e) else None) n.feeds
+    (λ e lt. few_if (2 * 10 ^ 12) (n.feed_pool e == l) (feed_delivered n e) (feed-few n e limited lt)))
 
 -- ---- variables that are flows along arcs
 
@@ -97,24 +107,24 @@ flows = record none { x = λ e. pos 1; y = λ o. pos 1; z = λ e. pos 1 }
 abbrev flow_at : Net → ℕ → ℕ
 flow_at n v = unsigned_abs (by_number n flows v)
 
--- a cost is at most twice 10^12, and 0 where the variable is no flow
+-- a cost is at most 3 * 10^12, and 0 where the variable is no flow
 IsCost : ℤ → ℤ → Type 0
-IsCost a u = unsigned_abs a ≤ 2 * 10 ^ 12 * unsigned_abs u
+IsCost a u = unsigned_abs a ≤ 3 * 10 ^ 12 * unsigned_abs u
 
-cost-small : (n : Net) → IsLimited n → (v : ℕ) → v < variables n → unsigned_abs (by_number n (costs n) v) ≤ 2 * 10 ^ 12 * flow_at n v
+cost-small : (n : Net) → IsLimited n → (v : ℕ) → v < variables n → unsigned_abs (by_number n (costs n) v) ≤ 3 * 10 ^ 12 * flow_at n v
 unfolding IsCost
 cost-small n limited v lt = by_number-each n IsCost (costs n) flows record {
-  x = λ e h. let few = cost-few n (n.feed_source e) limited (limited.feed_sources e h) in omega arith;
-  y = λ o h. let few = price-few n (n.out_product o) limited (limited.out_products o h) in omega (arith, ints);
-  z = λ e h.
-      let source = cost-few n (n.direct_source e) limited (limited.direct_sources e h) in
-      let product = price-few n (n.direct_product e) limited (limited.direct_products e h) in
-      omega (arith, ints);
+  x = λ e h. let few = feed-few n e limited h in omega arith;
+  y = λ o h. less (n.out_cost o) (n.price (n.out_product o)) (omega (arith, out-few n o limited h)) (price-few n (n.out_product o) limited (limited.out_products o h));
+  z = λ e h. less (direct_delivered n e) (n.price (n.direct_product e)) (direct-few n e limited h) (price-few n (n.direct_product e) limited (limited.direct_products e h));
   w = λ p h. omega arith;
   proportion = λ e h. omega arith;
   quality = λ l k h i. omega arith;
   mixed = λ o k h i. omega arith;
 } v lt
+  where
+    less : (cost price : ℤ) → unsigned_abs cost ≤ 2 * 10 ^ 12 → unsigned_abs price ≤ 10 ^ 12 → unsigned_abs (cost -ℤ price) ≤ 3 * 10 ^ 12 * 1
+    less cost price h k = omega (arith, ints)
 
 -- a coefficient is at most 1, and 0 where the variable is no flow
 IsUnit : ℤ → ℤ → Type 0
@@ -155,17 +165,17 @@ lows-small n b limited proper v lt = by_number-each n IsEnd (lows n b) flows rec
 highs-small : (n : Net) (b : Box) → IsLimited n → IsProper n b → (v : ℕ) → v < variables n → flow_at n v * unsigned_abs (by_number n (highs n b) v) ≤ 10 ^ 14
 unfolding IsEnd
 highs-small n b limited proper v lt = by_number-each n IsEnd (highs n b) flows record {
-  x = λ e h. lesser_of (n.source_max (n.feed_source e)) (n.pool_max (n.feed_pool e)) (limited.source_maxima (n.feed_source e) (limited.feed_sources e h));
+  x = λ e h. lesser_of (n.feed_max e) (n.source_max (n.feed_source e)) (n.pool_max (n.feed_pool e)) (limited.source_maxima (n.feed_source e) (limited.feed_sources e h));
   y = λ o h. let ends = ends-near n b limited proper (flow_number n o) (omega arith) in omega (arith, ends.high);
-  z = λ e h. lesser_of (n.source_max (n.direct_source e)) (n.product_max (n.direct_product e)) (limited.source_maxima (n.direct_source e) (limited.direct_sources e h));
+  z = λ e h. lesser_of (n.direct_max e) (n.source_max (n.direct_source e)) (n.product_max (n.direct_product e)) (limited.source_maxima (n.direct_source e) (limited.direct_sources e h));
   w = λ p h. omega arith;
   proportion = λ e h. omega arith;
   quality = λ l k h i. omega arith;
   mixed = λ o k h i. omega arith;
 } v lt
   where
-    lesser_of : (a b : ℕ) → a ≤ 10 ^ 14 → 1 * min a b ≤ 10 ^ 14
-    lesser_of a b h = omega arith
+    lesser_of : (m : Option ℕ) (a b : ℕ) → a ≤ 10 ^ 14 → 1 * capped m (min a b) ≤ 10 ^ 14
+    lesser_of m a b h = omega (arith, capped-le m (min a b))
 
 -- ---- sums over few things
 
@@ -239,17 +249,17 @@ product-most r u c low high m h i j = elim (max-is low high) [
     one e k = omega (arith, mul-le-mul_right e h, mul-le-mul_left c k)
 
 -- a part's size times a coefficient's
-part-most : (m a u : ℕ) → m ≤ 10 ^ 12 → a ≤ u → m * a ≤ 10 ^ 12 * u
+part-most : (m a u : ℕ) → m ≤ 2 * 10 ^ 12 → a ≤ u → m * a ≤ 2 * 10 ^ 12 * u
 part-most m a u h k = omega (arith, mul-le-mul_left m k, mul-le-mul_right u h)
 
 parts-most : (n : Net) (b : Box) → IsLimited n → (v : ℕ) → v < variables n
-    → sum_by (λ q. unsigned_abs q.mult * unsigned_abs (coef n b q.row v)) (price_proof n).parts ≤ 16 * (10 ^ 12 * flow_at n v)
+    → sum_by (λ q. unsigned_abs q.mult * unsigned_abs (coef n b q.row v)) (price_proof n).parts ≤ 16 * (2 * 10 ^ 12 * flow_at n v)
 parts-most n b limited v lt =
     let size = λ (q : Part). unsigned_abs q.mult * unsigned_abs (coef n b q.row v) in
-    let most = 10 ^ 12 * flow_at n v in
+    let most = 2 * 10 ^ 12 * flow_at n v in
     let each = All-tabulate (λ (q : Part). size q ≤ most) (price_part n) n.pools
-    (λ l in'. subst (λ (r : Row). unsigned_abs (feed_cost n l) * unsigned_abs (by_number n r.coefs v) ≤ most) (sym (balance-at n b l in'))
-    (part-most (unsigned_abs (feed_cost n l)) (unsigned_abs (by_number n (balance_row n l).coefs v)) (flow_at n v) (feed_cost-few n l limited) (balance-small n l v lt))) in
+    (λ l in'. subst (λ (r : Row). unsigned_abs (pool_price n l) * unsigned_abs (by_number n r.coefs v) ≤ most) (sym (balance-at n b l in'))
+    (part-most (unsigned_abs (pool_price n l)) (unsigned_abs (by_number n (balance_row n l).coefs v)) (flow_at n v) (pool_price-few n l limited) (balance-small n l v lt))) in
     let sum = sum_by-most size most (price_proof n).parts (All-filter is_nonzero (λ q. size q ≤ most) (tabulate (price_part n) n.pools) each) in
     bound (sum_by size (price_proof n).parts) (length (price_proof n).parts) most sum
     (omega (arith, length-filter-most is_nonzero (tabulate (price_part n) n.pools), length-tabulate (price_part n) n.pools, limited.pools))
@@ -262,7 +272,7 @@ constants-none : (n : Net) (b : Box) → constant_weight n b (price_proof n) ≤
 constants-none n b =
     let size = λ (q : Part). unsigned_abs q.mult * unsigned_abs (row_at n b q.row).constant in
     let each = All-tabulate (λ (q : Part). size q ≤ 0) (price_part n) n.pools
-    (λ l in'. subst (λ (r : Row). unsigned_abs (feed_cost n l) * unsigned_abs r.constant ≤ 0) (sym (balance-at n b l in')) (omega arith)) in
+    (λ l in'. subst (λ (r : Row). unsigned_abs (pool_price n l) * unsigned_abs r.constant ≤ 0) (sym (balance-at n b l in')) (omega arith)) in
     omega (arith, sum_by-most size 0 (price_proof n).parts (All-filter is_nonzero (λ q. size q ≤ 0) (tabulate (price_part n) n.pools) each))
 
 narrow : (n : Net) (b : Box) → IsLimited n → IsProper n b → weight n b (price_proof n) ≤ 2 ^ 126
@@ -270,18 +280,18 @@ narrow n b limited proper =
     let p = price_proof n in
     let ends = λ (v : ℕ). max (unsigned_abs (by_number n (lows n b) v)) (unsigned_abs (by_number n (highs n b) v)) in
     let term = λ (v : ℕ). rest_weight n b p v * ends v in
-    let most = 18 * 10 ^ 12 * 10 ^ 14 in
+    let most = 35 * 10 ^ 12 * 10 ^ 14 in
     let each = λ (v : ℕ) (lt : v < variables n).
-    product-most (rest_weight n b p v) (flow_at n v) (18 * 10 ^ 12) (unsigned_abs (by_number n (lows n b) v)) (unsigned_abs (by_number n (highs n b) v)) (10 ^ 14)
+    product-most (rest_weight n b p v) (flow_at n v) (35 * 10 ^ 12) (unsigned_abs (by_number n (lows n b) v)) (unsigned_abs (by_number n (highs n b) v)) (10 ^ 14)
     (rest (flow_at n v) (unsigned_abs (by_number n (costs n) v)) (sum_by (λ q. unsigned_abs q.mult * unsigned_abs (coef n b q.row v)) p.parts)
     (cost-small n limited v lt) (parts-most n b limited v lt))
     (lows-small n b limited proper v lt) (highs-small n b limited proper v lt) in
     whole (constant_weight n b p) (sum_below term (variables n)) (variables n) (constants-none n b) (sum_below-most term most (variables n) each) (variables-few n limited)
   where
-    rest : (u c s : ℕ) → c ≤ 2 * 10 ^ 12 * u → s ≤ 16 * (10 ^ 12 * u) → 1 * c + s ≤ 18 * 10 ^ 12 * u
+    rest : (u c s : ℕ) → c ≤ 3 * 10 ^ 12 * u → s ≤ 16 * (2 * 10 ^ 12 * u) → 1 * c + s ≤ 35 * 10 ^ 12 * u
     rest u c s h i = omega arith
 
-    whole : (c s n : ℕ) → c ≤ 0 → s ≤ n * (18 * 10 ^ 12 * 10 ^ 14) → n ≤ 2 ^ 21 → c + s ≤ 2 ^ 126
+    whole : (c s n : ℕ) → c ≤ 0 → s ≤ n * (35 * 10 ^ 12 * 10 ^ 14) → n ≤ 2 ^ 21 → c + s ≤ 2 ^ 126
     whole c s n h i j = omega arith
 
 pub price-in_order : (n : Net) (b : Box) → IsLimited n → IsProper n b → IsInOrder n b (price_proof n)

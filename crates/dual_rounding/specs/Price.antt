@@ -14,13 +14,13 @@ is_nonzero q = nat_lt 0 (unsigned_abs q.mult)
 abbrev pub nonzero : List Part → List Part
 nonzero parts = filter is_nonzero parts
 
--- the least cost of a unit that is fed to a pool
-abbrev pub feed_cost : Net → ℕ → ℤ
-feed_cost n l = unwrap_or (pool_cost n l) (pos 0)
+-- the least cost of a unit that is fed to a pool, at its source and along its feed
+abbrev pub pool_price : Net → ℕ → ℤ
+pool_price n l = unwrap_or (pool_cost n l) (pos 0)
 
 -- that cost on the row which says that a pool sends what it takes: these rows stand behind those of the sources
 abbrev pub price_part : Net → ℕ → Part
-price_part n l = record { row = n.sources + l; mult = feed_cost n l }
+price_part n l = record { row = n.sources + l; mult = pool_price n l }
 
 -- One part for each pool, in order, but for those of multiplier 0; the scale is 1.
 abbrev pub price_proof : Net → Proof

@@ -21,7 +21,7 @@ impl<'a> Proportions<'a> {
     }
 }
 
-/// Proportions, with the qualities and the cost of a unit that they give each pool, over their base too.
+/// Proportions, with the cost of a unit that they give each pool and the qualities that leave it, over their base too.
 #[derive(Drop)]
 pub struct Blend<'a> {
     proportions: Proportions<'a>,
@@ -60,21 +60,21 @@ impl<'a> Blend<'a> {
         i128::from(at(self.proportions.parts, feed, 0))
     }
 
-    /// A quality of a pool.
+    /// What a unit from a pool brings of a quality, in the unit of [`Qualities`](crate::Qualities).
     pub fn quality(&self, outline: &Outline, pool: usize, quality: usize) -> i128 {
         at(&self.qualities, outline.quality_place(pool, quality), 0)
     }
 
-    /// What a unit from a pool costs.
+    /// What a unit in a pool costs.
     pub fn cost(&self, pool: usize) -> i128 {
         at(&self.costs, pool, 0)
     }
 }
 
 fn mix_qualities(outline: &Outline, parts: &[u32], qualities: &mut [i128]) {
-    for (arc, part) in outline.arcs.feeds.iter().zip(parts) {
+    for (feed, (arc, part)) in outline.arcs.feeds.iter().zip(parts).enumerate() {
         for quality in 0..outline.quality_count() {
-            let number = outline.quality(arc.from, quality);
+            let number = outline.feed_quality(feed, quality);
             let mixed = i128::from(*part).wrapping_mul(number);
             add_at(qualities, outline.quality_place(arc.to, quality), mixed);
         }
@@ -83,7 +83,6 @@ fn mix_qualities(outline: &Outline, parts: &[u32], qualities: &mut [i128]) {
 
 fn mix_costs(outline: &Outline, parts: &[u32], costs: &mut [i128]) {
     for (arc, part) in outline.arcs.feeds.iter().zip(parts) {
-        let cost = outline.source(arc.from).cost;
-        add_at(costs, arc.to, i128::from(*part).wrapping_mul(cost));
+        add_at(costs, arc.to, i128::from(*part).wrapping_mul(arc.cost));
     }
 }

@@ -2,8 +2,8 @@
 //!
 //! Where the pools' qualities are fixed, what is left is a linear program in the outflows and the directs. Its columns are
 //! the outs and then the directs, in millionths. Its rows count over the base where proportions are in them: that
-//! each source, pool and product stays within its maximum and each product gets its minimum, and that its mean keeps each
-//! limit.
+//! each source, pool and product stays within its maximum and each product gets its minimum, that its mean keeps each
+//! limit, and that each feed stays within its maximum. Those of outs and directs are the ends of their columns.
 
 use crate::blend::Blend;
 use crate::outline::{Arc, Outline};
@@ -18,6 +18,7 @@ pub struct Layout {
     pub maxima: usize,
     pub minima: usize,
     pub limits: usize,
+    pub narrow_feeds: usize,
     pub balances: usize,
     pub directs: usize,
     pub feeds: usize,
@@ -30,7 +31,8 @@ impl Layout {
         let maxima = pools.saturating_add(outline.nodes.pools.len());
         let minima = maxima.saturating_add(outline.nodes.products.len());
         let limits = minima.saturating_add(outline.nodes.products.len());
-        let balances = limits.saturating_add(outline.limit_count());
+        let narrow_feeds = limits.saturating_add(outline.limit_count());
+        let balances = narrow_feeds.saturating_add(outline.narrow_feeds.len());
         let directs = outline.arcs.outs.len();
         let feeds = directs.saturating_add(outline.arcs.directs.len());
         Layout {
@@ -38,6 +40,7 @@ impl Layout {
             maxima,
             minima,
             limits,
+            narrow_feeds,
             balances,
             directs,
             feeds,
@@ -66,15 +69,17 @@ fn add_columns(
 ) -> Result<(), AllocError> {
     for arc in outline.arcs.outs.iter() {
         let product = outline.product(arc.to);
-        let price = product.price.wrapping_mul(blend.base());
-        let high = outline.pool_max(arc.from).min(product.max);
-        program.add_variable(0, high, blend.cost(arc.from).wrapping_sub(price))?;
+        let margin = arc.cost.wrapping_sub(product.price);
+        let cost = blend
+            .cost(arc.from)
+            .wrapping_add(margin.wrapping_mul(blend.base()));
+        let high = arc.capped(outline.pool_max(arc.from).min(product.max));
+        program.add_variable(0, high, cost)?;
     }
     for arc in outline.arcs.directs.iter() {
-        let source = outline.source(arc.from);
         let product = outline.product(arc.to);
-        let cost = source.cost.wrapping_sub(product.price);
-        let high = source.max.min(product.max);
+        let cost = arc.cost.wrapping_sub(product.price);
+        let high = arc.capped(outline.source_max(arc.from).min(product.max));
         program.add_variable(0, high, cost.wrapping_mul(blend.base()))?;
     }
     Ok(())
@@ -95,6 +100,10 @@ fn add_rows(
         let _ = limit;
         program.add_row(alloc, false, 0)?;
     }
+    for feed in outline.narrow_feeds.iter() {
+        let max = outline.feed(*feed).capped(i128::MAX);
+        program.add_row(alloc, false, max.wrapping_mul(base))?;
+    }
     Ok(())
 }
 
@@ -105,8 +114,8 @@ fn add_maxima(
     outline: &Outline,
     base: i128,
 ) -> Result<(), AllocError> {
-    for source in outline.nodes.sources.iter() {
-        program.add_row(alloc, false, source.max.wrapping_mul(base))?;
+    for max in outline.nodes.sources.iter() {
+        program.add_row(alloc, false, max.wrapping_mul(base))?;
     }
     for max in outline.nodes.pools.iter() {
         program.add_row(alloc, false, *max)?;
@@ -129,6 +138,32 @@ fn add_terms(
     }
     for direct in 0..outline.arcs.directs.len() {
         add_direct_terms(program, outline, blend.base(), layout, direct)?;
+    }
+    for (number, feed) in outline.narrow_feeds.iter().enumerate() {
+        let row = layout.narrow_feeds.saturating_add(number);
+        add_feed_terms(
+            program,
+            outline,
+            row,
+            outline.feed(*feed).to,
+            blend.part(*feed),
+        )?;
+    }
+    Ok(())
+}
+
+/// What the outs of a pool take from the maximum of a feed into it.
+fn add_feed_terms(
+    program: &mut SmallProgram,
+    outline: &Outline,
+    row: usize,
+    pool: usize,
+    part: i128,
+) -> Result<(), AllocError> {
+    for (out, arc) in outline.arcs.outs.iter().enumerate() {
+        if arc.from == pool {
+            program.add_term(row, out, part.wrapping_neg())?;
+        }
     }
     Ok(())
 }
@@ -186,7 +221,7 @@ fn add_direct_terms(
     add_product_terms(program, layout, arc, column)?;
     let first = layout.limits.saturating_add(outline.first_limit(arc.to));
     for (number, limit) in outline.limits(arc.to).iter().enumerate() {
-        let gap = limit.gap(outline.quality(arc.from, limit.quality));
+        let gap = limit.gap(outline.direct_quality(direct, limit.quality));
         let row = first.saturating_add(number);
         program.add_term(row, column, gap.wrapping_mul(base))?;
     }

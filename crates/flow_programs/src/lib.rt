@@ -4,7 +4,7 @@
 //! and the directs. [`flow_program`] puts it together from an [`Outline`], the network's numbers as plain lists, and a
 //! [`Blend`], what the pools mix; [`SmallProgram::lp`] is what advice is asked on. [`flows_of`] reads the flows off the point
 //! of an advice, [`rounded`] brings proportions to the grain and [`small_parts`] to a small base, and [`ArcFlows::mend`] lowers flows that were rounded until they
-//! keep each limit again. [`step_program`] moves proportions and flows together, and [`step_end`] reads off where its point
+//! keep each maximum and each limit again. [`step_program`] moves proportions and flows together, and [`step_end`] reads off where its point
 //! leads; [`vertex_of`] has the flows of an advice exactly.
 //!
 //! Nobody has to trust any of it: whoever makes a plan of these flows has it checked. So every call is safe and returns for
@@ -29,7 +29,7 @@ pub use blend::{Blend, Proportions};
 pub use flows::{Layout, flow_program, flows_of};
 pub use groups::ArcsByEnd;
 pub use mending::ArcFlows;
-pub use outline::{Arc, Arcs, GRAIN, Limit, Meetings, Nodes, Outline, Product, Qualities, Source};
+pub use outline::{Arc, Arcs, GRAIN, Limit, Meetings, Nodes, Outline, Product, Qualities};
 pub use program::SmallProgram;
 pub use rounding::rounded;
 pub use small::{SmallParts, small_parts};

@@ -5,7 +5,7 @@
 //! for what is missing, round after round. Only where that does not end is the product dropped.
 
 use crate::blend::Blend;
-use crate::outline::{Limit, Outline};
+use crate::outline::{Arc, Limit, Outline};
 use lp_sparse::least_cut;
 use lp_sparse::lookup::{at, put};
 
@@ -37,11 +37,16 @@ struct Balance {
 impl ArcFlows {
     /// Lowers the flows until no maximum is passed and no limit is broken.
     pub fn mend(&mut self, outline: &Outline, blend: &Blend) {
+        cap(&mut self.outs, &outline.arcs.outs);
+        cap(&mut self.directs, &outline.arcs.directs);
         for product in 0..outline.nodes.products.len() {
             self.mend_maximum(outline, product);
         }
         for pool in 0..outline.nodes.pools.len() {
             self.mend_pool(outline, pool);
+        }
+        for feed in outline.narrow_feeds.iter() {
+            self.mend_feed(outline, blend, *feed);
         }
         for source in 0..outline.nodes.sources.len() {
             self.mend_source(outline, blend, source);
@@ -80,9 +85,20 @@ impl ArcFlows {
         }
     }
 
+    /// Lowers flows out of a feed's pool until what flows along the feed is no more than its maximum.
+    fn mend_feed(&mut self, outline: &Outline, blend: &Blend, feed: usize) {
+        let arc = outline.feed(feed);
+        let part = blend.part(feed);
+        let flow = self.outflow(outline, arc.to).wrapping_mul(part);
+        let most = arc
+            .capped(outline.pool_max(arc.to))
+            .wrapping_mul(blend.base());
+        self.lower_pool(outline, arc.to, flow.wrapping_sub(most), part);
+    }
+
     /// Lowers flows from a source until it sends no more than its maximum: first its directs, then what its pools send.
     fn mend_source(&mut self, outline: &Outline, blend: &Blend, source: usize) {
-        let max = outline.source(source).max.wrapping_mul(blend.base());
+        let max = outline.source_max(source).wrapping_mul(blend.base());
         let mut over = self.sent(outline, blend, source).wrapping_sub(max);
         for (direct, arc) in outline.arcs.directs.iter().enumerate() {
             if arc.from == source {
@@ -188,8 +204,7 @@ impl ArcFlows {
             balance.add(Along::Out(*out), room, flow);
         }
         for direct in outline.meetings.directs_into.of(product) {
-            let source = outline.direct(*direct).from;
-            let room = limit.gap(outline.quality(source, limit.quality));
+            let room = limit.gap(outline.direct_quality(*direct, limit.quality));
             let flow = at(&self.directs, *direct, 0);
             let room = room.wrapping_mul(blend.base());
             balance.add(Along::Direct(*direct), room, flow);
@@ -205,6 +220,16 @@ impl Balance {
         if flow > 0 && room < self.room {
             self.room = room;
             self.worst = Some(along);
+        }
+    }
+}
+
+/// Lowers flows to their arcs' maxima.
+fn cap(flows: &mut [u64], arcs: &[Arc]) {
+    for (flow, arc) in flows.iter_mut().zip(arcs) {
+        if let Some(max) = arc.max {
+            let most = max.clamp(0, 4_611_686_018_427_387_904) as u64;
+            *flow = (*flow).min(most);
         }
     }
 }

@@ -7,13 +7,6 @@ use std::alloc::{AllocError, Global};
 /// How many parts proportions are counted in where no smaller base serves.
 pub const GRAIN: i128 = 1_048_576;
 
-/// A source: its cost in millionths of money a unit, its maximum in millionths.
-#[derive(Clone, Copy)]
-pub struct Source {
-    pub cost: i128,
-    pub max: i128,
-}
-
 /// A product: its price in millionths of money a unit, its minimum and its maximum in millionths.
 #[derive(Clone, Copy)]
 pub struct Product {
@@ -22,14 +15,27 @@ pub struct Product {
     pub max: i128,
 }
 
-/// An arc, by the numbers of its two ends.
+/// An arc, by the numbers of its two ends: what a unit along it costs, in millionths of money, and its maximum in millionths, if it
+/// has one. Along a feed or a direct the cost is that of a unit delivered, with what it costs at its source.
 #[derive(Clone, Copy)]
 pub struct Arc {
     pub from: usize,
     pub to: usize,
+    pub cost: i128,
+    pub max: Option<i128>,
 }
 
-/// A limit on a quality of a product, in millionths.
+impl Arc {
+    /// The lesser of an amount and the arc's maximum.
+    pub fn capped(self, amount: i128) -> i128 {
+        match self.max {
+            None => amount,
+            Some(max) => amount.min(max),
+        }
+    }
+}
+
+/// A limit on a quality of a product, in the unit of [`Qualities`].
 #[derive(Clone, Copy)]
 pub struct Limit {
     pub quality: usize,
@@ -38,7 +44,7 @@ pub struct Limit {
 }
 
 impl Limit {
-    /// How far a quality keeps from the limit, in millionths; below 0 where it breaks it.
+    /// How far a quality keeps from the limit; below 0 where it breaks it.
     pub fn gap(self, quality: i128) -> i128 {
         self.between(self.value, quality)
     }
@@ -57,15 +63,15 @@ impl Limit {
     }
 }
 
-/// Sources, pools by their maxima, products.
+/// Sources and pools by their maxima, in millionths; products.
 #[derive(Drop)]
 pub struct Nodes {
-    pub sources: Vec<Source>,
+    pub sources: Vec<i128>,
     pub pools: Vec<i128>,
     pub products: Vec<Product>,
 }
 
-/// Feeds, outs and directs, and those of them that meet a pool or a product.
+/// Feeds, outs and directs.
 #[derive(Drop)]
 pub struct Arcs {
     pub feeds: Vec<Arc>,
@@ -81,12 +87,17 @@ pub struct Meetings {
     pub directs_into: ArcsByEnd,
 }
 
-/// The qualities of the sources, and the limits of the products.
+/// What reaches a product of each quality, and the products' limits: all of them in millionths over the same scale.
+///
+/// The scale is 1 where no pool removes anything. Else a feed has as many parts of its source's quality as its pool leaves of it, and
+/// directs and limits have all of them.
 #[derive(Drop)]
 pub struct Qualities {
     pub count: usize,
-    /// The qualities of the sources in millionths, those of one source after another.
-    pub of_sources: Vec<i128>,
+    /// What a unit along each feed brings through its pool, those of one feed after another.
+    pub of_feeds: Vec<i128>,
+    /// What a unit along each direct brings, those of one direct after another.
+    pub of_directs: Vec<i128>,
     /// The limits of the products, those of one product after another, most before least.
     pub limits: Vec<Limit>,
     /// For each product the end of its limits in the list.
@@ -100,6 +111,8 @@ pub struct Outline {
     pub arcs: Arcs,
     pub meetings: Meetings,
     pub qualities: Qualities,
+    /// The feeds whose maximum is below what their ends may carry.
+    pub narrow_feeds: Vec<usize>,
 }
 
 impl Outline {
@@ -111,17 +124,19 @@ impl Outline {
         qualities: Qualities,
     ) -> Result<Outline, AllocError> {
         let meetings = Meetings::new(alloc, &nodes, &arcs)?;
+        let narrow_feeds = narrow_feeds(alloc, &nodes, &arcs)?;
         Ok(Outline {
             nodes,
             arcs,
             meetings,
             qualities,
+            narrow_feeds,
         })
     }
 
-    /// A source.
-    pub fn source(&self, source: usize) -> Source {
-        at(&self.nodes.sources, source, Source { cost: 0, max: 0 })
+    /// The most that a source sends out.
+    pub fn source_max(&self, source: usize) -> i128 {
+        at(&self.nodes.sources, source, 0)
     }
 
     /// The most that flows through a pool.
@@ -159,15 +174,21 @@ impl Outline {
         self.qualities.count
     }
 
-    /// A quality of a source, in millionths.
-    pub fn quality(&self, source: usize, quality: usize) -> i128 {
-        let place = self.quality_place(source, quality);
-        at(&self.qualities.of_sources, place, 0)
+    /// What a unit along a feed brings of a quality through its pool.
+    pub fn feed_quality(&self, feed: usize, quality: usize) -> i128 {
+        let place = self.quality_place(feed, quality);
+        at(&self.qualities.of_feeds, place, 0)
     }
 
-    /// Where a quality of a node stands in a list by node and then by quality.
-    pub fn quality_place(&self, node: usize, quality: usize) -> usize {
-        let first = node.wrapping_mul(self.qualities.count);
+    /// What a unit along a direct brings of a quality.
+    pub fn direct_quality(&self, direct: usize, quality: usize) -> i128 {
+        let place = self.quality_place(direct, quality);
+        at(&self.qualities.of_directs, place, 0)
+    }
+
+    /// Where a quality of a pool or of an arc stands in a list by these and then by quality.
+    pub fn quality_place(&self, number: usize, quality: usize) -> usize {
+        let first = number.wrapping_mul(self.qualities.count);
         first.wrapping_add(quality)
     }
 
@@ -214,7 +235,21 @@ impl Outline {
 const NO_ARC: Arc = Arc {
     from: usize::MAX,
     to: usize::MAX,
+    cost: 0,
+    max: None,
 };
+
+/// The feeds whose maximum is below what their ends may carry.
+fn narrow_feeds(alloc: Global, nodes: &Nodes, arcs: &Arcs) -> Result<Vec<usize>, AllocError> {
+    let mut narrow = Vec::new(alloc);
+    for (feed, arc) in arcs.feeds.iter().enumerate() {
+        let most = at(&nodes.sources, arc.from, 0).min(at(&nodes.pools, arc.to, 0));
+        if arc.capped(most) < most {
+            narrow.push(feed)?;
+        }
+    }
+    Ok(narrow)
+}
 
 /// Adds to the number at a place, if it is there.
 pub fn add_at(numbers: &mut [i128], place: usize, more: i128) {

@@ -75,7 +75,7 @@ fn keep_limits(outline: &Outline, numbers: &[i128], parts: &mut [i128]) -> bool 
     moved
 }
 
-/// What the numbers of a pool's feeds leave of a limit, in millionths times their unit.
+/// What the numbers of a pool's feeds leave of a limit.
 fn room(outline: &Outline, pool: usize, limit: Limit, numbers: &[i128]) -> i128 {
     let mut room = 0i128;
     for feed in outline.meetings.feeds_into.of(pool) {
@@ -85,9 +85,9 @@ fn room(outline: &Outline, pool: usize, limit: Limit, numbers: &[i128]) -> i128 
     room
 }
 
-/// How far the quality of a feed's source keeps from a limit, in millionths.
+/// How far what a feed brings through its pool keeps from a limit.
 fn gap(outline: &Outline, feed: usize, limit: Limit) -> i128 {
-    limit.gap(outline.quality(outline.feed(feed).from, limit.quality))
+    limit.gap(outline.feed_quality(feed, limit.quality))
 }
 
 /// Whether the numbers keep a limit, or break it by no more than a part of the grain makes up for.

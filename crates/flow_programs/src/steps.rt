@@ -106,14 +106,30 @@ pub fn step_program(
         let part = blend.part(feed);
         let low = reach.radius.min(part).wrapping_neg();
         let high = reach.radius.min(GRAIN.wrapping_sub(part));
-        let source = outline.source(arc.from);
-        program.add_variable(low, high, sent.wrapping_mul(source.cost))?;
+        program.add_variable(low, high, sent.wrapping_mul(arc.cost))?;
         let column = layout.feeds.saturating_add(feed);
         program.add_term(arc.from, column, sent.wrapping_neg())?;
     }
+    add_feed_shifts(&mut program, outline, layout, &outflows)?;
     add_balances(alloc, &mut program, outline, layout)?;
     add_shifts(&mut program, outline, layout, place, reach)?;
     Ok(program)
+}
+
+/// What changes of proportions take from the maxima of feeds, by what their pools send out.
+fn add_feed_shifts(
+    program: &mut SmallProgram,
+    outline: &Outline,
+    layout: Layout,
+    outflows: &[i128],
+) -> Result<(), AllocError> {
+    for (number, feed) in outline.narrow_feeds.iter().enumerate() {
+        let row = layout.narrow_feeds.saturating_add(number);
+        let sent = at(outflows, outline.feed(*feed).to, 0);
+        let column = layout.feeds.saturating_add(*feed);
+        program.add_term(row, column, sent.wrapping_neg())?;
+    }
+    Ok(())
 }
 
 /// The changes of each pool's proportions sum to 0.
@@ -166,8 +182,7 @@ fn add_pool_shift(
     flow: i128,
 ) -> Result<(), AllocError> {
     for feed in outline.meetings.feeds_into.of(pool) {
-        let source = outline.feed(*feed).from;
-        let quality = outline.quality(source, limit.quality);
+        let quality = outline.feed_quality(*feed, limit.quality);
         let more = flow.wrapping_mul(quality);
         let coef = if limit.is_most {
             more.wrapping_neg()
@@ -179,11 +194,11 @@ fn add_pool_shift(
     Ok(())
 }
 
-/// How far apart the qualities of a pool's feeds are.
+/// How far apart is what a pool's feeds bring of a quality.
 fn spread(outline: &Outline, pool: usize, quality: usize) -> i128 {
     let mut ends: Option<(i128, i128)> = None;
     for feed in outline.meetings.feeds_into.of(pool) {
-        let value = outline.quality(outline.feed(*feed).from, quality);
+        let value = outline.feed_quality(*feed, quality);
         ends = match ends {
             None => Some((value, value)),
             Some((least, most)) => Some((least.min(value), most.max(value))),

@@ -3,3 +3,4 @@ pub mod FamiliesOfPq
 pub mod FamiliesOfQ
 pub mod ProportionEnvelopes
 pub mod QualityEnvelopes
+pub mod InParts

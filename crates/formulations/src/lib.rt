@@ -5,6 +5,7 @@
 //! beside those of Q.
 #![tactic(auto)]
 
+mod limits;
 pub mod p;
 pub mod pq;
 pub mod q;

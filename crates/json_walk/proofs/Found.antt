@@ -9,7 +9,8 @@ use Rattle.json_walk.specs.declared.fault.Section.{Section}
 use Rattle.json_walk.specs.declared.fault.Place.{Place}
 use Rattle.json_walk.specs.declared.fault.ReadNet.{ReadNet}
 use Rattle.json_walk.specs.declared.fault.ReadNet.TheVariants.{WrongKind, UnknownMember, Missing, WrongVersion, NotWhole, BadQuantity, Net, Memory}
-use Rattle.json_walk.specs.Walk.{◌>>=◌, Walk, each, rows, place, top, one, is_among, names_in, list_of, object, needs, allows, if_there, present, list, items, text, quantity, version}
+use Rattle.json_walk.specs.declared.version.Version.TheVariants.{One, Two}
+use Rattle.json_walk.specs.Walk.{◌>>=◌, Walk, each, rows, place, top, version_by, is_among, names_in, list_of, object, needs, allows, if_there, present, list, items, text, quantity, ratio, version}
 
 -- a fault of the walk
 abbrev pub IsFound : ReadNet → Type 0
@@ -44,13 +45,19 @@ quantity_found at (number n) = ok_or_found _ (NotWhole at) tt
 quantity_found at (string s) = ok_or_found _ (BadQuantity at) tt
 quantity_found at _ = tt
 
-one_found : (n : Num) → OnlyFound (one n)
-one_found (unsigned n) = either_found (eqb n 1) (Ok tt) (Err WrongVersion) tt tt
-one_found _ = tt
+pub ratio_found : (at : Place) (d : Data) → OnlyFound (ratio at d)
+unfolding ratio
+ratio_found at (number n) = ok_or_found _ (NotWhole at) tt
+ratio_found at _ = tt
+
+version_by_found : (n : Num) → OnlyFound (version_by n)
+version_by_found (unsigned n) =
+    either_found (eqb n 1) (Ok One) (cond (eqb n 2) (Ok Two) (Err WrongVersion)) tt (either_found (eqb n 2) (Ok Two) (Err WrongVersion) tt tt)
+version_by_found _ = tt
 
 pub version_found : (at : Place) (d : Data) → OnlyFound (version at d)
 unfolding version
-version_found at d = then_found (ok_or (as_number d) (WrongKind at)) one (ok_or_found (as_number d) (WrongKind at) tt) one_found
+version_found at d = then_found (ok_or (as_number d) (WrongKind at)) version_by (ok_or_found (as_number d) (WrongKind at) tt) version_by_found
 
 -- a list of members that is known and whole, or a fault
 abbrev judged : Place → Bool → Bool → Result ⊤ ReadNet

@@ -6,7 +6,8 @@ use Rattle.serde_json.specs.Data.{Data}
 use Rattle.json_walk.specs.declared.fault.Section.{Section}
 use Rattle.json_walk.specs.declared.fault.Place.{Place}
 use Rattle.json_walk.specs.declared.fault.ReadNet.{ReadNet}
-use Rattle.json_walk.specs.Walk.{◌>>=◌, Walk, each, rows, place, top, needs, if_there, present, list, items}
+use Rattle.serde_json.specs.Find.{get}
+use Rattle.json_walk.specs.Walk.{◌>>=◌, Walk, each, rows, place, top, needs, allows, if_there, present, list, items}
 
 -- from a fact of the first step
 pub bind_if : {A B : Type 0} (P : A → Type 0) (Q : B → Type 0) (r : Result A ReadNet) (f : A → Result B ReadNet) → IfOk r P → ((x : A) → P x → IfOk (f x) Q) → IfOk (r >>= f) Q
@@ -33,10 +34,18 @@ pub each_if : {A X : Type 0} (P : X → Type 0) (w : ℕ → A → Result X Read
 each_if P w h n [] = tt
 each_if P w h n (d ∷ ds) = bind_if P _ (w n d) _ (h n d) (λ x p. bind_if (AllByRecursion P) _ (each w (n + 1) ds) _ (each_if P w h (n + 1) ds) (λ xs ps. (p, ps)))
 
+rows_if : {X : Type 0} (P : X → Type 0) (section : Section) (walk : Place → Walk X)
+    → ((at : Place) (d : Data) → IfOk (walk at d) P) → (d : Data) → IfOk (list section walk d) (AllByRecursion P)
+unfolding rows
+rows_if P section walk h d = bind_any (AllByRecursion P) (items top d) (rows section walk) (λ ds. each_if P (λ n. walk (place section n)) (λ n. h (place section n)) 0 ds)
+
+-- the rows of a list that is needed, and of one that may be absent
 pub list_if : {X : Type 0} (P : X → Type 0) (k : List ℕ) (section : Section) (walk : Place → Walk X)
     → ((at : Place) (d : Data) → IfOk (walk at d) P) → (d : Data)
     → IfOk (needs top k (list section walk) d) (AllByRecursion P)
-unfolding rows
-list_if P k section walk h d = needs_if (AllByRecursion P) top k (list section walk)
-    (λ e. bind_any (AllByRecursion P) (items top e) (rows section walk)
-    (λ ds. each_if P (λ n. walk (place section n)) (λ n. h (place section n)) 0 ds)) d
+list_if P k section walk h d = needs_if (AllByRecursion P) top k (list section walk) (rows_if P section walk h) d
+
+pub list_there_if : {X : Type 0} (P : X → Type 0) (k : List ℕ) (section : Section) (walk : Place → Walk X)
+    → ((at : Place) (d : Data) → IfOk (walk at d) P) → (d : Data)
+    → IfOk (allows k [] (list section walk) d) (AllByRecursion P)
+list_there_if P k section walk h d = there_if (AllByRecursion P) (list section walk) [] (get k d) tt (rows_if P section walk h)

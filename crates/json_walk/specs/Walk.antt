@@ -11,6 +11,8 @@ use Rattle.json_walk.specs.declared.fault.Section.TheVariants.{Top}
 use Rattle.json_walk.specs.declared.fault.Place.{Place}
 use Rattle.json_walk.specs.declared.fault.ReadNet.{ReadNet}
 use Rattle.json_walk.specs.declared.fault.ReadNet.TheVariants.{WrongKind, UnknownMember, Missing, WrongVersion, NotWhole, BadQuantity, Memory}
+use Rattle.json_walk.specs.declared.version.Version.{Version}
+use Rattle.json_walk.specs.declared.version.Version.TheVariants.{One, Two}
 
 -- one step and then the next, up to the first fault
 infixl 10 ◌>>=◌
@@ -33,7 +35,7 @@ top = record { section = Top; index = 0 }
 abbrev pub place : Section → ℕ → Place
 place s n = record { section = s; index = min n (2 ^ 32 - 1) }
 
--- ---- texts and quantities
+-- ---- texts and numbers
 
 -- what a value means, or its first fault
 abbrev pub Walk : Type 0 → Type 0
@@ -49,14 +51,26 @@ quantity at (number n) = ok_or (option_map (λ z. z *ℤ pos 1000000) (as_intege
 quantity at (string s) = ok_or (text_of.quantity s) (BadQuantity at)
 quantity at _ = Err (WrongKind at)
 
--- the number 1
-abbrev pub one : Num → Result ⊤ ReadNet
-one (unsigned n) = if n == 1 then Ok tt else Err WrongVersion
-one _ = Err WrongVersion
+-- a whole number as it stands
+unfoldable pub ratio : Place → Walk ℤ
+ratio at (number n) = ok_or (as_integer n) (NotWhole at)
+ratio at _ = Err (WrongKind at)
 
--- the version, which is 1
-unfoldable pub version : Place → Walk ⊤
-version at d = ok_or (as_number d) (WrongKind at) >>= one
+-- ---- versions
+
+-- the number that a file says of a version
+abbrev pub version_number : Version → ℕ
+version_number One = 1
+version_number Two = 2
+
+-- the version of a number: 1 or 2
+abbrev pub version_by : Num → Result Version ReadNet
+version_by (unsigned n) = if n == 1 then Ok One else (if n == 2 then Ok Two else Err WrongVersion)
+version_by _ = Err WrongVersion
+
+-- the version of the format
+unfoldable pub version : Place → Walk Version
+version at d = ok_or (as_number d) (WrongKind at) >>= version_by
 
 -- ---- objects
 

@@ -57,15 +57,15 @@ pub enum ReadNet {
     TooLong,
     /// The bytes are no JSON text.
     NotJson,
-    /// No object, list, text or number where one has to stand, or an arc that isn't two elements.
+    /// No object, list, text or number where one has to stand, or a list of an arc that isn't two elements.
     WrongKind(Place),
     /// An object has a member that the format doesn't know there.
     UnknownMember(Place),
     /// An object lacks a member.
     Missing(Place),
-    /// The version is a number other than 1.
+    /// The version is a number other than 1 and 2.
     WrongVersion,
-    /// A quantity is a number with a point or an exponent, or outside 64 bits.
+    /// A quantity or a ratio is a number with a point or an exponent, or outside 64 bits.
     NotWhole(Place),
     /// A quantity is a text that stands for none.
     BadQuantity(Place),

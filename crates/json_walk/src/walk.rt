@@ -4,7 +4,7 @@ ghost use Rattle.std.specs.Prelude.{◌≡◌, ◌||◌, map, string_bytes, is_s
 ghost use Rattle.std.specs.List.{list_all};
 ghost use Rattle.serde_json.specs.Find.{get};
 ghost use Rattle.serde_json.specs.View.{view, members_view};
-ghost use Rattle.json_walk.specs.Walk.{Gives, text as text_at, quantity as quantity_at, version as version_at, present, needs, object as object_at, items as items_at, texts, is_among, names_in};
+ghost use Rattle.json_walk.specs.Walk.{Gives, text as text_at, quantity as quantity_at, ratio as ratio_at, present, needs, object as object_at, items as items_at, texts, is_among, names_in};
 
 use crate::fault::{Place, ReadNet};
 use quantity::quantity_of;
@@ -17,18 +17,6 @@ pub fn text(value: &Value, at: Place) -> Result<&str, ReadNet>
     ensures { Gives (λ s. s.now) result (text_at at (view value.now)) }
 {
     value.as_str().ok_or(ReadNet::WrongKind(at))
-}
-
-/// The version of the format, which is 1.
-#[tactic(auto, unfolding(crate::specs::Walk::version))]
-pub fn version(value: &Value, at: Place) -> Result<(), ReadNet>
-    ensures { Gives (λ u. u) result (version_at at (view value.now)) }
-{
-    let number = value.as_number().ok_or(ReadNet::WrongKind(at))?;
-    match number.as_u64() {
-        Some(1) => Ok(()),
-        _ => Err(ReadNet::WrongVersion),
-    }
 }
 
 /// The value of a member that is needed.
@@ -53,6 +41,19 @@ pub fn quantity(value: &Value, at: Place) -> Result<i128, ReadNet>
     }
     let text = value.as_str().ok_or(ReadNet::WrongKind(at))?;
     quantity_of(text).ok_or(ReadNet::BadQuantity(at))
+}
+
+/// A whole number as it stands: a ratio, in thousandths.
+#[tactic(auto, unfolding(crate::specs::Walk::ratio))]
+pub fn ratio(value: &Value, at: Place) -> Result<i128, ReadNet>
+    ensures { Gives (λ r. r) result (ratio_at at (view value.now)) }
+{
+    let number = value.as_number().ok_or(ReadNet::WrongKind(at))?;
+    match (number.as_u64(), number.as_i64()) {
+        (Some(n), _) => Ok(i128::from(n)),
+        (None, Some(z)) => Ok(i128::from(z)),
+        (None, None) => Err(ReadNet::NotWhole(at)),
+    }
 }
 
 fn is_one_of(name: &str, names: &[&str]) -> bool

@@ -12,7 +12,7 @@ use Rattle.network_parts.specs.declared.arcs.Node.TheVariants.{Source, Pool, Pro
 use Rattle.network_parts.specs.declared.arcs.Ends.{Ends}
 use Rattle.network_parts.specs.declared.arcs.Arcs.{Arcs}
 use Rattle.network_parts.specs.declared.arcs.Arc as own
-use Rattle.network_parts.specs.Faults.{IsUnknownName, IsArcBackwards, IsPoolToPool, IsDuplicateArc, IsPoolWithoutInput, IsPoolWithoutOutput, ends_of, node_names}
+use Rattle.network_parts.specs.Faults.{IsUnknownName, IsArcBackwards, IsPoolToPool, IsDuplicateArc, IsPoolWithoutInput, IsPoolWithoutOutput, row_ends, ends_of, no_arc_row, node_names}
 use Rattle.network_parts.specs.Nodes.{known, both_ends, node_of, nodes_of, source_number, pool_number, product_number, is_backward, is_between_pools}
 use Rattle.network_parts.specs.Views.{shown_arc}
 use Rattle.network_parts.specs.Ready.{IsDistinct, AreEndsOf, IsMarked, IsRepeatedEnds, AreArcsOf, no_ends}
@@ -24,15 +24,15 @@ pub length_ends : (r : Rows) (ends : List Ends) → AreEndsOf r ends → length 
 length_ends r ends are = sym (length-map ends known) ∙ ap length are ∙ length-map r.arcs (nodes_of r)
 
 -- the nodes that the ends of an arc name are those that were found so far
-pub nodes_below : (r : Rows) (ends : List Ends) (n m : ℕ) → map known ends ≡ take n (map (nodes_of r) r.arcs) → m < n → n ≤ length r.arcs → nodes_of r (ends_of r m) ≡ known (get_or ends m no_ends)
+pub nodes_below : (r : Rows) (ends : List Ends) (n m : ℕ) → map known ends ≡ take n (map (nodes_of r) r.arcs) → m < n → n ≤ length r.arcs → nodes_of r (get_or r.arcs m no_arc_row) ≡ known (get_or ends m no_ends)
 nodes_below r ends n m are below within =
     let long = length-take-le n (map (nodes_of r) r.arcs) (omega (arith, within, length-map r.arcs (nodes_of r))) in
-    sym (get_or-map (nodes_of r) r.arcs m ([], []) (known no_ends) (omega (arith, below, within)))
+    sym (get_or-map (nodes_of r) r.arcs m no_arc_row (known no_ends) (omega (arith, below, within)))
     ∙ sym (get_or-take n (map (nodes_of r) r.arcs) m (known no_ends) below)
     ∙ ap (λ xs. get_or xs m (known no_ends)) (sym are)
     ∙ get_or-map known ends m no_ends (known no_ends) (omega (arith, below, long, ap length are, length-map ends known))
 
-pub nodes_at : (r : Rows) (ends : List Ends) (n : ℕ) → AreEndsOf r ends → n < length r.arcs → nodes_of r (ends_of r n) ≡ known (get_or ends n no_ends)
+pub nodes_at : (r : Rows) (ends : List Ends) (n : ℕ) → AreEndsOf r ends → n < length r.arcs → nodes_of r (get_or r.arcs n no_arc_row) ≡ known (get_or ends n no_ends)
 nodes_at r ends n are here =
     nodes_below r ends (length r.arcs) n (are ∙ sym (take_all (length r.arcs) (map (nodes_of r) r.arcs) (omega (arith, length-map r.arcs (nodes_of r))))) here (omega arith)
 
@@ -41,7 +41,7 @@ there_by name names f None y is e = cc
 there_by name names f (Some k) y is e = found_contains name names k is
 
 -- an arc whose two ends were found names two nodes
-pub not_unknown : (r : Rows) (n : ℕ) (e : Ends) → nodes_of r (ends_of r n) ≡ known e → ¬ IsUnknownName r n
+pub not_unknown : (r : Rows) (n : ℕ) (e : Ends) → nodes_of r (get_or r.arcs n no_arc_row) ≡ known e → ¬ IsUnknownName r n
 not_unknown r n e at bad =
     let from : Contains (node_names r) (ends_of r n).0 = there_by (ends_of r n).0 (node_names r) _ (number_of (ends_of r n).0 (node_names r)) e.from refl (ap (λ p. p.0) at) in
     let to : Contains (node_names r) (ends_of r n).1 = there_by (ends_of r n).1 (node_names r) _ (number_of (ends_of r n).1 (node_names r)) e.to refl (ap (λ p. p.1) at) in
@@ -189,14 +189,14 @@ known_same a b e =
 pub repeat_seen : (r : Rows) (ends : List Ends) → AreEndsOf r ends → (n : ℕ) → IsDuplicateArc r n → IsRepeatedEnds ends n
 repeat_seen r ends are n bad =
     let m = bad.1.0 in
-    let lt = length-take-le n r.arcs (omega (arith, bad.0)) in
+    let lt = length-take-le n (map row_ends r.arcs) (omega (arith, bad.0, length-map r.arcs row_ends)) in
     let below : bad.1.0 < n = omega (arith, bad.1.1, lt) in
     let same : ends_of r bad.1.0 ≡ ends_of r n
-    = get_or_default r.arcs m ([], []) (ends_of r n) (omega (arith, below, bad.0)) ∙ sym (get_or-take n r.arcs m (ends_of r n) below) ∙ bad.1.2 in
+    = sym (get_or-map row_ends r.arcs m no_arc_row (ends_of r n) (omega (arith, below, bad.0))) ∙ sym (get_or-take n (map row_ends r.arcs) m (ends_of r n) below) ∙ bad.1.2 in
     let long = length_ends r ends are in
     let twin : get_or ends bad.1.0 no_ends ≡ get_or ends n no_ends
     = known_same (get_or ends bad.1.0 no_ends) (get_or ends n no_ends)
-    (sym (nodes_at r ends m are (omega (arith, below, bad.0))) ∙ ap (nodes_of r) same ∙ nodes_at r ends n are bad.0) in
+    (sym (nodes_at r ends m are (omega (arith, below, bad.0))) ∙ ap (λ (e : List ℕ × List ℕ). (node_of r e.0, node_of r e.1)) same ∙ nodes_at r ends n are bad.0) in
     let le = length-take-le n ends (omega (arith, bad.0, long)) in (
       omega (arith, bad.0, long),
       (bad.1.0, omega (arith, below, le), get_or-take n ends m (get_or ends n no_ends) below ∙ get_or_default ends m (get_or ends n no_ends) no_ends (omega (arith, below, bad.0, long)) ∙ twin),
@@ -216,9 +216,9 @@ seen_repeat r ends d are n again =
     let from = same_name r (ends_of r m).0 (ends_of r n).0 e.from d (ap (λ p. p.0) before) (ap (λ p. p.0) here) in
     let to = same_name r (ends_of r m).1 (ends_of r n).1 e.to d (ap (λ p. p.1) before) (ap (λ p. p.1) here) in
     let same : ends_of r again.1.0 ≡ ends_of r n = λ i. (from i, to i) in
-    let lt = length-take-le n r.arcs (omega (arith, again.0, long)) in (
+    let lt = length-take-le n (map row_ends r.arcs) (omega (arith, again.0, long, length-map r.arcs row_ends)) in (
       omega (arith, again.0, long),
-      (again.1.0, omega (arith, below, lt), get_or-take n r.arcs m (ends_of r n) below ∙ get_or_default r.arcs m (ends_of r n) ([], []) (omega (arith, below, again.0, long)) ∙ same),
+      (again.1.0, omega (arith, below, lt), get_or-take n (map row_ends r.arcs) m (ends_of r n) below ∙ get_or-map row_ends r.arcs m no_arc_row (ends_of r n) (omega (arith, below, again.0, long)) ∙ same),
     )
 
 -- ---- pools

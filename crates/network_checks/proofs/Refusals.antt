@@ -152,8 +152,8 @@ out_first r kind f clear lacks found = kinded_first OutOfRange out_of_range r ki
 
 pub out_next : (r : Rows) → LacksEarlier r (OutOfRange Source 0) → ((n : ℕ) → ¬ Holds r (OutOfRange Source n))
     → ((n : ℕ) → ¬ Holds r (OutOfRange Pool n)) → ((n : ℕ) → ¬ Holds r (OutOfRange Product n))
-    → LacksEarlier r (LeastAboveMost 0)
-out_next r clear s p x = kinded_next OutOfRange out_of_range r (LeastAboveMost 0) clear (all_kinds r OutOfRange s p x (λ n bad. bad) (λ n bad. bad)) refl
+    → ((n : ℕ) → ¬ Holds r (OutOfRange Arc n)) → LacksEarlier r (LeastAboveMost 0)
+out_next r clear s p x a = kinded_next OutOfRange out_of_range r (LeastAboveMost 0) clear (all_kinds r OutOfRange s p x (λ n bad. bad) a) refl
 
 -- rows that are all good: by what was found of the same rows
 pub all_good : {T Y : Type 0} (P : Y → Type 0) (f : T → Y) (d : Y) (xs ys : List T) → xs ≡ ys

@@ -1,10 +1,11 @@
 //! The arcs of a file, with the names of their ends looked up.
 
-ghost use Rattle.std.specs.Prelude.{◌≡◌, ◌≢◌, ℕ, ◌<◌, ◌≤◌, map, length, IfOk, OnOk, IfErr, ◌↔◌, IsTrue, Contains};
-ghost use Rattle.std.specs.List.{filter_map};
-ghost use Rattle.network_parts.specs.Parts.{rows_of, arc_ends};
+ghost use Rattle.std.specs.Prelude.{◌≡◌, ◌≢◌, ℕ, ◌<◌, ◌≤◌, map, length, IfOk, OnOk, IfErr, ◌↔◌, IsTrue, Contains, unsigned_abs};
+ghost use Rattle.std.specs.List.{filter_map, zip};
+ghost use Rattle.network_parts.specs.Parts.{rows_of, arc_row};
 ghost use Rattle.network_parts.specs.Views.{kept_arc};
 ghost use Rattle.std.specs.Option.{option_map};
+ghost use Rattle.pool_model.specs.Naming.{arc_of};
 ghost use Rattle.network_checks.specs.Names.{names_in};
 ghost use Rattle.network_parts.specs.Faults.{node_names, IsUnknownName};
 ghost use Rattle.network_parts.specs.Ready.{IsCounted, IsDistinct, AreEndsOf, IsMarked, IsRepeatedEnds, AreArcsOf};
@@ -14,7 +15,7 @@ ghost use Rattle.network_parts.specs.Nodes.{node_of, both_ends, known, node_by_p
 use crate::names::find_name;
 use crate::paths::paths_from;
 use indexmap::IndexSet;
-use network_parts::{Arc, Arcs, Ends, NetFault, Node, Parts};
+use network_parts::{Arc, ArcRow, Arcs, Ends, NetFault, Node, Parts};
 use std::alloc::{AllocError, Global};
 
 /// The ends of each arc. Refuses the first arc with an end that names no node.
@@ -30,7 +31,7 @@ pub(crate) fn ends_of(
 {
     let mut ends = Vec::new(alloc);
     for (n, arc) in parts.arcs.iter().enumerate() {
-        let Some(pair) = find_ends(parts, names, arc.0.as_str(), arc.1.as_str()) else {
+        let Some(pair) = find_ends(parts, names, arc.from.as_str(), arc.to.as_str()) else {
             return Err(NetFault::UnknownName(n as u32));
         };
         ends.push(pair)?;
@@ -83,9 +84,9 @@ pub(crate) fn arcs_from(alloc: Global, parts: &Parts, ends: &[Ends]) -> Result<A
     requires found { AreEndsOf (rows_of parts.now) ends.now }
     ensures { IfOk result (AreArcsOf (rows_of parts.now)) }
 {
-    let feeds = feeds_of(alloc, ends)?;
-    let outs = outs_of(alloc, ends)?;
-    let directs = directs_of(alloc, ends)?;
+    let feeds = feeds_of(alloc, &parts.arcs, ends)?;
+    let outs = outs_of(alloc, &parts.arcs, ends)?;
+    let directs = directs_of(alloc, &parts.arcs, ends)?;
     let paths = paths_from(alloc, parts.pools.len() as u32, &feeds, &outs)?;
     Ok(Arcs {
         feeds,
@@ -95,57 +96,82 @@ pub(crate) fn arcs_from(alloc: Global, parts: &Parts, ends: &[Ends]) -> Result<A
     })
 }
 
-/// The feeds among the arcs.
-fn feeds_of(alloc: Global, ends: &[Ends]) -> Result<Vec<Arc>, AllocError>
-    ensures { IfOk result (λ v. v.items ≡ filter_map (λ e. option_map kept_arc (feed_between (known e))) ends.now) }
+/// The feeds among the arcs, of which these are the rows and the ends.
+fn feeds_of(alloc: Global, rows: &[ArcRow], ends: &[Ends]) -> Result<Vec<Arc>, AllocError>
+    ensures { IfOk result (λ v. v.items ≡ filter_map (λ x. option_map kept_arc (feed_between (arc_row x.0) (known x.1))) (zip rows.now ends.now)) }
 {
-    ends.iter()
-        .filter_map(|pair| feed_from(*pair))
+    rows.iter()
+        .zip(ends)
+        .filter_map(|(row, pair)| feed_from(row, *pair))
         .collect(alloc)
 }
 
-fn feed_from(ends: Ends) -> Option<Arc>
-    ensures { result ≡ option_map kept_arc (feed_between (known ends)) }
+fn feed_from(row: &ArcRow, ends: Ends) -> Option<Arc>
+    ensures { result ≡ option_map kept_arc (feed_between (arc_row row.now) (known ends)) }
 {
     match (ends.from, ends.to) {
-        (Node::Source(from), Node::Pool(to)) => Some(Arc { from, to }),
+        (Node::Source(from), Node::Pool(to)) => Some(joined(row, from, to)),
         _ => None,
     }
 }
 
-/// The outs among the arcs.
-fn outs_of(alloc: Global, ends: &[Ends]) -> Result<Vec<Arc>, AllocError>
-    ensures { IfOk result (λ v. v.items ≡ filter_map (λ e. option_map kept_arc (out_between (known e))) ends.now) }
+/// The outs among the arcs, of which these are the rows and the ends.
+fn outs_of(alloc: Global, rows: &[ArcRow], ends: &[Ends]) -> Result<Vec<Arc>, AllocError>
+    ensures { IfOk result (λ v. v.items ≡ filter_map (λ x. option_map kept_arc (out_between (arc_row x.0) (known x.1))) (zip rows.now ends.now)) }
 {
-    ends.iter()
-        .filter_map(|pair| out_from(*pair))
+    rows.iter()
+        .zip(ends)
+        .filter_map(|(row, pair)| out_from(row, *pair))
         .collect(alloc)
 }
 
-fn out_from(ends: Ends) -> Option<Arc>
-    ensures { result ≡ option_map kept_arc (out_between (known ends)) }
+fn out_from(row: &ArcRow, ends: Ends) -> Option<Arc>
+    ensures { result ≡ option_map kept_arc (out_between (arc_row row.now) (known ends)) }
 {
     match (ends.from, ends.to) {
-        (Node::Pool(from), Node::Product(to)) => Some(Arc { from, to }),
+        (Node::Pool(from), Node::Product(to)) => Some(joined(row, from, to)),
         _ => None,
     }
 }
 
-/// The directs among the arcs.
-fn directs_of(alloc: Global, ends: &[Ends]) -> Result<Vec<Arc>, AllocError>
-    ensures { IfOk result (λ v. v.items ≡ filter_map (λ e. option_map kept_arc (direct_between (known e))) ends.now) }
+/// The directs among the arcs, of which these are the rows and the ends.
+fn directs_of(alloc: Global, rows: &[ArcRow], ends: &[Ends]) -> Result<Vec<Arc>, AllocError>
+    ensures { IfOk result (λ v. v.items ≡ filter_map (λ x. option_map kept_arc (direct_between (arc_row x.0) (known x.1))) (zip rows.now ends.now)) }
 {
-    ends.iter()
-        .filter_map(|pair| direct_from(*pair))
+    rows.iter()
+        .zip(ends)
+        .filter_map(|(row, pair)| direct_from(row, *pair))
         .collect(alloc)
 }
 
-fn direct_from(ends: Ends) -> Option<Arc>
-    ensures { result ≡ option_map kept_arc (direct_between (known ends)) }
+fn direct_from(row: &ArcRow, ends: Ends) -> Option<Arc>
+    ensures { result ≡ option_map kept_arc (direct_between (arc_row row.now) (known ends)) }
 {
     match (ends.from, ends.to) {
-        (Node::Source(from), Node::Product(to)) => Some(Arc { from, to }),
+        (Node::Source(from), Node::Product(to)) => Some(joined(row, from, to)),
         _ => None,
+    }
+}
+
+/// The row's arc, by the numbers of its ends.
+fn joined(row: &ArcRow, from: u32, to: u32) -> Arc
+    ensures { result ≡ kept_arc (arc_of (arc_row row.now) from to) }
+{
+    Arc {
+        from,
+        to,
+        cost: row.cost,
+        max: magnitude(row.max),
+    }
+}
+
+/// The maximum without its sign, which is known only once ranges are checked.
+fn magnitude(max: Option<i128>) -> Option<u128>
+    ensures { result ≡ option_map unsigned_abs max }
+{
+    match max {
+        Some(max) => Some(max.unsigned_abs()),
+        None => None,
     }
 }
 

@@ -11,7 +11,7 @@ use crate::arcs::{arcs_from, check_forward, check_layers, check_repeats, ends_of
 use crate::names::{add_names, check_names_of};
 use crate::paths::check_paths;
 use crate::pools::{check_inputs, check_outputs};
-use crate::ranges::{check_limits, check_pools, check_products, check_sources};
+use crate::ranges::{check_carriage, check_limits, check_pools, check_products, check_sources};
 use indexmap::IndexSet;
 use network_parts::{Arcs, Ends, Kind, NetFault, Parts};
 use std::alloc::Global;
@@ -212,6 +212,7 @@ fn check_numbers(parts: &Parts) -> Result<(), NetFault>
     check_sources(&parts.sources)?;
     check_pools(&parts.pools)?;
     check_products(&parts.products)?;
+    check_carriage(&parts.arcs)?;
     check_limits(&parts.products)?;
     Ok(())
 }

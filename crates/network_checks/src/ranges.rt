@@ -3,21 +3,24 @@
 ghost use Rattle.std.specs.Prelude.{◌≡◌, ◌↔◌, ℕ, ◌<◌, ◌≤◌, ◌^◌, map, length, get_or, IsTrue, OnOk, IfErr, All};
 ghost use Rattle.std.specs.Option.{ForSome};
 ghost use Rattle.pool_model.specs.Network.{IsWithin};
-ghost use Rattle.network_parts.specs.Parts.{source_row, pool_row, product_row};
+ghost use Rattle.network_parts.specs.Parts.{source_row, pool_row, product_row, arc_row};
 ghost use Rattle.faults.specs.First.{IsFirstOf};
-ghost use Rattle.network_parts.specs.Faults.{IsUpTo, IsSourceInRange, IsPoolInRange, IsProductInRange, IsOrderly, IsSourceOutAt, IsPoolOutAt, IsProductOutAt};
-ghost use Rattle.network_parts.specs.Faults.{IsDisorderlyAt, AreOrderly, AreLimits, IsInOrder, no_source_row, no_pool_row, no_product_row};
+ghost use Rattle.network_parts.specs.Faults.{IsUpTo, IsSourceInRange, IsPoolInRange, IsProductInRange, IsArcInRange, IsOrderly, IsSourceOutAt, IsPoolOutAt, IsProductOutAt, IsArcOutAt};
+ghost use Rattle.network_parts.specs.Faults.{IsDisorderlyAt, AreOrderly, AreLimits, IsInOrder, no_source_row, no_pool_row, no_product_row, no_arc_row};
 
-use network_parts::{Kind, NetFault, PoolRow, ProductRow, SourceRow};
+use network_parts::{ArcRow, Kind, NetFault, PoolRow, ProductRow, SourceRow};
 
-/// The most that a cost, a price, a product's minimum or its maximum is, in millionths.
+/// The most that a cost of a source or an arc, a price, a product's minimum or its maximum is, in millionths.
 const MAX_MONEY: u64 = 1_000_000_000_000;
 
-/// The most that can flow out of a source or through a pool, in millionths.
+/// The most that can flow out of a source, through a pool or along an arc, in millionths.
 const MAX_SUPPLY: u64 = 100_000_000_000_000;
 
 /// The most that a quality or a limit on it is, in millionths.
 const MAX_QUALITY: u64 = 100_000_000_000;
+
+/// The most thousandths of a quality that leave a pool.
+const MAX_RATIO: u64 = 1000;
 
 /// Refuses the first source with a number outside its range.
 pub(crate) fn check_sources(rows: &[SourceRow]) -> Result<(), NetFault>
@@ -61,6 +64,20 @@ pub(crate) fn check_products(rows: &[ProductRow]) -> Result<(), NetFault>
     Ok(())
 }
 
+/// Refuses the first arc with a cost or a maximum outside its range.
+pub(crate) fn check_carriage(rows: &[ArcRow]) -> Result<(), NetFault>
+    requires { length rows.now ≤ 256 }
+    ensures good { OnOk result ((n : ℕ) → n < length rows.now → IsArcInRange (get_or (map arc_row rows.now) n no_arc_row)) }
+    ensures first { IfErr result (IsFirstOf (NetFault.OutOfRange Kind.Arc) (IsArcOutAt (map arc_row rows.now))) }
+{
+    for (n, row) in rows.iter().enumerate() {
+        if !is_arc_in_range(row) {
+            return Err(NetFault::OutOfRange(Kind::Arc, n as u32));
+        }
+    }
+    Ok(())
+}
+
 /// Refuses the first product whose minimum is above its maximum, or with a least limit above the most limit of the same
 /// quality.
 pub(crate) fn check_limits(rows: &[ProductRow]) -> Result<(), NetFault>
@@ -85,7 +102,13 @@ fn is_source_in_range(row: &SourceRow) -> bool
 fn is_pool_in_range(row: &PoolRow) -> bool
     ensures { IsTrue result ↔ IsPoolInRange (pool_row row.now) }
 {
-    is_supply(row.max)
+    is_supply(row.max) && are_ratios(&row.ratio)
+}
+
+fn is_arc_in_range(row: &ArcRow) -> bool
+    ensures { IsTrue result ↔ IsArcInRange (arc_row row.now) }
+{
+    is_within(row.cost, MAX_MONEY) && is_supply(row.max)
 }
 
 fn is_product_in_range(row: &ProductRow) -> bool
@@ -136,7 +159,7 @@ fn is_in_order(least: Option<i128>, most: Option<i128>) -> bool
     }
 }
 
-/// Whether this may be a maximum of a source or a pool, where there is one.
+/// Whether this may be a maximum of a source, a pool or an arc, where there is one.
 fn is_supply(max: Option<i128>) -> bool
     ensures { IsTrue result ↔ ForSome max (IsUpTo (10 ^ 14)) }
 {
@@ -144,6 +167,12 @@ fn is_supply(max: Option<i128>) -> bool
         Some(max) => is_up_to(max, MAX_SUPPLY),
         None => true,
     }
+}
+
+fn are_ratios(numbers: &[i128]) -> bool
+    ensures { IsTrue result ↔ All (IsUpTo 1000) numbers.now }
+{
+    numbers.iter().all(|number| is_up_to(*number, MAX_RATIO))
 }
 
 fn are_qualities(numbers: &[i128]) -> bool

@@ -1,6 +1,6 @@
 -- The rows of a made network stand for it and have no fault, whatever the seed.
 use Rattle.std.proofs.Common.{◌≡◌, ◌≢◌, ℕ, ◌+◌, ◌*◌, ◌<◌, ◌≤◌, ◌⊎◌, inl, inr, List, [], ◌∷◌, ◌++◌, length, map, take, get_or, All, Contains, Bool, true, false}
-use Rattle.std.proofs.Common.{◌&&◌, ◌||◌, not, is_some, refl, sym, ap, subst, ◌∙◌, arith}
+use Rattle.std.proofs.Common.{◌&&◌, ◌||◌, ◌==◌, not, is_some, is_none, unsigned_abs, refl, sym, ap, subst, ◌∙◌, arith}
 use Rattle.std.proofs.lemmas.List.Elements.{All-nil, All-cons, All-get_or}
 use Rattle.integers.specs.Numbers.{tabulate}
 use Rattle.integers.proofs.Tabulate.{length-tabulate, get_or-tabulate, tabulate-same, All-tabulate}
@@ -17,7 +17,7 @@ use Rattle.network_parts.specs.declared.fault.NetFault.TheVariants.{TooMany, Bad
 use Rattle.network_parts.specs.declared.fault.NetFault.TheVariants.{PoolWithoutInput, PoolWithoutOutput, TooManyPaths, OutOfRange, LeastAboveMost, Memory}
 use Rattle.network_parts.specs.Faults.{IsTooMany, IsName, IsBadAt, IsBadName, IsRepeatAt, IsDuplicateName, IsUnknownName, IsArcBackwards, IsPoolToPool}
 use Rattle.network_parts.specs.Faults.{IsDuplicateArc, IsOutOfRange, IsLeastAboveMost, IsFaultless, IsSourceInRange, IsPoolInRange, IsProductInRange, IsOrderly}
-use Rattle.network_parts.specs.Faults.{no_source_row, no_pool_row, no_product_row}
+use Rattle.network_parts.specs.Faults.{IsArcInRange, no_source_row, no_pool_row, no_product_row, no_arc_row, row_ends}
 use Rattle.network_parts.specs.FirstFault.{Holds, IsFirstFault}
 use Rattle.blend_network.specs.Canonical.{canonical_source, canonical_pool, canonical_product, canonical_rows}
 use Rattle.drawn_numbers.specs.Draws.{state_after}
@@ -25,7 +25,7 @@ use Rattle.network_maker.specs.Generated.{generated, named_source, named_pool, n
 use Rattle.network_maker.specs.Rows.{source_rows, pool_rows, product_rows, arc_rows}
 use Rattle.drawn_numbers.proofs.Steps.{state_after-add}
 use Rattle.network_maker.proofs.Tests.{has, name_code, ends_code, absent, not_all, named, left, right}
-use Rattle.network_maker.proofs.Numbers.{source_in_range, pool_in_range, product_in_range, product_orderly}
+use Rattle.network_maker.proofs.Numbers.{free, source_in_range, pool_in_range, product_in_range, product_orderly}
 
 -- ---- the network of the rows
 
@@ -42,6 +42,7 @@ rectangular seed = record {
   sources = every (λ s. length s.quality ≡ 2) (λ i. canonical_source (drawn_source (state_after seed (4 * i)) i)) 10 (λ i. refl);
   least = every (λ p. length p.least ≡ 2) (λ j. canonical_product (drawn_product (state_after seed (43 + 4 * j)) j)) 6 (λ j. refl);
   most = every (λ p. length p.most ≡ 2) (λ j. canonical_product (drawn_product (state_after seed (43 + 4 * j)) j)) 6 (λ j. refl);
+  ratio = every (λ p. length p.ratio ≡ 2) (λ l. canonical_pool (drawn_pool (state_after seed (40 + l)) l)) 3 (λ l. refl);
 }
 
 -- rows drawn kind by kind are those of the network
@@ -123,7 +124,11 @@ distinct seed Arc n again = absurd (omega (arith, again.0))
 -- ---- arcs
 
 abbrev ends_at : ℕ → List ℕ × List ℕ
-ends_at n = get_or arc_rows n ([], [])
+ends_at n = row_ends (get_or arc_rows n no_arc_row)
+
+-- the names of the ends of all arcs
+abbrev all_ends : List (List ℕ × List ℕ)
+all_ends = map row_ends arc_rows
 
 abbrev is_known : ℕ → Bool
 is_known n = is_some (number_of (ends_at n).0 node_list) && is_some (number_of (ends_at n).1 node_list)
@@ -163,11 +168,21 @@ all_single n bad = elim (one_of (is_among pool_list (ends_at n).0) (is_among poo
 ]
 
 abbrev is_once : ℕ → Bool
-is_once n = not (has (ends_code (ends_at n)) (map ends_code (take n arc_rows)))
+is_once n = not (has (ends_code (ends_at n)) (map ends_code (take n all_ends)))
 
-all_once : (n : ℕ) → ¬ ((n < 44) × Contains (take n arc_rows) (ends_at n))
+all_once : (n : ℕ) → ¬ ((n < 44) × Contains (take n all_ends) (ends_at n))
 all_once n bad =
-    absent ends_code (take n arc_rows) (ends_at n) (refuted (has (ends_code (ends_at n)) (map ends_code (take n arc_rows))) (all_below-each is_once 44 n refl bad.0)) bad.1
+    absent ends_code (take n all_ends) (ends_at n) (refuted (has (ends_code (ends_at n)) (map ends_code (take n all_ends))) (all_below-each is_once 44 n refl bad.0)) bad.1
+
+-- no arc costs anything or has a maximum
+abbrev is_free : ℕ → Bool
+is_free n = (unsigned_abs (get_or arc_rows n no_arc_row).cost == 0) && is_none (get_or arc_rows n no_arc_row).max
+
+all_free : (n : ℕ) → ¬ ((n < 44) × ¬ IsArcInRange (get_or arc_rows n no_arc_row))
+all_free n bad =
+    let a = get_or arc_rows n no_arc_row in
+    let both : is_free n ≡ true = all_below-each is_free 44 n refl bad.0 in
+    bad.1 (free a (left (unsigned_abs a.cost == 0) (is_none a.max) both) (right (unsigned_abs a.cost == 0) (is_none a.max) both))
 
 -- ---- pools and paths
 
@@ -197,7 +212,7 @@ in_range seed Product n bad =
     let f = λ (j : ℕ). canonical_product (drawn_product (state_after seed (43 + 4 * j)) j) in
     bad.1 (All-get_or IsProductInRange (tabulate f 6) n no_product_row bad.0 (every IsProductInRange f 6 (λ j. product_in_range (state_after seed (43 + 4 * j)) j)))
 in_range seed Quality n bad = bad
-in_range seed Arc n bad = bad
+in_range seed Arc n bad = all_free n bad
 
 in_order : (seed n : ℕ) → ¬ IsLeastAboveMost (canonical_rows (generated seed)) n
 unfolding generated

@@ -1,10 +1,12 @@
 -- The numbers of a made network are in their ranges, whatever is drawn.
-use Rattle.std.proofs.Common.{◌≡◌, ℕ, zero, suc, ◌+◌, ◌≤◌, ◌^◌, ℤ, pos, List, [], ◌∷◌, get_or, All, Option, None, Some, refl, subst, arith}
+use Rattle.std.proofs.Common.{◌≡◌, ℕ, zero, suc, ◌+◌, ◌≤◌, ◌^◌, ℤ, pos, List, [], ◌∷◌, get_or, All, Option, None, Some, true, ◌==◌, is_none, unsigned_abs, refl, subst, arith}
 use Rattle.std.specs.Option.{ForSome}
 use Rattle.std.proofs.lemmas.List.Elements.{All-nil, All-cons}
 use Rattle.std.proofs.lemmas.Int.{ints}
+use Rattle.std.proofs.lemmas.Bool.Decides.{nat_tests}
+use Rattle.pool_model.specs.Rows.{ArcRow}
 use Rattle.pool_model.specs.Network.{IsWithin}
-use Rattle.network_parts.specs.Faults.{IsUpTo, IsSourceInRange, IsPoolInRange, IsProductInRange, AreOrderly, IsOrderly}
+use Rattle.network_parts.specs.Faults.{IsUpTo, IsSourceInRange, IsPoolInRange, IsProductInRange, IsArcInRange, AreOrderly, IsOrderly}
 use Rattle.blend_network.specs.Canonical.{canonical_source, canonical_pool, canonical_product}
 use Rattle.drawn_numbers.specs.Draws.{draw}
 use Rattle.network_maker.specs.Generated.{in_units, in_tenths, drawn_source, drawn_pool, drawn_product}
@@ -33,7 +35,23 @@ source_in_range s i = record {
 }
 
 pub pool_in_range : (s l : ℕ) → IsPoolInRange (canonical_pool (drawn_pool s l))
-pool_in_range s l = record { max = some (IsUpTo (10 ^ 14)) (pos (in_units (100 + draw s 0 201))) (up_to (10 ^ 14) (in_units (100 + draw s 0 201)) (omega arith)) }
+pool_in_range s l = record {
+  max = some (IsUpTo (10 ^ 14)) (pos (in_units (100 + draw s 0 201))) (up_to (10 ^ 14) (in_units (100 + draw s 0 201)) (omega arith));
+  ratio = both_all (IsUpTo 1000) (pos 1000) (pos 1000) (up_to 1000 1000 (omega arith)) (up_to 1000 1000 (omega arith));
+}
+
+-- an arc that costs nothing and has no maximum
+pub free : (a : ArcRow) → (unsigned_abs a.cost == 0) ≡ true → is_none a.max ≡ true → IsArcInRange a
+free a nothing absent = record { cost = by_cost a.cost nothing; max = by_max a.max absent }
+  where
+    by_cost : (z : ℤ) → (unsigned_abs z == 0) ≡ true → IsWithin (10 ^ 12) z
+    by_cost z e =
+        let least : unsigned_abs z ≡ 0 = grind (arith, nat_tests) in
+        (omega (arith, ints), omega (arith, ints))
+
+    by_max : (o : Option ℤ) → is_none o ≡ true → ForSome o (IsUpTo (10 ^ 14))
+    by_max None e = none (IsUpTo (10 ^ 14))
+    by_max (Some m) e = absurd cc
 
 limit : (n : ℕ) → n ≤ 10 ^ 11 → ForSome (Some (pos n)) (IsWithin (10 ^ 11))
 limit n h = some (IsWithin (10 ^ 11)) (pos n) (within (10 ^ 11) n h)

@@ -43,9 +43,9 @@ drawn_source s i = record {
   quality = pos (in_tenths (10 + draw s 1 41)) ∷ pos (in_tenths (10 + draw s 2 41)) ∷ [];
 }
 
--- one draw: the maximum
+-- one draw: the maximum. A made pool removes nothing.
 abbrev pub drawn_pool : ℕ → ℕ → Pool
-drawn_pool s l = record { name = named_pool l; max = in_units (100 + draw s 0 201) }
+drawn_pool s l = record { name = named_pool l; max = in_units (100 + draw s 0 201); ratio = 1000 ∷ 1000 ∷ [] }
 
 -- four draws: the price, the maximum, the most of each quality
 abbrev pub drawn_product : ℕ → ℕ → Product
@@ -60,8 +60,9 @@ drawn_product s j = record {
 
 -- ---- arcs
 
+-- a made arc costs nothing and has no maximum
 abbrev pub arc : ℕ → ℕ → Arc
-arc from to = record { from = from; to = to }
+arc from to = record { from = from; to = to; cost = pos 0; max = None }
 
 -- a source feeds the pool that is the rest of its number by three, and that of the number behind it
 abbrev pub feeds_pool : ℕ → ℕ → Bool

@@ -1,18 +1,22 @@
 //! What follows from the definitions, for the proofs of the crates above. There is no code here.
 
-ghost use Rattle.std.specs.Prelude.{◌≡◌, ℕ, [], ◌∷◌, length, map, pos, Some, get_or};
+ghost use Rattle.std.specs.Prelude.{◌≡◌, ℕ, [], ◌∷◌, length, map, pos, Some, true, get_or};
 ghost use Rattle.pool_model.specs.Network.{net_of, counts_of, no_source, no_product};
+ghost use Rattle.pool_model.specs.Plain.{is_plain};
 ghost use Rattle.pool_model.specs.Paths.{paths_of};
 ghost use Rattle.blend_network.specs.Made.{IsMade};
 ghost use Rattle.drawn_numbers.specs.Draws.{state_after, draw};
 ghost use Rattle.network_maker.specs.Generated.{generated};
 
-/// Whatever the number, there are rows without a fault that stand for the network, and so many of each kind.
+/// Whatever the number, there are rows without a fault that stand for the network, and so many of each kind. A file of version 1
+/// can say it.
 pub fn generated_law()
     // Promise: The rows of a made network have no fault, and so many of each kind are there
     ensures made { (seed : ℕ) → IsMade (generated seed) }
     ensures counts { (seed : ℕ) → counts_of (net_of (generated seed)) ≡ 10 ∷ 3 ∷ 6 ∷ 2 ∷ 20 ∷ 18 ∷ 6 ∷ [] }
     ensures paths { (seed : ℕ) → length (paths_of (net_of (generated seed))) ≡ 120 }
+    // Promise: A made network is one that a file of version 1 can say
+    ensures plain { (seed : ℕ) → is_plain (generated seed) ≡ true }
 {}
 
 /// What the number 7 makes, computed by the checker.

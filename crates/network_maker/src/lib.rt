@@ -2,7 +2,8 @@
 //!
 //! [`make_network`] draws the numbers of a network, one after another, from a seed: ten sources, three pools and six products
 //! with two qualities. Each source feeds two of the three pools, each pool sends to each product, and six sources send to a product
-//! each. `drawn_numbers` says which numbers are drawn, and `specs/Generated.antt` which network they make.
+//! each. Arcs cost nothing and have no maximum, and pools remove nothing, so a file of version 1 can say the network. `drawn_numbers`
+//! says which numbers are drawn, and `specs/Generated.antt` which network they make.
 //!
 //! The layer above may use `make_network`. It has no reason to fail but want of memory: the rows of a made network have no fault,
 //! whatever the seed. How a network is written as text is left to the crates above.

@@ -1,14 +1,14 @@
 //! The rows of a made network.
 
 ghost use Rattle.std.specs.Prelude.{◌≡◌, ◌<◌, ◌++◌, map, string_bytes, IfOk, OnOk, pos};
-ghost use Rattle.network_parts.specs.Parts.{source_row, pool_row, product_row, arc_ends, rows_of};
+ghost use Rattle.network_parts.specs.Parts.{source_row, pool_row, product_row, arc_row, rows_of};
 ghost use Rattle.blend_network.specs.Canonical.{canonical_source, canonical_pool, canonical_product, canonical_rows};
 ghost use Rattle.drawn_numbers.specs.Draws.{state_after};
 ghost use Rattle.network_maker.specs.Generated.{generated, feeds_pool, drawn_source, drawn_pool, drawn_product, named_quality, named_source, named_pool, named_product, in_units, in_tenths};
-ghost use Rattle.network_maker.specs.Rows.{source_rows, pool_rows, product_rows, feed_ends, out_ends, direct_ends, arc_rows};
+ghost use Rattle.network_maker.specs.Rows.{source_rows, pool_rows, product_rows, feed_rows, out_rows, free_arc, arc_rows};
 ghost use Rattle.integers.specs.Numbers.{tabulate};
 
-use blend_network::{Parts, PoolRow, ProductRow, SourceRow};
+use blend_network::{ArcRow, Parts, PoolRow, ProductRow, SourceRow};
 use drawn_numbers::Draws;
 use std::alloc::{AllocError, Global};
 
@@ -19,9 +19,6 @@ const SOURCES: u32 = 10;
 const POOLS: u32 = 3;
 
 const PRODUCTS: u32 = 6;
-
-/// An arc, by the names of its ends.
-type Ends = (String, String);
 
 /// The rows of the network that a number makes: all numbers are drawn source by source, pool by pool, product by product.
 pub(crate) fn rows(alloc: Global, seed: u64) -> Result<Parts, AllocError>
@@ -91,7 +88,7 @@ fn pools(alloc: Global, draws: &mut Draws) -> Result<Vec<PoolRow>, AllocError>
     Ok(rows)
 }
 
-/// A pool: its maximum is drawn.
+/// A pool: its maximum is drawn. It removes nothing.
 #[tactic(auto, unfolding(drawn_numbers::specs::Draws::state_after))]
 fn pool(alloc: Global, draws: &mut Draws, l: u32) -> Result<PoolRow, AllocError>
     requires { l < 10 }
@@ -102,6 +99,7 @@ fn pool(alloc: Global, draws: &mut Draws, l: u32) -> Result<PoolRow, AllocError>
     Ok(PoolRow {
         name: pool_name(alloc, l)?,
         max: Some(max),
+        ratio: vec![in alloc; 1000, 1000]?,
     })
 }
 
@@ -137,8 +135,8 @@ fn product(alloc: Global, draws: &mut Draws, j: u32) -> Result<ProductRow, Alloc
 }
 
 /// The arcs: feeds, then outs, then directs.
-fn arcs(alloc: Global) -> Result<Vec<Ends>, AllocError>
-    ensures { IfOk result (λ v. map arc_ends v.items ≡ arc_rows) }
+fn arcs(alloc: Global) -> Result<Vec<ArcRow>, AllocError>
+    ensures { IfOk result (λ v. map arc_row v.items ≡ arc_rows) }
 {
     let mut arcs = Vec::new(alloc);
     'feeds: for i in 0..SOURCES {
@@ -148,19 +146,19 @@ fn arcs(alloc: Global) -> Result<Vec<Ends>, AllocError>
         add_outs(alloc, &mut arcs, l)?;
     }
     'directs: for i in 0..PRODUCTS {
-        arcs.push((source_name(alloc, i)?, product_name(alloc, i)?))?;
+        arcs.push(free_arc(source_name(alloc, i)?, product_name(alloc, i)?))?;
     }
     Ok(arcs)
 }
 
 /// Adds the arcs from a source to the pools that it feeds.
-fn add_feeds(alloc: Global, arcs: &mut Vec<Ends>, i: u32) -> Result<(), AllocError>
+fn add_feeds(alloc: Global, arcs: &mut Vec<ArcRow>, i: u32) -> Result<(), AllocError>
     requires { i < 10 }
-    ensures { OnOk result (map arc_ends arcs.new.items ≡ map arc_ends arcs.old.items ++ feed_ends i) }
+    ensures { OnOk result (map arc_row arcs.new.items ≡ map arc_row arcs.old.items ++ feed_rows i) }
 {
     for l in 0..POOLS {
         if feeds(i, l) {
-            arcs.push((source_name(alloc, i)?, pool_name(alloc, l)?))?;
+            arcs.push(free_arc(source_name(alloc, i)?, pool_name(alloc, l)?))?;
         }
     }
     Ok(())
@@ -175,14 +173,26 @@ fn feeds(i: u32, l: u32) -> bool
 }
 
 /// Adds the arcs from a pool to every product.
-fn add_outs(alloc: Global, arcs: &mut Vec<Ends>, l: u32) -> Result<(), AllocError>
+fn add_outs(alloc: Global, arcs: &mut Vec<ArcRow>, l: u32) -> Result<(), AllocError>
     requires { l < 10 }
-    ensures { OnOk result (map arc_ends arcs.new.items ≡ map arc_ends arcs.old.items ++ out_ends l) }
+    ensures { OnOk result (map arc_row arcs.new.items ≡ map arc_row arcs.old.items ++ out_rows l) }
 {
     for j in 0..PRODUCTS {
-        arcs.push((pool_name(alloc, l)?, product_name(alloc, j)?))?;
+        arcs.push(free_arc(pool_name(alloc, l)?, product_name(alloc, j)?))?;
     }
     Ok(())
+}
+
+/// An arc that costs nothing and has no maximum.
+fn free_arc(from: String, to: String) -> ArcRow
+    ensures { arc_row result ≡ free_arc (string_bytes from) (string_bytes to) }
+{
+    ArcRow {
+        from,
+        to,
+        cost: 0,
+        max: None,
+    }
 }
 
 #[tactic(auto, using(std::proofs::lemmas::Fmt::decimal_digit))]

@@ -20,6 +20,15 @@ holds_at P f xs n x d h is good = subst P (sym (read-map f xs n x d (omega (arit
 pub held_at : {X Y : Type 0} (P : Y → Type 0) (f : X → Y) (xs : List X) (n : ℕ) (x : X) (d : Y) → n < length xs → x ≡ get_or xs n x → P (get_or (map f xs) n d) → P (f x)
 held_at P f xs n x d h is good = subst P (read-map f xs n x d (omega (arith, length-map xs f)) is) good
 
+-- a list that is mapped as far as it was read, and one element more
+pub taken_more : {X Y : Type 0} (f : X → Y) (xs : List X) (done done' : List Y) (i : ℕ) (d : X) → done ≡ map f (take i xs) → i < length xs → done' ≡ done ++ f (get_or xs i d) ∷ []
+    → done' ≡ map f (take (i + 1) xs)
+taken_more f xs done done' i d is h pushed =
+    pushed
+    ∙ ap (λ ys. ys ++ f (get_or xs i d) ∷ []) is
+    ∙ sym (map-append f (take i xs) (get_or xs i d ∷ []))
+    ∙ ap (map f) (sym (take_more xs i d h))
+
 -- a mapped list, one element after another
 pub map_more : {X M Y E : Type 0} (known : E → Y) (g : M → Y) (f : X → M) (xs : List X) (done done' : List E) (n : ℕ) (x : X) (e : E)
     → map known done ≡ take n (map g (map f xs)) → n < length xs → x ≡ get_or xs n x → done' ≡ done ++ e ∷ [] → known e ≡ g (f x) → map known done' ≡ take (n + 1) (map g (map f xs))

@@ -1,7 +1,7 @@
 -- When the rows of a file are no network: each reason to refuse them.
-use Rattle.std.specs.Prelude.{◌≡◌, ℕ, ◌^◌, ◌<◌, ◌≤◌, ◌⊎◌, List, [], ◌++◌, length, take, get_or, All, Contains, Option, None, Some, ℤ, pos, ◌≤ℤ◌}
+use Rattle.std.specs.Prelude.{◌≡◌, ℕ, ◌^◌, ◌<◌, ◌≤◌, ◌⊎◌, List, [], ◌++◌, length, map, take, get_or, All, Contains, Option, None, Some, ℤ, pos, ◌≤ℤ◌}
 use Rattle.std.specs.Option.{ForSome}
-use Rattle.pool_model.specs.Rows.{SourceRow, PoolRow, ProductRow, Rows}
+use Rattle.pool_model.specs.Rows.{SourceRow, PoolRow, ProductRow, ArcRow, Rows}
 use Rattle.pool_model.specs.Naming.{source_names, pool_names, product_names, network_of}
 use Rattle.pool_model.specs.Network.{net_of, IsWithin}
 use Rattle.pool_model.specs.Paths.{paths_of}
@@ -71,9 +71,16 @@ IsDuplicateName r kind n = IsRepeatAt (names_before r kind) (row_names r kind) n
 abbrev pub node_names : Rows → List (List ℕ)
 node_names r = source_names r ++ pool_names r ++ product_names r
 
+-- what stands behind the end of a list of arcs
+abbrev pub no_arc_row : ArcRow
+no_arc_row = record { from = []; to = []; cost = pos 0; max = None }
+
 -- the names of the two ends of an arc
+abbrev pub row_ends : ArcRow → List ℕ × List ℕ
+row_ends a = (a.from, a.to)
+
 abbrev pub ends_of : Rows → ℕ → List ℕ × List ℕ
-ends_of r n = get_or r.arcs n ([], [])
+ends_of r n = row_ends (get_or r.arcs n no_arc_row)
 
 -- an end names no node
 abbrev pub IsUnknownName : Rows → ℕ → Type 0
@@ -86,9 +93,9 @@ IsArcBackwards r n = (n < length r.arcs) × (Contains (product_names r) (ends_of
 abbrev pub IsPoolToPool : Rows → ℕ → Type 0
 IsPoolToPool r n = (n < length r.arcs) × Contains (pool_names r) (ends_of r n).0 × Contains (pool_names r) (ends_of r n).1
 
--- the same two ends stood before
+-- the same two ends stood before, whatever the arcs cost and carry
 abbrev pub IsDuplicateArc : Rows → ℕ → Type 0
-IsDuplicateArc r n = (n < length r.arcs) × Contains (take n r.arcs) (ends_of r n)
+IsDuplicateArc r n = (n < length r.arcs) × Contains (take n (map row_ends r.arcs)) (ends_of r n)
 
 -- no feed goes to the pool
 abbrev pub IsPoolWithoutInput : Rows → ℕ → Type 0
@@ -114,6 +121,7 @@ pub record IsSourceInRange (s : SourceRow) : Type 0 where
 
 pub record IsPoolInRange (p : PoolRow) : Type 0 where
   pub max : ForSome p.max (IsUpTo (10 ^ 14))
+  pub ratio : All (IsUpTo 1000) p.ratio
 
 -- the limits that are set are in range
 abbrev pub AreLimits : List (Option ℤ) → Type 0
@@ -126,12 +134,16 @@ pub record IsProductInRange (p : ProductRow) : Type 0 where
   pub least : AreLimits p.least
   pub most : AreLimits p.most
 
+pub record IsArcInRange (a : ArcRow) : Type 0 where
+  pub cost : IsWithin (10 ^ 12) a.cost
+  pub max : ForSome a.max (IsUpTo (10 ^ 14))
+
 -- what stands behind the end of a list of rows
 abbrev pub no_source_row : SourceRow
 no_source_row = record { name = []; cost = pos 0; max = None; quality = [] }
 
 abbrev pub no_pool_row : PoolRow
-no_pool_row = record { name = []; max = None }
+no_pool_row = record { name = []; max = None; ratio = [] }
 
 abbrev pub no_product_row : ProductRow
 no_product_row = record { name = []; price = pos 0; min = pos 0; max = pos 0; least = []; most = [] }
@@ -146,12 +158,15 @@ IsPoolOutAt rows n = (n < length rows) × ¬ IsPoolInRange (get_or rows n no_poo
 abbrev pub IsProductOutAt : List ProductRow → ℕ → Type 0
 IsProductOutAt rows n = (n < length rows) × ¬ IsProductInRange (get_or rows n no_product_row)
 
+abbrev pub IsArcOutAt : List ArcRow → ℕ → Type 0
+IsArcOutAt rows n = (n < length rows) × ¬ IsArcInRange (get_or rows n no_arc_row)
+
 abbrev pub IsOutOfRange : Rows → Kind → ℕ → Type 0
 IsOutOfRange r Source n = IsSourceOutAt r.sources n
 IsOutOfRange r Pool n = IsPoolOutAt r.pools n
 IsOutOfRange r Product n = IsProductOutAt r.products n
 IsOutOfRange r Quality n = ⊥
-IsOutOfRange r Arc n = ⊥
+IsOutOfRange r Arc n = IsArcOutAt r.arcs n
 
 -- a least limit is at most a most limit, where both are set
 abbrev pub IsInOrder : Option ℤ → Option ℤ → Type 0

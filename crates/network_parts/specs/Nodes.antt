@@ -1,7 +1,7 @@
 -- Which node a name names, and which arcs join which nodes.
 use Rattle.std.specs.Prelude.{ℕ, ◌-◌, nat_lt, List, length, Option, None, Some, option_map, option_and_then, is_some, Bool, ◌||◌, ◌&&◌, if◌then◌else◌}
-use Rattle.pool_model.specs.Rows.{Rows}
-use Rattle.pool_model.specs.Naming.{number_of}
+use Rattle.pool_model.specs.Rows.{ArcRow, Rows}
+use Rattle.pool_model.specs.Naming.{number_of, arc_of}
 use Rattle.pool_model.specs.Network.{Arc}
 use Rattle.network_parts.specs.Faults.{node_names}
 use Rattle.network_parts.specs.declared.arcs.Node.{Node}
@@ -36,8 +36,8 @@ product_number (Some (Pool l)) = None
 product_number (Some (Product j)) = Some j
 
 -- the nodes that an arc's two ends name
-abbrev pub nodes_of : Rows → List ℕ × List ℕ → Option Node × Option Node
-nodes_of r ends = (node_of r ends.0, node_of r ends.1)
+abbrev pub nodes_of : Rows → ArcRow → Option Node × Option Node
+nodes_of r a = (node_of r a.from, node_of r a.to)
 
 abbrev pub known : Ends → Option Node × Option Node
 known e = (Some e.from, Some e.to)
@@ -48,19 +48,19 @@ both_ends None to = None
 both_ends (Some x) None = None
 both_ends (Some x) (Some y) = Some (record { from = x; to = y })
 
--- an arc by two numbers, if both are there
-abbrev pub join : Option ℕ → Option ℕ → Option Arc
-join from to = option_and_then (λ i. option_map (λ j. record { from = i; to = j }) to) from
+-- the row's arc by two numbers, if both are there
+abbrev pub join : ArcRow → Option ℕ → Option ℕ → Option Arc
+join r from to = option_and_then (λ i. option_map (λ j. arc_of r i j) to) from
 
--- the feed, the out or the direct between two nodes, if it is one
-abbrev pub feed_between : Option Node × Option Node → Option Arc
-feed_between e = join (source_number e.0) (pool_number e.1)
+-- the row's arc as a feed, an out or a direct between two nodes, if it is one
+abbrev pub feed_between : ArcRow → Option Node × Option Node → Option Arc
+feed_between r e = join r (source_number e.0) (pool_number e.1)
 
-abbrev pub out_between : Option Node × Option Node → Option Arc
-out_between e = join (pool_number e.0) (product_number e.1)
+abbrev pub out_between : ArcRow → Option Node × Option Node → Option Arc
+out_between r e = join r (pool_number e.0) (product_number e.1)
 
-abbrev pub direct_between : Option Node × Option Node → Option Arc
-direct_between e = join (source_number e.0) (product_number e.1)
+abbrev pub direct_between : ArcRow → Option Node × Option Node → Option Arc
+direct_between r e = join r (source_number e.0) (product_number e.1)
 
 -- the arc starts at a product or ends at a source
 abbrev pub is_backward : Ends → Bool

@@ -4,7 +4,7 @@ use Rattle.pool_model.specs.Rows.{Rows}
 use Rattle.pool_model.specs.Naming.{source_names, pool_names, product_names, network_of}
 use Rattle.pool_model.specs.Network.{net_of}
 use Rattle.pool_model.specs.Paths.{paths_of}
-use Rattle.network_parts.specs.Faults.{IsRepeatAt, IsSourceInRange, IsPoolInRange, IsProductInRange, IsOrderly, no_source_row, no_pool_row, no_product_row, IsFaultless}
+use Rattle.network_parts.specs.Faults.{IsRepeatAt, IsSourceInRange, IsPoolInRange, IsProductInRange, IsOrderly, IsArcInRange, no_source_row, no_pool_row, no_product_row, no_arc_row, IsFaultless}
 use Rattle.network_parts.specs.declared.arcs.Ends.{Ends}
 use Rattle.network_parts.specs.declared.arcs.Arcs.{Arcs}
 use Rattle.network_parts.specs.declared.arcs.Node.TheVariants.{Source}
@@ -30,6 +30,7 @@ pub record IsInRange (r : Rows) : Type 0 where
   pub sources : (n : ℕ) → n < length r.sources → IsSourceInRange (get_or r.sources n no_source_row)
   pub pools : (n : ℕ) → n < length r.pools → IsPoolInRange (get_or r.pools n no_pool_row)
   pub products : (n : ℕ) → n < length r.products → IsProductInRange (get_or r.products n no_product_row)
+  pub arcs : (n : ℕ) → n < length r.arcs → IsArcInRange (get_or r.arcs n no_arc_row)
   pub orderly : (n : ℕ) → n < length r.products → IsOrderly (get_or r.products n no_product_row)
 
 -- these are the nodes at the ends of the arcs

@@ -8,14 +8,14 @@ use Rattle.network_parts.specs.declared.arcs.Arc.{Arc}
 use Rattle.network_parts.specs.declared.arcs.Path.{Path}
 
 abbrev pub shown_arc : Arc → model.Arc
-shown_arc a = record { from = a.from; to = a.to }
+shown_arc a = record { from = a.from; to = a.to; cost = a.cost; max = a.max }
 
 abbrev pub shown_path : Path → paths.Path
 shown_path p = record { feed = p.feed; out = p.out }
 
 -- the same back
 abbrev pub kept_arc : model.Arc → Arc
-kept_arc a = record { from = a.from; to = a.to }
+kept_arc a = record { from = a.from; to = a.to; cost = a.cost; max = a.max }
 
 -- nothing but this many pools, with feeds and outs: all that paths are made of
 abbrev pub joined_net : ℕ → List model.Arc → List model.Arc → Net
@@ -42,6 +42,14 @@ joined_net pools feeds outs = record {
   product_max = λ _. 0;
   least = λ _ _. None;
   most = λ _ _. None;
+  feed_cost = λ _. pos 0;
+  out_cost = λ _. pos 0;
+  direct_cost = λ _. pos 0;
+  feed_max = λ _. None;
+  out_max = λ _. None;
+  direct_max = λ _. None;
+  scale = 1;
+  retained = λ _ _. 1;
 }
 
 -- the paths of a feed that goes to a pool, through the outs below a number

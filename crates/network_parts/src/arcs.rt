@@ -3,11 +3,14 @@
 ghost use Rattle.std.specs.Prelude.{◌≡◌};
 ghost use Rattle.network_parts.specs.Nodes.{is_backward, is_between_pools};
 
-/// An arc, by the numbers of its two ends.
+/// An arc, by the numbers of its two ends: what a unit along it costs, and how much it can carry, if that is limited, both in
+/// millionths.
 #[derive(Clone, Copy, Debug)]
 pub struct Arc {
     pub from: u32,
     pub to: u32,
+    pub cost: i128,
+    pub max: Option<u128>,
 }
 
 /// A path, by the numbers of its feed and its out.

@@ -15,4 +15,4 @@ mod parts;
 
 pub use arcs::{Arc, Arcs, Ends, Node, Path};
 pub use fault::{Kind, NetFault};
-pub use parts::{Parts, PoolRow, ProductRow, SourceRow};
+pub use parts::{ArcRow, Parts, PoolRow, ProductRow, SourceRow};

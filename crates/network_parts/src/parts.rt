@@ -9,11 +9,12 @@ pub struct SourceRow {
     pub quality: Vec<i128>,
 }
 
-/// A pool, and how much can flow through it, in millionths.
+/// A pool: how much can flow through it, in millionths, and of each quality that enters it how many thousandths leave it.
 #[derive(Drop)]
 pub struct PoolRow {
     pub name: String,
     pub max: Option<i128>,
+    pub ratio: Vec<i128>,
 }
 
 /// A product: what a unit brings, how much must and can flow into it, and the limits on each quality, all in millionths.
@@ -27,12 +28,21 @@ pub struct ProductRow {
     pub most: Vec<Option<i128>>,
 }
 
-/// The rows of a network file. An arc is the names of its two ends.
+/// An arc, by the names of its two ends: what a unit along it costs, and how much it can carry, both in millionths.
+#[derive(Drop)]
+pub struct ArcRow {
+    pub from: String,
+    pub to: String,
+    pub cost: i128,
+    pub max: Option<i128>,
+}
+
+/// The rows of a network file.
 #[derive(Drop)]
 pub struct Parts {
     pub qualities: Vec<String>,
     pub sources: Vec<SourceRow>,
     pub pools: Vec<PoolRow>,
     pub products: Vec<ProductRow>,
-    pub arcs: Vec<(String, String)>,
+    pub arcs: Vec<ArcRow>,
 }

@@ -15,12 +15,16 @@ use Rattle.serde_json.specs.Find.{of_integer}
 use Rattle.serde_json.specs.View.{items_of}
 use Rattle.serde_json.specs.Written.{compact_text, items_text, members_text, comma_if, has_float, items_have_float, members_have_float, number_text}
 use Rattle.pool_model.specs.Quantity.{sign, behind_point, signed, fixed, trimmed, spelled, shortest}
+use Rattle.pool_model.specs.Rows.{ArcRow}
 use Rattle.pool_model.specs.Network.{Source, Pool, Product, Network}
 use Rattle.blend_network.specs.Canonical.{canonical_arcs}
-use Rattle.blend_network.proofs.CanonicalSizes.{IsShort, AreShortEnds}
+use Rattle.blend_network.proofs.CanonicalSizes.{IsShort}
+use Rattle.json_walk.specs.declared.version.Version.{Version}
+use Rattle.json_walk.specs.declared.version.Version.TheVariants.{One, Two}
+use Rattle.json_walk.specs.Walk.{version_number}
 use Rattle.network_text.proofs.CanonicalReads.{each_by}
-use Rattle.network_values.specs.Values.{units_of, quantity_data, set_at, set_members, list_data, source_data, pool_data, product_data, arc_data}
-use Rattle.network_text.specs.Canonical.{network_data}
+use Rattle.network_values.specs.Values.{units_of, quantity_data, ratio_data, set_at, set_members, list_data, source_data, pool_data, product_data, arc_data}
+use Rattle.network_text.specs.Canonical.{data_in}
 
 -- ---- texts
 
@@ -229,28 +233,56 @@ quantity_small q h =
     (weaker 0 0 10 104 (number (of_integer (units_of q))) (integer_small (units_of q) few) (omega arith) (omega arith))
     (string_small 17 (shortest q) (length-spelled negative size h))
 
--- ---- quantities under their names
+-- ---- what is set, under its name
+
+-- the value of what is set nests nothing and has at most 104 bytes
+abbrev IsSetSmall : {X : Type 0} → (X → Data) → Option X → Type 0
+IsSetSmall data_of None = Unit {0}
+IsSetSmall data_of (Some x) = IsSmall 0 104 (data_of x)
+
+set_at_small : {X : Type 0} (data_of : X → Data) (b : ℕ) (n : List ℕ) (x : Option X) (ms : Members) → IsShort n → IsSetSmall data_of x → AreSmall 0 b ms → AreSmall 0 (348 + b) (set_at data_of n x ms)
+set_at_small data_of b n None ms h is are = record { shallow = are.shallow; whole = are.whole; short = omega (arith, are.short) }
+set_at_small data_of b n (Some x) ms h is are = put_small 0 40 104 b n (data_of x) ms h is are
+
+set_small : {X : Type 0} (data_of : X → Data) (ns : List (List ℕ)) (xs : List (Option X)) → AllByRecursion IsShort ns → AllByRecursion (IsSetSmall data_of) xs → AreSmall 0 (1 + length ns * 348) (set_members data_of ns xs)
+set_small data_of [] xs h are = none_small 0
+set_small data_of (n ∷ ns) [] h are = record { shallow = omega arith; whole = refl; short = omega arith }
+set_small data_of (n ∷ ns) (x ∷ xs) h are =
+    let rest = set_at_small data_of (1 + length ns * 348) n x (set_members data_of ns xs) h.0 are.0 (set_small data_of ns xs h.1 are.1) in
+    record { shallow = rest.shallow; whole = rest.whole; short = omega (arith, rest.short) }
+
+-- at most eight
+few_set_small : {X : Type 0} (data_of : X → Data) (ns : List (List ℕ)) (xs : List (Option X)) → length ns ≤ 8 → AllByRecursion IsShort ns → AllByRecursion (IsSetSmall data_of) xs → IsSmall 1 2786 (object (set_members data_of ns xs))
+few_set_small data_of ns xs few h are =
+    let all = set_small data_of ns xs h are in
+    object_small 0 2785 (set_members data_of ns xs) (record { shallow = all.shallow; whole = all.whole; short = omega (arith, all.short, few) })
+
+-- ---- quantities and ratios under the names of the qualities
 
 abbrev pub IsSetNarrow : Option ℤ → Type 0
 IsSetNarrow None = Unit {0}
 IsSetNarrow (Some q) = IsNarrow q
 
-set_at_small : (b : ℕ) (n : List ℕ) (q : Option ℤ) (ms : Members) → IsShort n → IsSetNarrow q → AreSmall 0 b ms → AreSmall 0 (348 + b) (set_at n q ms)
-set_at_small b n None ms h is are = record { shallow = are.shallow; whole = are.whole; short = omega (arith, are.short) }
-set_at_small b n (Some q) ms h is are = put_small 0 40 104 b n (quantity_data q) ms h (quantity_small q is) are
+set_quantity_small : (q : Option ℤ) → IsSetNarrow q → IsSetSmall quantity_data q
+set_quantity_small None is = tt
+set_quantity_small (Some q) is = quantity_small q is
 
-set_small : (ns : List (List ℕ)) (qs : List (Option ℤ)) → AllByRecursion IsShort ns → AllByRecursion IsSetNarrow qs → AreSmall 0 (1 + length ns * 348) (set_members ns qs)
-set_small [] qs h are = none_small 0
-set_small (n ∷ ns) [] h are = record { shallow = omega arith; whole = refl; short = omega arith }
-set_small (n ∷ ns) (q ∷ qs) h are =
-    let rest = set_at_small (1 + length ns * 348) n q (set_members ns qs) h.0 are.0 (set_small ns qs h.1 are.1) in
-    record { shallow = rest.shallow; whole = rest.whole; short = omega (arith, rest.short) }
+quantities_small : (ns : List (List ℕ)) (qs : List (Option ℤ)) → length ns ≤ 8 → AllByRecursion IsShort ns → AllByRecursion IsSetNarrow qs → IsSmall 1 2786 (object (set_members quantity_data ns qs))
+quantities_small ns qs few h are = few_set_small quantity_data ns qs few h (each_by IsSetNarrow (IsSetSmall quantity_data) qs set_quantity_small are)
 
--- at most eight
-few_set_small : (ns : List (List ℕ)) (qs : List (Option ℤ)) → length ns ≤ 8 → AllByRecursion IsShort ns → AllByRecursion IsSetNarrow qs → IsSmall 1 2786 (object (set_members ns qs))
-few_set_small ns qs few h are =
-    let all = set_small ns qs h are in
-    object_small 0 2785 (set_members ns qs) (record { shallow = all.shallow; whole = all.whole; short = omega (arith, all.short, few) })
+-- at most so many thousandths as there are
+abbrev pub IsShare : ℕ → Type 0
+IsShare r = r ≤ 1000
+
+ratio_small : (r : ℕ) → IsShare r → IsSmall 0 104 (ratio_data r)
+ratio_small r h = weaker 0 0 10 104 (ratio_data r) (integer_small (pos r) (omega (arith, h))) (omega arith) (omega arith)
+
+each_ratio_small : (rs : List ℕ) → AllByRecursion IsShare rs → AllByRecursion (IsSetSmall ratio_data) (map Some rs)
+each_ratio_small [] h = tt
+each_ratio_small (r ∷ rs) h = (ratio_small r h.0, each_ratio_small rs h.1)
+
+ratios_small : (ns : List (List ℕ)) (rs : List ℕ) → length ns ≤ 8 → AllByRecursion IsShort ns → AllByRecursion IsShare rs → IsSmall 1 2786 (object (set_members ratio_data ns (map Some rs)))
+ratios_small ns rs few h are = few_set_small ratio_data ns (map Some rs) few h (each_ratio_small rs are)
 
 -- ---- rows
 
@@ -270,6 +302,7 @@ pub record IsSourceShort (s : Source) : Type 0 where
 pub record IsPoolShort (p : Pool) : Type 0 where
   pub name : IsShort p.name
   pub max : p.max ≤ 10 ^ 14
+  pub ratio : AllByRecursion IsShare p.ratio
 
 pub record IsProductShort (p : Product) : Type 0 where
   pub name : IsShort p.name
@@ -279,31 +312,51 @@ pub record IsProductShort (p : Product) : Type 0 where
   pub least : AllByRecursion IsSetNarrow p.least
   pub most : AllByRecursion IsSetNarrow p.most
 
+pub record IsArcShort (a : ArcRow) : Type 0 where
+  pub from : IsShort a.from
+  pub to : IsShort a.to
+  pub cost : IsNarrow a.cost
+  pub max : IsSetNarrow a.max
+
 source_small : (names : List (List ℕ)) (s : Source) → length names ≤ 8 → AllByRecursion IsShort names → IsSourceShort s → IsSmall 2 3362 (source_data names s)
 source_small names s few short is =
     object_small 1 3361 _
     (next 4 (codes "cost") (omega arith) (raised 1 (omega arith) (quantity_small s.cost is.cost))
     (next 3 (codes "max") (omega arith) (raised 1 (omega arith) (quantity_small (pos s.max) is.max))
     (next 4 (codes "name") (omega arith) (raised 1 (omega arith) (string_small 40 s.name is.name))
-    (next 7 (codes "quality") (omega arith) (few_set_small names (map Some s.quality) few short is.quality) (none_small 1)))))
+    (next 7 (codes "quality") (omega arith) (quantities_small names (map Some s.quality) few short is.quality) (none_small 1)))))
 
-pool_small : (p : Pool) → IsPoolShort p → IsSmall 1 398 (pool_data p)
-pool_small p is =
-    object_small 0 397 _
-    (next 3 (codes "max") (omega arith) (quantity_small (pos p.max) is.max) (next 4 (codes "name") (omega arith) (string_small 40 p.name is.name) (none_small 0)))
+pool_small : (version : Version) (names : List (List ℕ)) (p : Pool) → length names ≤ 8 → AllByRecursion IsShort names → IsPoolShort p → IsSmall 2 3218 (pool_data version names p)
+pool_small One names p few short is =
+    weaker 1 2 398 3218 (pool_data One names p)
+    (object_small 0 397 _
+    (next 3 (codes "max") (omega arith) (quantity_small (pos p.max) is.max) (next 4 (codes "name") (omega arith) (string_small 40 p.name is.name) (none_small 0))))
+    (omega arith) (omega arith)
+pool_small Two names p few short is =
+    object_small 1 3217 _
+    (next 3 (codes "max") (omega arith) (raised 1 (omega arith) (quantity_small (pos p.max) is.max))
+    (next 4 (codes "name") (omega arith) (raised 1 (omega arith) (string_small 40 p.name is.name))
+    (next 5 (codes "ratio") (omega arith) (ratios_small names p.ratio few short is.ratio) (none_small 1))))
 
 product_small : (names : List (List ℕ)) (p : Product) → length names ≤ 8 → AllByRecursion IsShort names → IsProductShort p → IsSmall 2 6296 (product_data names p)
 product_small names p few short is =
     object_small 1 6295 _
-    (next 5 (codes "least") (omega arith) (few_set_small names p.least few short is.least)
+    (next 5 (codes "least") (omega arith) (quantities_small names p.least few short is.least)
     (next 3 (codes "max") (omega arith) (raised 1 (omega arith) (quantity_small (pos p.max) is.max))
     (next 3 (codes "min") (omega arith) (raised 1 (omega arith) (quantity_small (pos p.min) is.min))
-    (next 4 (codes "most") (omega arith) (few_set_small names p.most few short is.most)
+    (next 4 (codes "most") (omega arith) (quantities_small names p.most few short is.most)
     (next 4 (codes "name") (omega arith) (raised 1 (omega arith) (string_small 40 p.name is.name))
     (next 5 (codes "price") (omega arith) (raised 1 (omega arith) (quantity_small p.price is.price)) (none_small 1)))))))
 
-arc_small : (e : List ℕ × List ℕ) → IsShort e.0 → IsShort e.1 → IsSmall 1 488 (arc_data e)
-arc_small e from to = list_small 0 242 2 string (e.0 ∷ e.1 ∷ []) (string_small 40 e.0 from, (string_small 40 e.1 to, tt)) (omega arith)
+arc_small : (version : Version) (a : ArcRow) → IsArcShort a → IsSmall 1 1010 (arc_data version a)
+arc_small One a is =
+    weaker 1 1 488 1010 (arc_data One a) (list_small 0 242 2 string (a.from ∷ a.to ∷ []) (string_small 40 a.from is.from, (string_small 40 a.to is.to, tt)) (omega arith)) (omega arith) (omega arith)
+arc_small Two a is =
+    object_small 0 1009 _
+    (set_at_small quantity_data 661 (codes "max") a.max _ (omega arith) (set_quantity_small a.max is.max)
+    (next 4 (codes "cost") (omega arith) (quantity_small a.cost is.cost)
+    (next 4 (codes "from") (omega arith) (string_small 40 a.from is.from)
+    (next 2 (codes "to") (omega arith) (string_small 40 a.to is.to) (none_small 0)))))
 
 -- ---- the whole network
 
@@ -318,17 +371,23 @@ pub record IsAllShort (n : Network) : Type 0 where
   pub sources : AllByRecursion IsSourceShort n.sources
   pub pools : AllByRecursion IsPoolShort n.pools
   pub products : AllByRecursion IsProductShort n.products
-  pub arcs : AllByRecursion AreShortEnds (canonical_arcs n)
+  pub arcs : AllByRecursion IsArcShort (canonical_arcs n)
 
-pub network_small : (n : Network) → IsAllShort n → IsSmall 4 1048576 (network_data n)
-network_small n are =
+version_small : (version : Version) → IsSmall 0 10 (number (unsigned (version_number version)))
+version_small One = integer_small (pos 1) (omega arith)
+version_small Two = integer_small (pos 2) (omega arith)
+
+pub network_small : (version : Version) (n : Network) → IsAllShort n → IsSmall 4 1048576 (data_in version n)
+network_small version n are =
     let qs = n.qualities in
-    let arcs : IsSmall 3 125186 (list_data arc_data (canonical_arcs n)) =
-    raised 3 (omega arith) (list_small 1 488 256 arc_data (canonical_arcs n)
-    (each_by AreShortEnds (λ e. IsSmall 1 488 (arc_data e)) (canonical_arcs n) (λ e h. arc_small e h.from h.to)
+    let arcs : IsSmall 3 258818 (list_data (arc_data version) (canonical_arcs n)) =
+    raised 3 (omega arith) (list_small 1 1010 256 (arc_data version) (canonical_arcs n)
+    (each_by IsArcShort (λ a. IsSmall 1 1010 (arc_data version a)) (canonical_arcs n) (arc_small version)
     are.arcs) are.few_arcs) in
-    let pools : IsSmall 3 6386 (list_data pool_data n.pools) =
-    raised 3 (omega arith) (list_small 1 398 16 pool_data n.pools (each_by IsPoolShort (λ p. IsSmall 1 398 (pool_data p)) n.pools pool_small are.pools) are.few_pools) in
+    let pools : IsSmall 3 51506 (list_data (pool_data version qs) n.pools) =
+    list_small 2 3218 16 (pool_data version qs) n.pools
+    (each_by IsPoolShort (λ p. IsSmall 2 3218 (pool_data version qs p)) n.pools
+    (λ p h. pool_small version qs p are.few_qualities are.qualities h) are.pools) are.few_pools in
     let products : IsSmall 3 403010 (list_data (product_data qs) n.products) =
     list_small 2 6296 64 (product_data qs) n.products
     (each_by IsProductShort (λ p. IsSmall 2 6296 (product_data qs p)) n.products
@@ -339,13 +398,13 @@ network_small n are =
     list_small 2 3362 64 (source_data qs) n.sources
     (each_by IsSourceShort (λ s. IsSmall 2 3362 (source_data qs s)) n.sources
     (λ s h. source_small qs s are.few_qualities are.qualities h) are.sources) are.few_sources in
-    let version : IsSmall 3 10 (number (unsigned 1)) = raised 3 (omega arith) (integer_small (pos 1) (omega arith)) in
-    weaker 4 4 752038 1048576 (network_data n)
-    (object_small 3 752037 _
+    let said : IsSmall 3 10 (number (unsigned (version_number version))) = raised 3 (omega arith) (version_small version) in
+    weaker 4 4 930790 1048576 (data_in version n)
+    (object_small 3 930789 _
     (next 4 (codes "arcs") (omega arith) arcs
     (next 5 (codes "pools") (omega arith) pools
     (next 8 (codes "products") (omega arith) products
     (next 9 (codes "qualities") (omega arith) qualities
     (next 7 (codes "sources") (omega arith) sources
-    (next 7 (codes "version") (omega arith) version (none_small 3))))))))
+    (next 7 (codes "version") (omega arith) said (none_small 3))))))))
     (omega arith) (omega arith)

@@ -1,4 +1,5 @@
 pub mod CanonicalReads
 pub mod WrittenReads
 pub mod CanonicalSize
+pub mod CanonicalPlain
 pub mod CanonicalText

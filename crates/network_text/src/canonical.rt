@@ -9,10 +9,11 @@ ghost use Rattle.blend_network.specs.Made.{IsMade};
 ghost use Rattle.blend_network.specs.Canonical.{canonical_arcs};
 ghost use Rattle.network_json.specs.Reading.{ReadAs};
 ghost use Rattle.network_values.specs.Values.{list_data, source_data, pool_data, product_data, arc_data};
-ghost use Rattle.network_text.specs.Canonical.{network_data, canonical_text};
+ghost use Rattle.network_text.specs.Canonical.{version_of as first_version, data_in, network_data, canonical_text};
 
 use blend_network::{Kind, Network};
 use edge_io::Memory;
+use json_walk::Version;
 use network_values::{
     direct_value, feed_value, name_value, out_value, pool_value, product_value, source_value,
 };
@@ -24,7 +25,8 @@ pub const MAX_CANONICAL: usize = 1_048_576;
 
 /// The canonical text of the network: JSON with no space, members in byte order of their names, every member but the title,
 /// maxima of sources and pools written out, and in `least` and `most` the limits that are set. Arcs are feeds, then outs, then
-/// directs. It is at most `MAX_CANONICAL` bytes long, and `read_network` gives this network of it.
+/// directs. It has version 1 where no pool removes anything and no arc costs anything or has a maximum, and else version 2, in
+/// which every pool has all its ratios and every arc is an object. It is at most `MAX_CANONICAL` bytes long, and `read_network` gives this network of it.
 pub fn write_canonical(alloc: Global, net: &Network) -> Result<Vec<u8>, Memory>
     // Promise: The canonical text is the definition's
     ensures text { IfOk result (λ text. text.items ≡ canonical_text net.now) }
@@ -42,43 +44,78 @@ fn network_value(alloc: Global, net: &Network) -> Result<Value, AllocError>
     ensures made { IsMade net.now }
     ensures limited { IsLimited (net_of net.now) }
 {
+    value_in(alloc, net, version_of(net))
+}
+
+/// The first version that can say the network.
+fn version_of(net: &Network) -> Version
+    ensures { result ≡ first_version net.now }
+{
+    if net.is_plain() {
+        Version::One
+    } else {
+        Version::Two
+    }
+}
+
+/// The value of the network in a version.
+fn value_in(alloc: Global, net: &Network, version: Version) -> Result<Value, AllocError>
+    ensures data { IfOk result (λ v. view v ≡ data_in version net.now) }
+    ensures made { IsMade net.now }
+    ensures limited { IsLimited (net_of net.now) }
+{
     let mut members = Map::new(alloc);
-    put(&mut members, alloc, "arcs", arcs_value(alloc, net)?)?;
-    put(&mut members, alloc, "pools", pools_value(alloc, net)?)?;
+    put(
+        &mut members,
+        alloc,
+        "arcs",
+        arcs_value(alloc, net, version)?,
+    )?;
+    put(
+        &mut members,
+        alloc,
+        "pools",
+        pools_value(alloc, net, version)?,
+    )?;
     put(&mut members, alloc, "products", products_value(alloc, net)?)?;
     put(&mut members, alloc, "qualities", names_value(alloc, net)?)?;
     put(&mut members, alloc, "sources", sources_value(alloc, net)?)?;
-    put(&mut members, alloc, "version", Value::from(1u64))?;
+    put(
+        &mut members,
+        alloc,
+        "version",
+        Value::from(version.number()),
+    )?;
     Ok(Value::Object(members))
 }
 
 /// The arcs by the names of their ends: feeds, then outs, then directs.
-fn arcs_value(alloc: Global, net: &Network) -> Result<Value, AllocError>
-    ensures data { IfOk result (λ v. view v ≡ list_data arc_data (canonical_arcs net.now)) }
+fn arcs_value(alloc: Global, net: &Network, version: Version) -> Result<Value, AllocError>
+    ensures data { IfOk result (λ v. view v ≡ list_data (arc_data version) (canonical_arcs net.now)) }
     ensures made { IsMade net.now }
     ensures limited { IsLimited (net_of net.now) }
 {
     let [_, _, _, _, feeds, outs, directs] = net.counts();
     let mut list = Vec::new(alloc);
     'feeds: for n in 0..feeds {
-        list.push(feed_value(alloc, net, n)?)?;
+        list.push(feed_value(alloc, net, version, n)?)?;
     }
     'outs: for n in 0..outs {
-        list.push(out_value(alloc, net, n)?)?;
+        list.push(out_value(alloc, net, version, n)?)?;
     }
     'directs: for n in 0..directs {
-        list.push(direct_value(alloc, net, n)?)?;
+        list.push(direct_value(alloc, net, version, n)?)?;
     }
     Ok(Value::Array(list))
 }
 
-fn pools_value(alloc: Global, net: &Network) -> Result<Value, AllocError>
-    ensures { IfOk result (λ v. view v ≡ list_data pool_data net.now.pools) }
+fn pools_value(alloc: Global, net: &Network, version: Version) -> Result<Value, AllocError>
+    ensures { IfOk result (λ v. view v ≡ list_data (pool_data version net.now.qualities) net.now.pools) }
 {
     let [_, pools, _, _, _, _, _] = net.counts();
     let mut list = Vec::new(alloc);
     for n in 0..pools {
-        list.push(pool_value(alloc, net, n)?)?;
+        list.push(pool_value(alloc, net, version, n)?)?;
     }
     Ok(Value::Array(list))
 }

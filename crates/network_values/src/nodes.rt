@@ -2,12 +2,15 @@
 #![tactic(auto, unfolding(pool_model::specs::Network::net_of))]
 
 ghost use Rattle.std.specs.Prelude.{◌≡◌, ◌<◌, length, map, get_or, Some, IfOk};
-ghost use Rattle.serde_json.specs.View.{view};
+ghost use Rattle.serde_json.specs.Data.{object};
+ghost use Rattle.serde_json.specs.View.{view, members_view};
 ghost use Rattle.pool_model.specs.Network.{net_of, no_source, no_pool, no_product};
-ghost use Rattle.network_values.specs.Values.{source_data, pool_data, product_data};
+ghost use Rattle.network_values.specs.Values.{ratio_data, set_members, source_data, pool_members, pool_data, product_data};
+ghost use Rattle.json_walk.specs.declared.version.Version.TheVariants.{Two};
 
 use crate::quantities::{name_value, quantity_value, set_value};
 use blend_network::{Kind, Network};
+use json_walk::Version;
 use serde_json::{Map, Value, put};
 use std::alloc::{AllocError, Global};
 
@@ -59,11 +62,37 @@ fn quality_of(alloc: Global, net: &Network, source: u32) -> Result<Vec<Option<i6
     Ok(quality)
 }
 
-/// Pool `n`: its name and its maximum.
-pub fn pool_value(alloc: Global, net: &Network, n: u32) -> Result<Value, AllocError>
+/// Pool `n`: its name and its maximum, and in version 2 all its ratios.
+pub fn pool_value(
+    alloc: Global,
+    net: &Network,
+    version: Version,
+    n: u32,
+) -> Result<Value, AllocError>
     requires there { n < (net_of net.now).pools }
     // Promise: What the canonical text says of a name, an arc, a source, a pool and a product is the definition's
-    ensures value { IfOk result (λ v. view v ≡ pool_data (get_or net.now.pools n no_pool)) }
+    ensures value { IfOk result (λ v. view v ≡ pool_data version net.now.qualities (get_or net.now.pools n no_pool)) }
+{
+    match version {
+        Version::One => Ok(Value::Object(members_of_pool(alloc, net, n)?)),
+        Version::Two => treating_value(alloc, net, n),
+    }
+}
+
+/// The same of a pool with all its ratios.
+fn treating_value(alloc: Global, net: &Network, n: u32) -> Result<Value, AllocError>
+    requires { n < (net_of net.now).pools }
+    ensures { IfOk result (λ v. view v ≡ pool_data Two net.now.qualities (get_or net.now.pools n no_pool)) }
+{
+    let mut members = members_of_pool(alloc, net, n)?;
+    put(&mut members, alloc, "ratio", ratios_value(alloc, net, n)?)?;
+    Ok(Value::Object(members))
+}
+
+/// The maximum of a pool, and its name.
+fn members_of_pool(alloc: Global, net: &Network, n: u32) -> Result<Map<String, Value>, AllocError>
+    requires { n < (net_of net.now).pools }
+    ensures { IfOk result (λ m. members_view m.entries ≡ pool_members (get_or net.now.pools n no_pool)) }
 {
     let mut members = Map::new(alloc);
     put(
@@ -78,6 +107,24 @@ pub fn pool_value(alloc: Global, net: &Network, n: u32) -> Result<Value, AllocEr
         "name",
         name_value(alloc, net, Kind::Pool, n)?,
     )?;
+    Ok(members)
+}
+
+/// How many thousandths of each quality leave a pool, each under the name of its quality.
+fn ratios_value(alloc: Global, net: &Network, pool: u32) -> Result<Value, AllocError>
+    requires { pool < (net_of net.now).pools }
+    ensures { IfOk result (λ v. view v ≡ object (set_members ratio_data net.now.qualities (map Some (get_or net.now.pools pool no_pool).ratio))) }
+{
+    let mut members = Map::new(alloc);
+    let [_, _, _, qualities, _, _, _] = net.counts();
+    for k in (0..qualities).rev() {
+        put(
+            &mut members,
+            alloc,
+            net.name(Kind::Quality, k),
+            Value::from(net.pool_ratio(pool, k)),
+        )?;
+    }
     Ok(Value::Object(members))
 }
 

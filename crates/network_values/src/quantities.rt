@@ -19,7 +19,7 @@ pub fn set_value(
     quantities: &[Option<i64>],
 ) -> Result<Value, AllocError>
     requires { length quantities.now ≡ length net.now.qualities }
-    ensures { IfOk result (λ v. view v ≡ object (set_members net.now.qualities quantities.now)) }
+    ensures { IfOk result (λ v. view v ≡ object (set_members quantity_data net.now.qualities quantities.now)) }
 {
     let mut members = Map::new(alloc);
     let [_, _, _, qualities, _, _, _] = net.counts();
@@ -35,14 +35,14 @@ pub fn set_value(
 }
 
 /// Puts a quantity under its name, if it is set.
-fn put_set(
+pub(crate) fn put_set(
     members: &mut Map<String, Value>,
     alloc: Global,
     name: &str,
     quantity: Option<i64>,
 ) -> Result<(), AllocError>
     ensures { OnOk result (members_view members.new.entries
-        ≡ set_at name.now quantity (members_view members.old.entries)) }
+        ≡ set_at quantity_data name.now quantity (members_view members.old.entries)) }
 {
     if let Some(quantity) = quantity {
         return put(members, alloc, name, quantity_value(alloc, quantity)?);

@@ -5,5 +5,7 @@ pub mod Accepted
 pub mod FirstFault
 pub mod Terms
 pub mod Costs
+pub mod Reaching
+pub mod ArcMaxima
 pub mod Rooms
 pub mod LeastStart

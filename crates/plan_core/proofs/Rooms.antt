@@ -28,44 +28,44 @@ pool_within n w l room through e f h over =
     absurd (omega (arith, outflow-plan_of n w l, mul-le-mul_left w.base most, over))
 
 -- ---- qualities, by the tables
-same_above : (o : Option ℤ) (a b : ℕ) (x y : ℤ) → a ≡ b → x ≡ y → IsAbove o a x → IsAbove o b y
-same_above None a b x y e f h = h
-same_above (Some u) a b x y e f h = subst (λ m. (u *ℤ pos m) <ℤ y) e (subst (λ z. (u *ℤ pos a) <ℤ z) f h)
+same_above : (s : ℤ) (o : Option ℤ) (a b : ℕ) (x y : ℤ) → a ≡ b → x ≡ y → IsAbove s o a x → IsAbove s o b y
+same_above s None a b x y e f h = h
+same_above s (Some u) a b x y e f h = subst (λ m. (s *ℤ u *ℤ pos m) <ℤ y) e (subst (λ z. (s *ℤ u *ℤ pos a) <ℤ z) f h)
 
-same_below : (o : Option ℤ) (a b : ℕ) (x y : ℤ) → a ≡ b → x ≡ y → IsBelow o a x → IsBelow o b y
-same_below None a b x y e f h = h
-same_below (Some u) a b x y e f h = subst (λ m. y <ℤ (u *ℤ pos m)) e (subst (λ z. z <ℤ (u *ℤ pos a)) f h)
+same_below : (s : ℤ) (o : Option ℤ) (a b : ℕ) (x y : ℤ) → a ≡ b → x ≡ y → IsBelow s o a x → IsBelow s o b y
+same_below s None a b x y e f h = h
+same_below s (Some u) a b x y e f h = subst (λ m. y <ℤ (s *ℤ u *ℤ pos m)) e (subst (λ z. z <ℤ (s *ℤ u *ℤ pos a)) f h)
 
 module _ (n : Net) (w : Written) (j inflow : ℕ) (columns : List (List ℤ)) (limited : IsLimited n) (shaped : IsShaped n w)
     (in_products : j < n.products) (flow : inflow ≡ product_inflow n (plan_of n w) j)
     (are : AreQualities n w columns) where
-  over_at : (k : ℕ) → k < n.qualities → IsAbove (n.most j k) inflow (get_or (get_or columns k []) j (pos 0)) → IsAboveMost n (plan_of n w) j k
+  over_at : (k : ℕ) → k < n.qualities → IsAbove (pos n.scale) (n.most j k) inflow (get_or (get_or columns k []) j (pos 0)) → IsAboveMost n (plan_of n w) j k
   over_at k lt h = above_most n w j k limited.out_pools shaped.base.0
-      (same_above (n.most j k) inflow (product_inflow n (plan_of n w) j) (get_or (get_or columns k []) j (pos 0)) (written_quality n w j k) flow (are k lt j in_products) h)
+      (same_above (pos n.scale) (n.most j k) inflow (product_inflow n (plan_of n w) j) (get_or (get_or columns k []) j (pos 0)) (written_quality n w j k) flow (are k lt j in_products) h)
 
-  at_over : (k : ℕ) → k < n.qualities → IsAboveMost n (plan_of n w) j k → IsAbove (n.most j k) inflow (get_or (get_or columns k []) j (pos 0))
-  at_over k lt h = same_above (n.most j k) (product_inflow n (plan_of n w) j) inflow (written_quality n w j k)
+  at_over : (k : ℕ) → k < n.qualities → IsAboveMost n (plan_of n w) j k → IsAbove (pos n.scale) (n.most j k) inflow (get_or (get_or columns k []) j (pos 0))
+  at_over k lt h = same_above (pos n.scale) (n.most j k) (product_inflow n (plan_of n w) j) inflow (written_quality n w j k)
       (get_or (get_or columns k []) j (pos 0)) (sym flow) (sym (are k lt j in_products)) (most_above n w j k limited.out_pools shaped.base.0 h)
 
-  under_at : (k : ℕ) → k < n.qualities → IsBelow (n.least j k) inflow (get_or (get_or columns k []) j (pos 0)) → IsBelowLeast n (plan_of n w) j k
+  under_at : (k : ℕ) → k < n.qualities → IsBelow (pos n.scale) (n.least j k) inflow (get_or (get_or columns k []) j (pos 0)) → IsBelowLeast n (plan_of n w) j k
   under_at k lt h = below_least n w j k limited.out_pools shaped.base.0
-      (same_below (n.least j k) inflow (product_inflow n (plan_of n w) j) (get_or (get_or columns k []) j (pos 0)) (written_quality n w j k) flow (are k lt j in_products) h)
+      (same_below (pos n.scale) (n.least j k) inflow (product_inflow n (plan_of n w) j) (get_or (get_or columns k []) j (pos 0)) (written_quality n w j k) flow (are k lt j in_products) h)
 
-  at_under : (k : ℕ) → k < n.qualities → IsBelowLeast n (plan_of n w) j k → IsBelow (n.least j k) inflow (get_or (get_or columns k []) j (pos 0))
-  at_under k lt h = same_below (n.least j k) (product_inflow n (plan_of n w) j) inflow (written_quality n w j k)
+  at_under : (k : ℕ) → k < n.qualities → IsBelowLeast n (plan_of n w) j k → IsBelow (pos n.scale) (n.least j k) inflow (get_or (get_or columns k []) j (pos 0))
+  at_under k lt h = same_below (pos n.scale) (n.least j k) (product_inflow n (plan_of n w) j) inflow (written_quality n w j k)
       (get_or (get_or columns k []) j (pos 0)) (sym flow) (sym (are k lt j in_products)) (least_below n w j k limited.out_pools shaped.base.0 h)
 
-  pub first_over : (k : ℕ) → IsFirstBelow (λ k. IsAbove (n.most j k) inflow (get_or (get_or columns k []) j (pos 0))) n.qualities (Some k) → IsFirstBroken n w (λ k. QualityOver j k) (QualityOver j k)
+  pub first_over : (k : ℕ) → IsFirstBelow (λ k. IsAbove (pos n.scale) (n.most j k) inflow (get_or (get_or columns k []) j (pos 0))) n.qualities (Some k) → IsFirstBroken n w (λ k. QualityOver j k) (QualityOver j k)
   first_over k h = record { at = k; is = refl; has = (in_products, h.0, over_at k h.0 h.1); first = λ m lt broken. h.2 m lt (at_over m broken.1 broken.2) }
 
-  pub none_over : IsFirstBelow (λ k. IsAbove (n.most j k) inflow (get_or (get_or columns k []) j (pos 0))) n.qualities None → Keeps n w (λ k. QualityOver j k)
+  pub none_over : IsFirstBelow (λ k. IsAbove (pos n.scale) (n.most j k) inflow (get_or (get_or columns k []) j (pos 0))) n.qualities None → Keeps n w (λ k. QualityOver j k)
   none_over h = λ k broken. h k broken.1 (at_over k broken.1 broken.2)
 
-  pub first_under : (k : ℕ) → IsFirstBelow (λ k. IsBelow (n.least j k) inflow (get_or (get_or columns k []) j (pos 0))) n.qualities (Some k)
+  pub first_under : (k : ℕ) → IsFirstBelow (λ k. IsBelow (pos n.scale) (n.least j k) inflow (get_or (get_or columns k []) j (pos 0))) n.qualities (Some k)
       → IsFirstBroken n w (λ k. QualityUnder j k) (QualityUnder j k)
   first_under k h = record { at = k; is = refl; has = (in_products, h.0, under_at k h.0 h.1); first = λ m lt broken. h.2 m lt (at_under m broken.1 broken.2) }
 
-  pub none_under : IsFirstBelow (λ k. IsBelow (n.least j k) inflow (get_or (get_or columns k []) j (pos 0))) n.qualities None → Keeps n w (λ k. QualityUnder j k)
+  pub none_under : IsFirstBelow (λ k. IsBelow (pos n.scale) (n.least j k) inflow (get_or (get_or columns k []) j (pos 0))) n.qualities None → Keeps n w (λ k. QualityUnder j k)
   none_under h = λ k broken. h k broken.1 (at_under k broken.1 broken.2)
 
 -- at all products

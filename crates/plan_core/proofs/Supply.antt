@@ -67,6 +67,11 @@ room_of n w limited shaped sums most = record {
       let scaled : w.base * written_out w o ≤ w.base * (w.flow_base * n.product_max j) =
       omega (arith, term-le-sum_at n.out_product j (plan_of n w).out n.outs o lt refl, within_maximum n w most j in_products) in
       omega (arith, le_of_mul-le-mul_left scaled shaped.base.0, mul-le-mul shaped.flow_base.1 (limited.product_maxima j in_products));
+  pooled = λ j lt. let total = sum_at n.out_product j (written_out w) n.outs in
+      let scaled : w.base * total ≤ w.base * (w.flow_base * n.product_max j) =
+      omega (arith, sum_at-mul n.out_product j w.base (written_out w) n.outs, within_maximum n w most j lt) in
+      omega (arith, le_of_mul-le-mul_left scaled shaped.base.0, mul-le-mul shaped.flow_base.1 (limited.product_maxima j lt));
+  weights = λ l lt. omega (arith, whole_weights n w sums l lt, shaped.base);
   directs = λ e lt. omega (arith, inflow (n.direct_product e) (limited.direct_products e lt), term-le-sum_at n.direct_product (n.direct_product e) (plan_of n w).direct n.directs e lt refl);
   weighed = λ l k in_pools in_qualities. omega (
     arith,

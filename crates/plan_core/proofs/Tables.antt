@@ -15,11 +15,11 @@ pub read_wide : (x : ℤ) (a : ℕ) → unsigned_abs x ≤ a → a ≤ 2 ^ 126 �
 read_wide x a h k = omega (arith, ints)
 
 -- the code's sum of two numbers that are not too large
-pub wide_sum : (t p : ℤ) (a : ℕ) → unsigned_abs t ≤ a → a ≤ 2 ^ 126 → unsigned_abs p ≤ 2 ^ 122 → to_z w128 (of_z w128 (to_z w128 (of_z w128 t) +ℤ to_z w128 (of_z w128 p))) ≡ t +ℤ p
-wide_sum t p a h s k = omega (arith, ints)
+pub wide_sum : (t p : ℤ) → unsigned_abs t ≤ 2 ^ 126 → unsigned_abs p ≤ 2 ^ 123 → to_z w128 (of_z w128 (to_z w128 (of_z w128 t) +ℤ to_z w128 (of_z w128 p))) ≡ t +ℤ p
+wide_sum t p h k = omega (arith, ints)
 
-pub wide_fits : (t p : ℤ) (a : ℕ) → unsigned_abs t ≤ a → a ≤ 2 ^ 126 → unsigned_abs p ≤ 2 ^ 122 → FitsSigned w128 (to_z w128 (of_z w128 t) +ℤ to_z w128 (of_z w128 p))
-wide_fits t p a h s k = omega (arith, ints)
+pub wide_fits : (t p : ℤ) → unsigned_abs t ≤ 2 ^ 126 → unsigned_abs p ≤ 2 ^ 123 → FitsSigned w128 (to_z w128 (of_z w128 t) +ℤ to_z w128 (of_z w128 p))
+wide_fits t p h k = omega (arith, ints)
 
 -- how large a number is for so many units
 pub term_size : (t q : ℤ) (m a b : ℕ) → t ≡ q *ℤ pos m → unsigned_abs q ≤ a → m ≤ b → unsigned_abs t ≤ a * b
@@ -33,10 +33,10 @@ pub record IsTable (cells nodes : ℕ) (sum : ℕ → ℕ) (most : ℕ) (xs : Li
   pub exact : (i : ℕ) → i < nodes → get_or xs i 0 ≡ sum i
   pub size : (i : ℕ) → get_or xs i 0 ≤ most
 
-pub record IsSignedTable (cells nodes : ℕ) (sum : ℕ → ℤ) (most : ℕ) (xs : List ℤ) : Type 0 where
+-- a table of sums of signed numbers by node: how large they are follows from what they are
+pub record IsSignedTable (cells nodes : ℕ) (sum : ℕ → ℤ) (xs : List ℤ) : Type 0 where
   pub long : length xs ≡ cells
   pub exact : (i : ℕ) → i < nodes → get_or xs i (pos 0) ≡ sum i
-  pub size : (i : ℕ) → unsigned_abs (get_or xs i (pos 0)) ≤ most
 
 -- a table that begins with nothing
 pub nothing : (n i : ℕ) → ◌≡◌ {A = ℕ} (get_or (replicate n 0) i 0) 0
@@ -96,33 +96,25 @@ int_added key f start e at m v xs lt is before new i im = elim (same_or_other i 
   | inr d ↦ rw get_or-set_other (omega (arith, additive, before i im, int_sum_at-more_no key i f e (λ s. d (sym s ∙ sym is))))
 ]
 
-int_added_size : (at b s : ℕ) (v x : ℤ) (xs : List ℤ) → at < length xs → ((i : ℕ) → unsigned_abs (get_or xs i (pos 0)) ≤ b) → v ≡ get_or xs at (pos 0) +ℤ x → unsigned_abs x ≤ s
-    → (i : ℕ) → unsigned_abs (get_or (set xs at v) i (pos 0)) ≤ b + s
-int_added_size at b s v x xs lt before new small i = elim (same_or_other i at) [
-  | inl q ↦ rw (q, get_or-set_same) (omega (arith, ints, before at))
-  | inr d ↦ rw get_or-set_other (omega (arith, before i))
-]
-
 -- what the code puts in at a node
 abbrev put_in : List ℤ → ℕ → ℤ → List ℤ
 put_in xs at part = set xs at (to_z w128 (of_z w128 (to_z w128 (of_z w128 (get_or xs at (pos 0))) +ℤ to_z w128 (of_z w128 part))))
 
-pub int_more : (key : ℕ → ℕ) (f start : ℕ → ℤ) (e at nodes long before after least : ℕ) (part : ℤ) (xs : List ℤ) → IsSignedTable long nodes (λ i. start i +ℤ int_sum_at key i f e) before xs
-    → at ≡ key e → at < nodes → nodes ≤ long → part ≡ f e → unsigned_abs part ≤ least → least ≤ 2 ^ 122 → before + least ≤ after → after ≤ 2 ^ 126
-    → IsSignedTable long nodes (λ i. start i +ℤ int_sum_at key i f (e + 1)) after (put_in xs at part)
-int_more key f start e at nodes long before after least part xs t is lt le same small narrow room fits =
+pub int_more : (key : ℕ → ℕ) (f start : ℕ → ℤ) (e at nodes long : ℕ) (part : ℤ) (xs : List ℤ) → IsSignedTable long nodes (λ i. start i +ℤ int_sum_at key i f e) xs
+    → at ≡ key e → at < nodes → nodes ≤ long → part ≡ f e → unsigned_abs (get_or xs at (pos 0)) ≤ 2 ^ 126 → unsigned_abs part ≤ 2 ^ 123
+    → IsSignedTable long nodes (λ i. start i +ℤ int_sum_at key i f (e + 1)) (put_in xs at part)
+int_more key f start e at nodes long part xs t is lt le same room small =
     let within : at < length xs = omega (arith, t.long) in
-    let new = wide_sum (get_or xs at (pos 0)) part before (t.size at) (omega (arith, room, fits)) (omega (arith, small, narrow)) in
+    let new = wide_sum (get_or xs at (pos 0)) part room small in
     record {
       long = length-set xs at _ ∙ t.long;
       exact = int_added key f start e at nodes _ xs within is t.exact (new ∙ ap (λ z. get_or xs at (pos 0) +ℤ z) same);
-      size = λ i. omega (arith, int_added_size at before least _ part xs within t.size new small i, room);
     }
 
-pub int_first_more : (key : ℕ → ℕ) (f : ℕ → ℤ) (e at nodes long before after least : ℕ) (part : ℤ) (xs : List ℤ) → IsSignedTable long nodes (λ i. int_sum_at key i f e) before xs
-    → at ≡ key e → at < nodes → nodes ≤ long → part ≡ f e → unsigned_abs part ≤ least → least ≤ 2 ^ 122 → before + least ≤ after → after ≤ 2 ^ 126
-    → IsSignedTable long nodes (λ i. int_sum_at key i f (e + 1)) after (put_in xs at part)
-int_first_more key f e at nodes long before after least part xs t is lt le same small narrow room fits =
-    let start : IsSignedTable long nodes (λ i. pos 0 +ℤ int_sum_at key i f e) before xs = record { long = t.long; exact = λ i im. omega (arith, additive, t.exact i im); size = t.size } in
-    let later = int_more key f (λ _. pos 0) e at nodes long before after least part xs start is lt le same small narrow room fits in
-    record { long = later.long; exact = λ i im. omega (arith, additive, later.exact i im); size = later.size }
+pub int_first_more : (key : ℕ → ℕ) (f : ℕ → ℤ) (e at nodes long : ℕ) (part : ℤ) (xs : List ℤ) → IsSignedTable long nodes (λ i. int_sum_at key i f e) xs
+    → at ≡ key e → at < nodes → nodes ≤ long → part ≡ f e → unsigned_abs (get_or xs at (pos 0)) ≤ 2 ^ 126 → unsigned_abs part ≤ 2 ^ 123
+    → IsSignedTable long nodes (λ i. int_sum_at key i f (e + 1)) (put_in xs at part)
+int_first_more key f e at nodes long part xs t is lt le same room small =
+    let start : IsSignedTable long nodes (λ i. pos 0 +ℤ int_sum_at key i f e) xs = record { long = t.long; exact = λ i im. omega (arith, additive, t.exact i im) } in
+    let later = int_more key f (λ _. pos 0) e at nodes long part xs start is lt le same room small in
+    record { long = later.long; exact = λ i im. omega (arith, additive, later.exact i im) }

@@ -2,11 +2,11 @@
 use Rattle.std.specs.Prelude.{◌≡◌, ◌≢◌, ℕ, ◌*◌, ◌<◌, ◌≤◌, ◌⊎◌, List, [], ◌∷◌, length, Some, ℤ, ◌<ℤ◌}
 use Rattle.faults.specs.First.{IsFirst, IsFirstOf}
 use Rattle.integers.specs.Sums.{sum_at}
-use Rattle.pool_model.specs.Network.{Net}
-use Rattle.pool_model.specs.Plan.{Plan, Written, weight, IsWritten, plan_of, outflow, source_outflow, product_inflow, quality_inflow, quality_room, Obeys, cost_of}
+use Rattle.pool_model.specs.Network.{Net, arcs, arc_max}
+use Rattle.pool_model.specs.Plan.{Plan, Written, weight, IsWritten, plan_of, arc_flow, outflow, source_outflow, product_inflow, quality_inflow, quality_room, Obeys, cost_of}
 use Rattle.plan_core.specs.declared.plan.Cost.{Cost}
 use Rattle.plan_core.specs.declared.fault.PlanFault.{PlanFault}
-use Rattle.plan_core.specs.declared.fault.PlanFault.TheVariants.{Shape, WeightSum, SourceOver, PoolOver, ProductOver, ProductUnder, QualityOver, QualityUnder}
+use Rattle.plan_core.specs.declared.fault.PlanFault.TheVariants.{Shape, WeightSum, SourceOver, PoolOver, ProductOver, ProductUnder, QualityOver, QualityUnder, ArcOver}
 
 -- The bases are within the limits, and there is a number for each arc.
 pub record IsShaped (n : Net) (w : Written) : Type 0 where
@@ -28,6 +28,12 @@ pub record IsBelowLeast (n : Net) (p : Plan) (j k : ℕ) : Type 0 where
   pub is : n.least j k ≡ Some least
   pub below : quality_inflow n p j k <ℤ quality_room n p j least
 
+-- the arc has a maximum, and carries more
+pub record IsAboveMaximum (n : Net) (p : Plan) (a : ℕ) : Type 0 where
+  pub most : ℕ
+  pub is : arc_max n a ≡ Some most
+  pub above : p.base * most < arc_flow n p a
+
 -- The written plan breaks this rule. Flows and qualities are those of the plan that it stands for.
 abbrev pub Breaks : Net → Written → PlanFault → Type 0
 Breaks n w Shape = ¬ IsShaped n w
@@ -38,6 +44,7 @@ Breaks n w (ProductOver j) = (j < n.products) × ((plan_of n w).base * n.product
 Breaks n w (ProductUnder j) = (j < n.products) × (product_inflow n (plan_of n w) j < (plan_of n w).base * n.product_min j)
 Breaks n w (QualityOver j k) = (j < n.products) × (k < n.qualities) × IsAboveMost n (plan_of n w) j k
 Breaks n w (QualityUnder j k) = (j < n.products) × (k < n.qualities) × IsBelowLeast n (plan_of n w) j k
+Breaks n w (ArcOver a) = (a < arcs n) × IsAboveMaximum n (plan_of n w) a
 
 -- ---- order
 
@@ -51,8 +58,9 @@ number (ProductOver _) = 5
 number (ProductUnder _) = 6
 number (QualityOver _ _) = 7
 number (QualityUnder _ _) = 8
+number (ArcOver _) = 9
 
--- the source, pool or product that it is about, then the quality
+-- the source, pool, product or arc that it is about, then the quality
 abbrev pub about : PlanFault → List ℕ
 about Shape = []
 about (WeightSum l) = l ∷ []
@@ -62,6 +70,7 @@ about (ProductOver j) = j ∷ []
 about (ProductUnder j) = j ∷ []
 about (QualityOver j k) = j ∷ k ∷ []
 about (QualityUnder j k) = j ∷ k ∷ []
+about (ArcOver a) = a ∷ []
 
 -- rules go by their numbers, then by what they are about
 abbrev pub rank : PlanFault → List ℕ
@@ -73,11 +82,11 @@ IsFirstFault n w = IsFirst rank (Breaks n w)
 
 -- ---- one rule at a time
 
--- the plan keeps a rule about nodes at every node
+-- the plan keeps a rule about nodes or arcs at every one
 abbrev pub Keeps : Net → Written → (ℕ → PlanFault) → Type 0
 Keeps n w fault = (i : ℕ) → ¬ Breaks n w (fault i)
 
--- the fault of the first node at which the plan breaks a rule
+-- the fault of the first node or arc at which the plan breaks a rule
 abbrev pub IsFirstBroken : Net → Written → (ℕ → PlanFault) → PlanFault → Type 0
 IsFirstBroken n w fault = IsFirstOf fault (λ i. Breaks n w (fault i))
 

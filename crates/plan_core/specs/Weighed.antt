@@ -8,21 +8,32 @@ use Rattle.pool_model.specs.Plan.{Written, weight, written_out, written_outflow,
 abbrev pub weighed : Net → Written → ℕ → ℕ → ℤ
 weighed n w l k = int_sum_at n.feed_pool l (λ e. n.source_quality (n.feed_source e) k *ℤ pos (weight w e)) n.feeds
 
--- the quality that reaches a product, over both bases
+-- what of it leaves the pool, in parts of the scale
+abbrev pub leaving : Net → Written → ℕ → ℕ → ℤ
+leaving n w l k = pos (n.retained l k) *ℤ weighed n w l k
+
+-- what the pools bring of a quality to a product, in parts of the scale, over both bases: along the outs below a number
+abbrev pub pooled_below : Net → Written → ℕ → ℕ → ℕ → ℤ
+pooled_below n w k outs j = int_sum_at n.out_product j (λ o. leaving n w (n.out_pool o) k *ℤ pos (written_out w o)) outs
+
+-- the same for directs
+abbrev pub sent_below : Net → Written → ℕ → ℕ → ℕ → ℤ
+sent_below n w k directs j =
+    int_sum_at n.direct_product j (λ e. pos n.scale *ℤ n.source_quality (n.direct_source e) k *ℤ pos ((plan_of n w).direct e)) directs
+
+-- the quality that reaches a product, in parts of the scale, over both bases
 abbrev pub written_quality : Net → Written → ℕ → ℕ → ℤ
-written_quality n w j k =
-    int_sum_at n.out_product j (λ o. weighed n w (n.out_pool o) k *ℤ pos (written_out w o)) n.outs
-    +ℤ int_sum_at n.direct_product j (λ e. n.source_quality (n.direct_source e) k *ℤ pos ((plan_of n w).direct e)) n.directs
+written_quality n w j k = pooled_below n w k n.outs j +ℤ sent_below n w k n.directs j
 
--- a quality that reaches a product passes a most, if there is one
-abbrev pub IsAbove : Option ℤ → ℕ → ℤ → Type 0
-IsAbove None inflow quality = ⊥
-IsAbove (Some most) inflow quality = (most *ℤ pos inflow) <ℤ quality
+-- a quality that reaches a product, in parts of a scale, passes a most, if there is one
+abbrev pub IsAbove : ℤ → Option ℤ → ℕ → ℤ → Type 0
+IsAbove scale None inflow quality = ⊥
+IsAbove scale (Some most) inflow quality = (scale *ℤ most *ℤ pos inflow) <ℤ quality
 
--- a quality that reaches a product stays below a least, if there is one
-abbrev pub IsBelow : Option ℤ → ℕ → ℤ → Type 0
-IsBelow None inflow quality = ⊥
-IsBelow (Some least) inflow quality = quality <ℤ (least *ℤ pos inflow)
+-- a quality that reaches a product, in parts of a scale, stays below a least, if there is one
+abbrev pub IsBelow : ℤ → Option ℤ → ℕ → ℤ → Type 0
+IsBelow scale None inflow quality = ⊥
+IsBelow scale (Some least) inflow quality = quality <ℤ (scale *ℤ least *ℤ pos inflow)
 
 -- ---- tables by node
 
@@ -55,7 +66,9 @@ AreQualities n w columns = (k : ℕ) → k < n.qualities → AreProductQualities
 -- How large the numbers of a plan are whose weights sum to the base and that passes no product's maximum.
 pub record HasRoom (n : Net) (w : Written) : Type 0 where
   pub outflows : (o : ℕ) → o < n.outs → written_out w o ≤ 2 ^ 56
+  pub pooled : (j : ℕ) → j < n.products → sum_at n.out_product j (written_out w) n.outs ≤ 2 ^ 56
   pub directs : (e : ℕ) → e < n.directs → (plan_of n w).direct e ≤ 2 ^ 76
+  pub weights : (l : ℕ) → l < n.pools → sum_at n.feed_pool l (weight w) n.feeds ≤ 2 ^ 20
   pub weighed : (l k : ℕ) → l < n.pools → k < n.qualities → unsigned_abs (weighed n w l k) ≤ 2 ^ 57
   pub inflows : (j : ℕ) → j < n.products → product_inflow n (plan_of n w) j ≤ 2 ^ 76
   pub supply : sum_below (source_outflow n (plan_of n w)) n.sources ≤ 2 ^ 82

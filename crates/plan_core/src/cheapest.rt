@@ -29,7 +29,7 @@ pub fn cheapest_start(alloc: Global, net: &Network) -> Result<Option<Start>, Mem
     // Promise: No starting plan that obeys costs less than the cheapest that is found, and at a tie that is the first: the zero plan, then
     //   paths, then directs
     ensures cheapest { IfOk result (λ o. IfSome o (λ s. IsCheapestStart (net_of net.now) (shown_plan s.plan))) }
-    ensures size { IfOk result (λ o. IfSome o (λ s. unsigned_abs s.cost.num ≤ 2 * 10 ^ 24)) }
+    ensures size { IfOk result (λ o. IfSome o (λ s. unsigned_abs s.cost.num ≤ 4 * 10 ^ 24)) }
     // Promise: No cheapest starting plan is found only where no starting plan obeys
     ensures none { IfOk result (λ o. IfNone o ((w : Written) → IsStarting (net_of net.now) w → ¬ Obeys (net_of net.now) (plan_of (net_of net.now) w))) }
     ensures limited { IsLimited (net_of net.now) }

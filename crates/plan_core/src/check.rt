@@ -1,15 +1,16 @@
-//! The check of a written plan: its form, its flows and its qualities, in this order.
+//! The check of a written plan: its form, its flows through nodes, its qualities and its flows along arcs, in this order.
 
-ghost use Rattle.std.specs.Prelude.{◌≡◌, ℕ, ◌*◌, ◌<◌, ◌≤◌, ◌^◌, ◌↔◌, [], get_or, pos, unsigned_abs, IfOk, IfErr, IfSome, IsTrue};
-ghost use Rattle.pool_model.specs.Network.{net_of, IsLimited, IsWithin};
+ghost use Rattle.std.specs.Prelude.{◌≡◌, ℕ, ◌*◌, ◌<◌, ◌≤◌, ◌^◌, ◌↔◌, [], get_or, pos, unsigned_abs, IfOk, IfErr, IsTrue};
+ghost use Rattle.pool_model.specs.Network.{net_of, IsLimited};
 ghost use Rattle.plan_core.specs.Views.{shown_plan};
 ghost use Rattle.plan_core.specs.Faults.{IsShaped, Breaks, Keeps, KeepsEach, IsFirstBroken, IsFirstQuality, IsFirstFault, IsCostOf};
 ghost use Rattle.plan_core.specs.Weighed.{ArePoolOutflows, AreSourceOutflows, AreProductInflows, HasRoom, IsAbove, IsBelow, IsFirstBelow};
 
+use crate::arcs::is_over;
 use crate::cost::cost;
 use crate::fault::PlanFault;
 use crate::plan::{Cost, WrittenPlan};
-use crate::qualities::{MAX_QUALITIES, qualities, weighted};
+use crate::qualities::{MAX_QUALITIES, in_parts, qualities, weighted};
 use crate::sums::{
     MAX_POOLS, MAX_PRODUCTS, MAX_SOURCES, pool_outflows, product_inflows, source_outflows,
     weight_sums,
@@ -25,9 +26,9 @@ const MAX_FLOW_BASE: u32 = 65_536;
 pub fn check_plan(net: &Network, plan: &WrittenPlan) -> Result<Cost, PlanFault>
     // Promise: A written plan is accepted only where it has its form and what it stands for obeys, and then with its exact cost
     ensures ok { IfOk result (IsCostOf (net_of net.now) (shown_plan plan.now)) }
-    ensures size { IfOk result (λ cost. unsigned_abs cost.num ≤ 2 ^ 123) }
-    // Promise: Of a written plan that is not accepted the first rule that it breaks is named, with the source, pool, product and quality;
-    //   no memory is taken
+    ensures size { IfOk result (λ cost. unsigned_abs cost.num ≤ 2 ^ 124) }
+    // Promise: Of a written plan that is not accepted the first rule that it breaks is named, with the source, pool, product, quality and
+    //   arc; no memory is taken
     ensures fault { IfErr result (IsFirstFault (net_of net.now) (shown_plan plan.now)) }
 {
     check_shape(net, plan)?;
@@ -40,7 +41,8 @@ pub fn check_plan(net: &Network, plan: &WrittenPlan) -> Result<Cost, PlanFault>
     check_maxima(net, plan, &inflows)?;
     check_minima(net, plan, &inflows)?;
     check_qualities(net, plan, &inflows)?;
-    Ok(cost(net, plan, &outflows, &inflows))
+    check_arcs(net, plan, &through)?;
+    Ok(cost(net, plan, &through, &outflows, &inflows))
 }
 
 /// Shape, exactly where the plan's bases or lengths are wrong.
@@ -165,7 +167,7 @@ fn check_minima(
 }
 
 /// A number of millionths, over a denominator.
-fn room(denominator: u64, millionths: i64) -> u128
+pub(crate) fn room(denominator: u64, millionths: i64) -> u128
     ensures { result ≡ denominator * unsigned_abs millionths }
 {
     u128::from(denominator) * u128::from(millionths.unsigned_abs())
@@ -209,15 +211,12 @@ fn first_above(
 ) -> Option<u32>
     requires product { product < (net_of net.now).products }
     requires inflow { inflow ≤ 2 ^ 76 }
-    ensures { IsFirstBelow (λ k. IsAbove ((net_of net.now).most product k) inflow (get_or (get_or sums.now k []) product (pos 0))) (net_of net.now).qualities result }
+    ensures { IsFirstBelow (λ k. IsAbove (pos (net_of net.now).scale) ((net_of net.now).most product k) inflow (get_or (get_or sums.now k []) product (pos 0))) (net_of net.now).qualities result }
 {
     let counts = net.sizes();
     for quality in 0..counts.qualities {
-        if is_above(
-            net.product_most(product, quality),
-            inflow,
-            sums[quality as usize][product as usize],
-        ) {
+        let sum = sums[quality as usize][product as usize];
+        if is_above(net, product, quality, inflow, sum) {
             return Some(quality);
         }
     }
@@ -233,39 +232,59 @@ fn first_below(
 ) -> Option<u32>
     requires product { product < (net_of net.now).products }
     requires inflow { inflow ≤ 2 ^ 76 }
-    ensures { IsFirstBelow (λ k. IsBelow ((net_of net.now).least product k) inflow (get_or (get_or sums.now k []) product (pos 0))) (net_of net.now).qualities result }
+    ensures { IsFirstBelow (λ k. IsBelow (pos (net_of net.now).scale) ((net_of net.now).least product k) inflow (get_or (get_or sums.now k []) product (pos 0))) (net_of net.now).qualities result }
 {
     let counts = net.sizes();
     for quality in 0..counts.qualities {
-        if is_below(
-            net.product_least(product, quality),
-            inflow,
-            sums[quality as usize][product as usize],
-        ) {
+        let sum = sums[quality as usize][product as usize];
+        if is_below(net, product, quality, inflow, sum) {
             return Some(quality);
         }
     }
     None
 }
 
-fn is_above(most: Option<i64>, inflow: u128, sum: i128) -> bool
+fn is_above(net: &Network, product: u32, quality: u32, inflow: u128, sum: i128) -> bool
+    requires product { product < (net_of net.now).products }
+    requires quality { quality < (net_of net.now).qualities }
     requires inflow { inflow ≤ 2 ^ 76 }
-    requires most { IfSome most (IsWithin (10 ^ 11)) }
-    ensures { IsTrue result ↔ IsAbove most inflow sum }
+    ensures { IsTrue result ↔ IsAbove (pos (net_of net.now).scale) ((net_of net.now).most product quality) inflow sum }
 {
-    match most {
+    match net.product_most(product, quality) {
         None => false,
-        Some(most) => weighted(i128::from(most), inflow) < sum,
+        Some(most) => weighted(in_parts(net.scale(), i128::from(most)), inflow) < sum,
     }
 }
 
-fn is_below(least: Option<i64>, inflow: u128, sum: i128) -> bool
+fn is_below(net: &Network, product: u32, quality: u32, inflow: u128, sum: i128) -> bool
+    requires product { product < (net_of net.now).products }
+    requires quality { quality < (net_of net.now).qualities }
     requires inflow { inflow ≤ 2 ^ 76 }
-    requires least { IfSome least (IsWithin (10 ^ 11)) }
-    ensures { IsTrue result ↔ IsBelow least inflow sum }
+    ensures { IsTrue result ↔ IsBelow (pos (net_of net.now).scale) ((net_of net.now).least product quality) inflow sum }
 {
-    match least {
+    match net.product_least(product, quality) {
         None => false,
-        Some(least) => sum < weighted(i128::from(least), inflow),
+        Some(least) => sum < weighted(in_parts(net.scale(), i128::from(least)), inflow),
     }
+}
+
+/// ArcOver, exactly where an arc carries more than its maximum.
+fn check_arcs(
+    net: &Network,
+    plan: &WrittenPlan,
+    through: &[u128; MAX_POOLS],
+) -> Result<(), PlanFault>
+    requires shaped { IsShaped (net_of net.now) (shown_plan plan.now) }
+    requires through { ArePoolOutflows (net_of net.now) (shown_plan plan.now) through.now }
+    requires size { (l : ℕ) → get_or through.now l 0 ≤ 2 ^ 72 }
+    ensures keeps { IfOk result (λ _. Keeps (net_of net.now) (shown_plan plan.now) (λ a. PlanFault.ArcOver a)) }
+    ensures first { IfErr result (IsFirstBroken (net_of net.now) (shown_plan plan.now) (λ a. PlanFault.ArcOver a)) }
+{
+    let counts = net.sizes();
+    for arc in 0..counts.feeds + counts.outs + counts.directs {
+        if is_over(net, plan, through, arc) {
+            return Err(PlanFault::ArcOver(arc));
+        }
+    }
+    Ok(())
 }

@@ -26,6 +26,8 @@ pub enum PlanFault {
     QualityOver(u32, u32),
     /// This product's mean of this quality is below its least.
     QualityUnder(u32, u32),
+    /// This arc carries more than its maximum. Arcs have one number: feeds, then outs, then directs.
+    ArcOver(u32),
 }
 
 impl Ranked for PlanFault {
@@ -50,6 +52,7 @@ impl PlanFault {
             PlanFault::ProductUnder(_) => 6,
             PlanFault::QualityOver(_, _) => 7,
             PlanFault::QualityUnder(_, _) => 8,
+            PlanFault::ArcOver(_) => 9,
         }
     }
 }

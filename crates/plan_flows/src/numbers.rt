@@ -54,10 +54,20 @@ pub(crate) fn parted(weight: u32, outflow: u128) -> u128
     u128::from(weight) * outflow
 }
 
+/// So many parts of a quality.
+pub(crate) fn in_parts(parts: i64, number: i128) -> i128
+    requires parts { unsigned_abs parts ≤ 1000 }
+    requires number { unsigned_abs number ≤ 2 ^ 57 }
+    ensures value { result ≡ parts *ℤ number }
+    ensures size { unsigned_abs result ≤ 1000 * unsigned_abs number }
+{
+    i128::from(parts) * number
+}
+
 /// A number for each unit of a flow.
 pub(crate) fn weighted(number: i128, flow: u128) -> i128
     requires flow { flow < 2 ^ 127 }
-    requires size { unsigned_abs number * flow ≤ 2 ^ 122 }
+    requires size { unsigned_abs number * flow ≤ 2 ^ 123 }
     ensures value { result ≡ number *ℤ pos flow }
     ensures size { unsigned_abs result ≡ unsigned_abs number * flow }
 {

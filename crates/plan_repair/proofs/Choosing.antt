@@ -8,13 +8,14 @@ use Rattle.integers.proofs.Ring.{additive, mul_comm_ℤ, mul_left_comm_ℤ}
 use Rattle.integers.proofs.Order.{le-mul, lt-mul, lt-cancel}
 use Rattle.pool_model.specs.Network.{Net}
 use Rattle.pool_model.specs.Plan.{Written, plan_of, cost_of}
+use Rattle.pool_model.proofs.ArcCosts.{keeps-by_number}
 use Rattle.row_model.specs.Entries.{IsCheaper}
 use Rattle.plan_core.specs.Faults.{Breaks, IsCostOf}
 use Rattle.plan_core.specs.Views.{shown_plan}
 use Rattle.plan_core.specs.declared.plan.Cost.{Cost}
 use Rattle.plan_core.specs.declared.plan.WrittenPlan.{WrittenPlan}
 use Rattle.plan_core.specs.declared.fault.PlanFault.{PlanFault}
-use Rattle.plan_core.specs.declared.fault.PlanFault.TheVariants.{Shape, WeightSum, SourceOver, PoolOver, ProductOver, ProductUnder, QualityOver, QualityUnder}
+use Rattle.plan_core.specs.declared.fault.PlanFault.TheVariants.{Shape, WeightSum, SourceOver, PoolOver, ProductOver, ProductUnder, QualityOver, QualityUnder, ArcOver}
 use Rattle.plan_repair.specs.Choices.{IsLimit, is_less, is_below, cheapest, gained}
 use Rattle.plan_repair.specs.Repairs.{IsAccepted, IsGain, IsNoDearer}
 use Rattle.plan_repair.specs.declared.judging.Judged.{Judged}
@@ -29,6 +30,7 @@ broken n w (ProductOver j) h is = let keeps = is.obeys.carries.at_most j h.0 in 
 broken n w (ProductUnder j) h is = let keeps = is.obeys.carries.at_least j h.0 in omega (arith, keeps, h.1)
 broken n w (QualityOver j k) h is = let keeps = is.obeys.blends.at_most j k h.2.most h.0 h.1 h.2.is in omega (arith, additive, keeps, h.2.above)
 broken n w (QualityUnder j k) h is = let keeps = is.obeys.blends.at_least j k h.2.least h.0 h.1 h.2.is in omega (arith, additive, keeps, h.2.below)
+broken n w (ArcOver a) h is = let keeps = keeps-by_number n (plan_of n w) is.obeys.carries.arcs a h.1.most h.0 h.1.is in omega (arith, keeps, h.1.above)
 
 pub accepted-is : (n : Net) (w : Written) (c : Cost) → IsCostOf n w c → IsAccepted n w
 accepted-is n w c is = record { written = is.written; obeys = is.obeys }

@@ -1,2 +1,3 @@
 mod Leading
+mod Maxima
 pub mod Choosing

@@ -2,9 +2,9 @@
 use Rattle.std.specs.Prelude.{ℕ, ◌+◌, ◌-◌, ◌*◌, ◌/◌, min, nat_lt, List, get_or, Bool, ◌==◌, ◌&&◌, ◌||◌, not, if◌then◌else◌, ℤ, pos, negsuc}
 use Rattle.integers.specs.Sums.{sum_at}
 use Rattle.integers.specs.Numbers.{tabulate}
-use Rattle.pool_model.specs.Network.{Net}
+use Rattle.pool_model.specs.Network.{Net, capped}
 use Rattle.pool_model.specs.Plan.{Written}
-use Rattle.pool_model.specs.Starting.{all_below}
+use Rattle.pool_model.specs.Starting.{all_below, direct_room}
 use Rattle.row_model.specs.Boxes.{grain}
 
 -- A point has a number for each variable, the feeds first, then the outs and then the directs. It counts parts of a
@@ -21,16 +21,22 @@ above_zero (negsuc _) = 0
 abbrev pub within : ℕ → ℤ → ℕ
 within most number = min (above_zero number) (parts * most)
 
--- what flows along each arc, brought within what it may carry in the box of all plans
+-- ---- the most that each arc may carry in the box of all plans, and what flows along it, brought within that
+
+abbrev pub feed_room : Net → ℕ → ℕ
+feed_room n e = capped (n.feed_max e) (min (n.source_max (n.feed_source e)) (n.pool_max (n.feed_pool e)))
+
+abbrev pub out_room : Net → ℕ → ℕ
+out_room n o = capped (n.out_max o) (min (n.pool_max (n.out_pool o)) (n.product_max (n.out_product o)))
+
 abbrev pub feed_flow : Net → List ℤ → ℕ → ℕ
-feed_flow n point e = within (min (n.source_max (n.feed_source e)) (n.pool_max (n.feed_pool e))) (get_or point e (pos 0))
+feed_flow n point e = within (feed_room n e) (get_or point e (pos 0))
 
 abbrev pub out_flow : Net → List ℤ → ℕ → ℕ
-out_flow n point o = within (min (n.pool_max (n.out_pool o)) (n.product_max (n.out_product o))) (get_or point (n.feeds + o) (pos 0))
+out_flow n point o = within (out_room n o) (get_or point (n.feeds + o) (pos 0))
 
 abbrev pub direct_flow : Net → List ℤ → ℕ → ℕ
-direct_flow n point e =
-    within (min (n.source_max (n.direct_source e)) (n.product_max (n.direct_product e))) (get_or point (n.feeds + n.outs + e) (pos 0))
+direct_flow n point e = within (direct_room n e) (get_or point (n.feeds + n.outs + e) (pos 0))
 
 -- ---- weights, from the flows of the feeds
 

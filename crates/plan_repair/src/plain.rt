@@ -1,11 +1,12 @@
 //! The plain plan of a point: its own flows, rounded down.
 
-ghost use Rattle.std.specs.Prelude.{◌≡◌, ℕ, ◌+◌, ◌/◌, ◌<◌, ◌≤◌, ◌^◌, min, unsigned_abs, length, IfOk};
+ghost use Rattle.std.specs.Prelude.{◌≡◌, ℕ, ◌+◌, ◌/◌, ◌<◌, ◌≤◌, ◌^◌, min, unsigned_abs, length, option_map, IfOk};
 ghost use Rattle.integers.specs.Numbers.{tabulate};
-ghost use Rattle.pool_model.specs.Network.{net_of};
+ghost use Rattle.pool_model.specs.Network.{net_of, capped as capped_of};
+ghost use Rattle.pool_model.specs.Starting.{direct_room as direct_room_of};
 ghost use Rattle.plan_core.specs.Views.{shown_plan};
 ghost use Rattle.plan_repair.specs.PlainPlan.{above_zero as above_zero_of, direct_flow as direct_flow_of, feed_flow as feed_flow_of, out_flow as out_flow_of};
-ghost use Rattle.plan_repair.specs.PlainPlan.{parts, plain_plan as plain_written, within as within_of};
+ghost use Rattle.plan_repair.specs.PlainPlan.{feed_room as feed_room_of, out_room as out_room_of, parts, plain_plan as plain_written, within as within_of};
 
 use crate::weights::plain_weights;
 use blend_network::Network;
@@ -42,9 +43,8 @@ fn outflows(alloc: Global, net: &Network, point: &[i128]) -> Result<Vec<u64>, Me
     let [_, _, _, _, feeds, outs, _] = net.counts();
     let mut flows = Vec::new(alloc);
     for out in 0..outs {
-        let (pool, product) = net.out(out);
-        let most = lesser_maximum(net.pool_max(pool), net.product_max(product));
-        flows.push(millionths(most, point[(feeds + out) as usize]))?;
+        let room = out_room(net, out);
+        flows.push(millionths(room, point[(feeds + out) as usize]))?;
     }
     Ok(flows)
 }
@@ -57,9 +57,8 @@ fn directs(alloc: Global, net: &Network, point: &[i128]) -> Result<Vec<u64>, Mem
     let [_, _, _, _, feeds, outs, directs] = net.counts();
     let mut flows = Vec::new(alloc);
     for direct in 0..directs {
-        let (source, product) = net.direct(direct);
-        let most = lesser_maximum(net.source_max(source), net.product_max(product));
-        flows.push(millionths(most, point[(feeds + outs + direct) as usize]))?;
+        let room = direct_room(net, direct);
+        flows.push(millionths(room, point[(feeds + outs + direct) as usize]))?;
     }
     Ok(flows)
 }
@@ -71,11 +70,40 @@ pub(crate) fn feed_flow(net: &Network, point: &[i128], feed: u32) -> u128
     ensures value { result ≡ feed_flow_of (net_of net.now) point.now feed }
     ensures size { result ≤ 2 ^ 95 }
 {
+    within(feed_room(net, feed), point[feed as usize])
+}
+
+/// The most that may flow along a feed, in millionths.
+fn feed_room(net: &Network, feed: u32) -> u64
+    requires { feed < (net_of net.now).feeds }
+    ensures value { result ≡ feed_room_of (net_of net.now) feed }
+    ensures size { result ≤ 2 ^ 63 }
+{
     let (source, pool) = net.feed(feed);
-    within(
-        lesser_maximum(net.source_max(source), net.pool_max(pool)),
-        point[feed as usize],
-    )
+    let most = lesser_maximum(net.source_max(source), net.pool_max(pool));
+    capped(net.feed_max(feed), most)
+}
+
+/// The most that may flow along an out, in millionths.
+fn out_room(net: &Network, out: u32) -> u64
+    requires { out < (net_of net.now).outs }
+    ensures value { result ≡ out_room_of (net_of net.now) out }
+    ensures size { result ≤ 2 ^ 63 }
+{
+    let (pool, product) = net.out(out);
+    let most = lesser_maximum(net.pool_max(pool), net.product_max(product));
+    capped(net.out_max(out), most)
+}
+
+/// The most that may flow along a direct, in millionths.
+fn direct_room(net: &Network, direct: u32) -> u64
+    requires { direct < (net_of net.now).directs }
+    ensures value { result ≡ direct_room_of (net_of net.now) direct }
+    ensures size { result ≤ 2 ^ 63 }
+{
+    let (source, product) = net.direct(direct);
+    let most = lesser_maximum(net.source_max(source), net.product_max(product));
+    capped(net.direct_max(direct), most)
 }
 
 /// The lesser of two maxima.
@@ -84,6 +112,17 @@ fn lesser_maximum(a: i64, b: i64) -> u64
     ensures size { result ≤ 2 ^ 63 }
 {
     a.unsigned_abs().min(b.unsigned_abs())
+}
+
+/// The lesser of an amount and an arc's maximum, if there is one.
+fn capped(max: Option<i64>, amount: u64) -> u64
+    ensures value { result ≡ capped_of (option_map unsigned_abs max) amount }
+    ensures size { result ≤ amount }
+{
+    match max {
+        None => amount,
+        Some(max) => max.unsigned_abs().min(amount),
+    }
 }
 
 /// A number of the point, brought within the most that may flow, in millionths, rounded down.

@@ -4,4 +4,4 @@ pub mod PropPoints
 pub mod Tests
 pub mod RootEnds
 pub mod QualPoints
-pub mod Signed
+pub mod Running

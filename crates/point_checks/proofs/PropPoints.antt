@@ -2,16 +2,17 @@
 use Rattle.std.proofs.Common.{ℕ, ◌<◌, arith}
 use Rattle.pool_model.specs.Network.{Net, IsLimited}
 use Rattle.pool_model.specs.Plan.{Carries}
-use Rattle.row_model.specs.Variables.{path_count, path_feed, path_out}
-use Rattle.row_model.proofs.PathSums.{path_feed-below, path_out-below}
+use Rattle.row_model.specs.Variables.{path_count, path_out}
+use Rattle.row_model.proofs.PathSums.{path_out-below}
 use Rattle.program_model.specs.Points.{proportion_flows}
-use Rattle.program_model.proofs.Bounds.{carries-bounded, part-le, path-le, proportion-le}
+use Rattle.program_model.proofs.Bounds.{carries-bounded, path-le, proportion-le}
+use Rattle.program_model.proofs.FormQ.{paths_into}
 use Rattle.point_checks.specs.PropSlices.{seen}
 use Rattle.point_checks.specs.ProportionTests.{HasPropShape, IsPropPoint, FitsProps, AreSmallProps, SumsToOne, ComesFrom, IsProduct, KeepsLimits}
 use Rattle.point_checks.specs.declared.prop_slices.PropSlices.{PropSlices}
 
 -- the sizes of a point hold by themselves
-pub point-fits : (n : Net) (s : PropSlices) → IsLimited n → IsPropPoint n s → FitsProps s
+pub point-fits : (n : Net) (s : PropSlices) → IsLimited n → IsPropPoint n s → FitsProps n s
 point-fits n s lim h =
     let bounded = carries-bounded n (proportion_flows (seen s)) lim h.point.carries in
     record {
@@ -19,6 +20,7 @@ point-fits n s lim h =
         feeds = λ e lt. bounded.feed e (omega (arith, h.shape.x));
         outs = λ o lt. omega (arith, bounded.out o (omega (arith, h.shape.y)));
         directs = λ e lt. omega (arith, bounded.direct e (omega (arith, h.shape.z)));
+        arcs = h.point.carries.arcs;
       };
       paths = λ a lt.
           let within : a < path_count n = omega (arith, h.shape.paths) in
@@ -26,25 +28,16 @@ point-fits n s lim h =
       proportions = λ e lt. proportion-le n (seen s) e lim h.point (omega (arith, h.shape.props));
     }
 
--- how large its numbers are where flows carry and go along paths by proportions
-pub small-point : (n : Net) (s : PropSlices) → IsLimited n → HasPropShape n s → FitsProps s → ((a : ℕ) → a < path_count n → IsProduct n (seen s) a) → Carries n (proportion_flows (seen s))
-    → AreSmallProps n s
-small-point n s lim shape fits products carries =
+-- how large its numbers are where flows carry and go along paths by proportions that sum to 1: what flows along paths to a product is
+-- what its outs carry
+pub small-point : (n : Net) (s : PropSlices) → IsLimited n → HasPropShape n s → ((a : ℕ) → a < path_count n → IsProduct n (seen s) a) → ((l : ℕ) → l < n.pools → SumsToOne n (seen s) l)
+    → Carries n (proportion_flows (seen s)) → AreSmallProps n s
+small-point n s lim shape products sums carries =
     let bounded = carries-bounded n (proportion_flows (seen s)) lim carries in
     record {
       outs = λ o lt. omega (arith, bounded.out o (omega (arith, shape.y)), shape.bases.base_most);
       directs = λ e lt. omega (arith, bounded.direct e (omega (arith, shape.z)), shape.bases.base_most);
-      paths = λ a lt.
-          let within : a < path_count n = omega (arith, shape.paths) in
-          let feed = path_feed-below n a within in
-          let out = path_out-below n a within in
-          omega (
-            arith,
-            part-le ((seen s).path a) s.prop_base ((seen s).proportion (path_feed n a)) ((seen s).out (path_out n a)) (products a within)
-                (fits.proportions (path_feed n a) (omega (arith, feed, shape.props))) shape.bases.second,
-            bounded.out (path_out n a) out,
-            shape.bases.base_most,
-          );
+      paths = λ j lt. omega (arith, paths_into n (seen s) j lim shape.bases.second sums products, bounded.inflow j lt, shape.bases.base_most);
       inflow = λ j lt. omega (arith, bounded.inflow j lt, shape.bases.base_most);
     }
 

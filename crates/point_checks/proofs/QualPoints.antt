@@ -1,29 +1,29 @@
 -- What the tests of a point of P show of it, and how large its numbers are.
 use Rattle.std.proofs.Common.{◌≡◌, ℕ, ◌+◌, ◌*◌, ◌/◌, ◌%◌, ◌<◌, ◌≤◌, ◌^◌, ◌↔◌, Bool, IsTrue, get_or, ℤ, pos, neg_ℤ, ◌*ℤ◌, ◌≤ℤ◌, unsigned_abs, arith, sym, ap, subst, ◌∙◌}
-use Rattle.std.proofs.Math.Nat.{mul-le-mul, le_of_mul-le-mul_left}
+use Rattle.std.proofs.Math.Nat.{mul-le-mul, mul-le-mul_right, le_of_mul-le-mul_left}
 use Rattle.std.proofs.lemmas.Int.{ints, unsigned_abs-mul}
 use Rattle.integers.proofs.Ring.{neg-mul}
 use Rattle.integers.proofs.Order.{le_trans_ℤ, le-mul_pos}
-use Rattle.integers.proofs.Grids.{grid-row, grid-column}
 use Rattle.pool_model.specs.Network.{Net, IsLimited, IsWithin}
-use Rattle.pool_model.specs.Plan.{Plan, Carries, pool_inflow}
+use Rattle.pool_model.specs.Plan.{Plan, Carries, outflow}
 use Rattle.row_model.specs.Boxes.{qual, root_low, root_high}
 use Rattle.program_model.specs.Points.{quality_flows}
 use Rattle.program_model.proofs.Bounds.{carries-bounded}
-use Rattle.point_checks.specs.Sizes.{FlowsFit}
+use Rattle.point_checks.specs.Flows.{FlowsFit}
 use Rattle.point_checks.specs.QualSlices.{seen}
 use Rattle.point_checks.specs.QualityTests.{HasQualShape, IsQualPoint, AreSmallQuals, LiesBetween, HasQuality, KeepsQuality, KeepsLimits}
 use Rattle.point_checks.specs.declared.qual_slices.QualSlices.{QualSlices}
 use Rattle.point_checks.proofs.RootEnds.{root_low-within, root_high-within}
 
 -- the sizes of a point hold by themselves
-pub point-fits : (n : Net) (s : QualSlices) → IsLimited n → IsQualPoint n s → FlowsFit s.flows.base s.flows.feeds.now s.flows.outs.now s.flows.directs.now
+pub point-fits : (n : Net) (s : QualSlices) → IsLimited n → IsQualPoint n s → FlowsFit n s.flows.base s.flows.feeds.now s.flows.outs.now s.flows.directs.now
 point-fits n s lim h =
     let bounded = carries-bounded n (quality_flows (seen n s)) lim h.point.carries in
     record {
       feeds = λ e lt. bounded.feed e (omega (arith, h.shape.x));
       outs = λ o lt. omega (arith, bounded.out o (omega (arith, h.shape.y)));
       directs = λ e lt. omega (arith, bounded.direct e (omega (arith, h.shape.z)));
+      arcs = h.point.carries.arcs;
     }
 
 -- a number between ends over a base
@@ -36,38 +36,34 @@ between-small low high q r size a b h k =
     bound : (q : ℤ) (m : ℕ) → neg_ℤ (pos m) ≤ℤ q → q ≤ℤ pos m → unsigned_abs q ≤ m
     bound q m h k = omega (arith, ints)
 
--- a product of a small number and a small flow
-product-small : (v q : ℤ) (r y size most : ℕ) → 0 < r → v *ℤ pos r ≡ q *ℤ pos y → unsigned_abs q ≤ size * r → y ≤ most → unsigned_abs v ≤ size * most
-product-small v q r y size most positive e small le =
+-- a product of a small number and a flow
+product-small : (v q : ℤ) (r y size : ℕ) → 0 < r → v *ℤ pos r ≡ q *ℤ pos y → unsigned_abs q ≤ size * r → unsigned_abs v ≤ size * y
+product-small v q r y size positive e small =
     let left : unsigned_abs v * r ≡ unsigned_abs q * y = sym (unsigned_abs-mul v (pos r)) ∙ ap unsigned_abs e ∙ unsigned_abs-mul q (pos y) in
-    let right : unsigned_abs q * y ≤ (size * r) * most = mul-le-mul small le in
-    le_of_mul-le-mul_left {m = unsigned_abs v} {n = size * most} {k = r} (omega (arith, left, right)) positive
+    let right : unsigned_abs q * y ≤ (size * r) * y = mul-le-mul_right y small in
+    le_of_mul-le-mul_left {m = unsigned_abs v} {n = size * y} {k = r} (omega (arith, left, right)) positive
 
-cell_is : (i w : ℕ) → 0 < w → (i / w) * w + i % w ≡ i
-cell_is i w h = omega arith
+-- what a pool sends where flows carry
+sent-small : (n : Net) (p : Plan) (l : ℕ) → IsLimited n → Carries n p → p.base ≤ 2 ^ 36 → l < n.pools → outflow n p l ≤ 2 ^ 83
+sent-small n p l lim carries small lt = omega (arith, carries.pools l lt, mul-le-mul small (lim.pool_maxima l lt))
 
 -- how large its numbers are where flows carry and outs have their pools' qualities
 pub small-point : (n : Net) (s : QualSlices) → IsLimited n → HasQualShape n s → ((l : ℕ) → l < n.pools → (k : ℕ) → k < n.qualities → LiesBetween n (seen n s) l k)
     → ((o : ℕ) → o < n.outs → (k : ℕ) → k < n.qualities → HasQuality n (seen n s) o k) → Carries n (quality_flows (seen n s)) → AreSmallQuals n s
 small-point n s lim shape between products carries =
-    let bounded = carries-bounded n (quality_flows (seen n s)) lim carries in
+    let p = quality_flows (seen n s) in
+    let bounded = carries-bounded n p lim carries in
     record {
       outs = λ o lt. omega (arith, bounded.out o (omega (arith, shape.y)), shape.bases.base_most);
       directs = λ e lt. omega (arith, bounded.direct e (omega (arith, shape.z)), shape.bases.base_most);
-      mixed = λ i lt.
-          let within : i < n.outs * n.qualities = omega (arith, shape.mixed) in
-          let o = i / n.qualities in
-          let k = i % n.qualities in
-          let lo : o < n.outs = grid-row n.outs n.qualities i within in
-          let lk : k < n.qualities = grid-column n.outs n.qualities i within in
+      mixed = λ o k lo lk.
           let l = n.out_pool o in
           let q = (seen n s).quality l k in
           let ends = between l (lim.out_pools o lo) k lk in
           let held = between-small (root_low n (qual l k)) (root_high n (qual l k)) q s.qual_base (10 ^ 11) (root_low-within n l k lim lk) (root_high-within n l k lim lk) ends.low ends.high in
-          let flow : (seen n s).out o ≤ 2 ^ 76 = omega (arith, bounded.out o lo, shape.bases.base_most) in
-          let small = product-small ((seen n s).mixed o k) q s.qual_base ((seen n s).out o) (10 ^ 11) (2 ^ 76) shape.bases.second (products o lo k lk) held flow in
-          let place : o * n.qualities + k ≡ i = cell_is i n.qualities (omega arith) in
-          omega (arith, small, ap (λ j. unsigned_abs (get_or s.mix.now j (pos 0))) place);
+          product-small ((seen n s).mixed o k) q s.qual_base ((seen n s).out o) (10 ^ 11) shape.bases.second (products o lo k lk) held;
+      fed = λ l lt. omega (arith, carries.balanced l lt, sent-small n p l lim carries shape.bases.base_most lt);
+      sent = λ l lt. sent-small n p l lim carries shape.bases.base_most lt;
       inflow = λ j lt. omega (arith, bounded.inflow j lt, shape.bases.base_most);
     }
 
@@ -122,7 +118,3 @@ between-same n s l k b held low high e f g h = (
     subst (λ (z : ℤ). held ≤ℤ (z *ℤ pos s.qual_base)) (sym g) (subst (λ (z : ℤ). z ≤ℤ (root_high n (qual l k) *ℤ pos s.qual_base)) (sym e) m.high),
   ),
 )
-
--- what flows into a pool where flows carry
-pub pool-small : (n : Net) (p : Plan) (l : ℕ) → IsLimited n → Carries n p → p.base ≤ 2 ^ 36 → l < n.pools → pool_inflow n p l ≤ 2 ^ 83
-pool-small n p l lim carries small lt = omega (arith, carries.balanced l lt, carries.pools l lt, mul-le-mul small (lim.pool_maxima l lt))

@@ -1,10 +1,12 @@
 -- Tests of a fact at each number below a count, and of facts that are the same.
-use Rattle.std.proofs.Common.{◌≡◌, ℕ, ◌<◌, ◌≤◌, ◌^◌, Bool, true, false, ◌↔◌, IsTrue, ℤ, ◌+ℤ◌, unsigned_abs, arith, refl, subst}
+use Rattle.std.proofs.Common.{◌≡◌, ℕ, ◌*◌, ◌<◌, ◌≤◌, ◌^◌, Bool, true, false, ◌↔◌, IsTrue, Option, Some, None, ℤ, pos, ◌+ℤ◌, unsigned_abs, arith, refl, sym, ap, subst}
+use Rattle.std.specs.Prelude.{option_map}
 use Rattle.std.proofs.lemmas.Bool.{false≢true}
 use Rattle.std.proofs.lemmas.Int.{ints}
 use mir.Syntax.{w128}
 use mir.Val.{to_z, of_z}
 use Rattle.pool_model.specs.Network.{Net}
+use Rattle.point_checks.specs.Flows.{IsWithinMaximum, KeepsMaximum}
 use Rattle.point_checks.specs.Qualities.{MeetsLimits}
 
 -- where the fact fails at a number, it doesn't hold at each
@@ -27,5 +29,16 @@ pub meets-same : (n : Net) (j k a b : ℕ) (x y : ℤ) → a ≡ b → x ≡ y �
 meets-same n j k a b x y e f m = subst (λ (z : ℤ). MeetsLimits n j k b z) f (subst (λ (c : ℕ). MeetsLimits n j k c x) e m)
 
 -- the code's sum of two qualities
-pub wide_sum : (t p : ℤ) → unsigned_abs t ≤ 2 ^ 122 → unsigned_abs p ≤ 2 ^ 122 → to_z w128 (of_z w128 (to_z w128 (of_z w128 t) +ℤ to_z w128 (of_z w128 p))) ≡ t +ℤ p
+pub wide_sum : (t p : ℤ) → unsigned_abs t ≤ 2 ^ 123 → unsigned_abs p ≤ 2 ^ 123 → to_z w128 (of_z w128 (to_z w128 (of_z w128 t) +ℤ to_z w128 (of_z w128 p))) ≡ t +ℤ p
 wide_sum t p h k = omega (arith, ints)
+
+-- a maximum as it is read
+pub within-maximum : (max : Option ℕ) (z : Option ℤ) (base flow : ℕ) → z ≡ option_map pos max → IsWithinMaximum z base flow → KeepsMaximum max base flow
+within-maximum None z base flow e h m is = cc
+within-maximum (Some most) z base flow e h m is =
+    let same : most ≡ m = cc in
+    omega (arith, subst (λ (o : Option ℤ). IsWithinMaximum o base flow) e h, ap (λ (a : ℕ). base * a) same)
+
+pub maximum-within : (max : Option ℕ) (z : Option ℤ) (base flow : ℕ) → z ≡ option_map pos max → KeepsMaximum max base flow → IsWithinMaximum z base flow
+maximum-within None z base flow e h = subst (λ (o : Option ℤ). IsWithinMaximum o base flow) (sym e) tt
+maximum-within (Some most) z base flow e h = subst (λ (o : Option ℤ). IsWithinMaximum o base flow) (sym e) (h most refl)

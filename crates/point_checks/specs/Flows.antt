@@ -1,7 +1,7 @@
 -- Flows that code holds, as a plan, and the rules of the network at one node.
-use Rattle.std.specs.Prelude.{◌≡◌, ℕ, ◌*◌, ◌≤◌, ◌^◌, List, length, get_or}
+use Rattle.std.specs.Prelude.{◌≡◌, ℕ, ◌*◌, ◌≤◌, ◌^◌, List, length, get_or, Option, Some, None, ℤ, unsigned_abs}
 use Rattle.pool_model.specs.Network.{Net}
-use Rattle.pool_model.specs.Plan.{Plan, outflow, pool_inflow, source_outflow, product_inflow}
+use Rattle.pool_model.specs.Plan.{Plan, KeepsMaxima, outflow, pool_inflow, source_outflow, product_inflow}
 use Rattle.point_checks.specs.Sizes.{AreAtMost}
 use Rattle.point_checks.specs.declared.flows.Flows.{Flows}
 
@@ -11,6 +11,23 @@ plan_over base x y z = record { base = base; feed = λ e. get_or x e 0; out = λ
 
 abbrev pub flows_plan : Flows → Plan
 flows_plan f = plan_over f.base f.feeds.now f.outs.now f.directs.now
+
+-- No flow of feeds, outs and directs over a base is above 10^14 millionths, and none on an arc with a maximum is above base times that
+-- maximum.
+pub record FlowsFit (n : Net) (base : ℕ) (x y z : List ℕ) : Type 0 where
+  pub feeds : AreAtMost (base * 10 ^ 14) x
+  pub outs : AreAtMost (base * 10 ^ 14) y
+  pub directs : AreAtMost (base * 10 ^ 14) z
+  pub arcs : KeepsMaxima n (plan_over base x y z)
+
+-- a flow over a base is within the maximum of its arc, if it has one
+abbrev pub KeepsMaximum : Option ℕ → ℕ → ℕ → Type 0
+KeepsMaximum max base flow = (m : ℕ) → max ≡ Some m → flow ≤ base * m
+
+-- the same of a maximum as it is read
+abbrev pub IsWithinMaximum : Option ℤ → ℕ → ℕ → Type 0
+IsWithinMaximum None base flow = Unit {0}
+IsWithinMaximum (Some m) base flow = flow ≤ base * unsigned_abs m
 
 -- a number for each arc, and none too large to be added up
 pub record AreFlows (n : Net) (f : Flows) : Type 0 where

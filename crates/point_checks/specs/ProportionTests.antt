@@ -6,7 +6,8 @@ use Rattle.pool_model.specs.Plan.{product_inflow}
 use Rattle.row_model.specs.Variables.{path_count, path_feed, path_out}
 use Rattle.program_model.specs.Points.{ProportionPoint, proportion_flows}
 use Rattle.program_model.specs.Programs.{IsPointOfQ, path_inflow}
-use Rattle.point_checks.specs.Sizes.{AreAtMost, FlowsFit}
+use Rattle.point_checks.specs.Flows.{FlowsFit}
+use Rattle.point_checks.specs.Sizes.{AreAtMost}
 use Rattle.point_checks.specs.Qualities.{MeetsLimits}
 use Rattle.point_checks.specs.PropSlices.{seen}
 use Rattle.point_checks.specs.declared.prop_slices.PropSlices.{PropSlices}
@@ -34,9 +35,9 @@ pub record IsPropPoint (n : Net) (s : PropSlices) : Type 0 where
   pub shape : HasPropShape n s
   pub point : IsPointOfQ n (seen s)
 
--- no flow is above 10^14 millionths, and no proportion above 1
-pub record FitsProps (s : PropSlices) : Type 0 where
-  pub flows : FlowsFit s.flows.base s.flows.feeds.now s.flows.outs.now s.flows.directs.now
+-- the flows fit, no flow along a path is above 10^14 millionths, and no proportion above 1
+pub record FitsProps (n : Net) (s : PropSlices) : Type 0 where
+  pub flows : FlowsFit n s.flows.base s.flows.feeds.now s.flows.outs.now s.flows.directs.now
   pub paths : AreAtMost (s.flows.base * 10 ^ 14) s.paths.now
   pub proportions : AreAtMost s.prop_base s.props.now
 
@@ -44,7 +45,7 @@ pub record FitsProps (s : PropSlices) : Type 0 where
 pub record AreSmallProps (n : Net) (s : PropSlices) : Type 0 where
   pub outs : AreAtMost (2 ^ 76) s.flows.outs.now
   pub directs : AreAtMost (2 ^ 76) s.flows.directs.now
-  pub paths : AreAtMost (2 ^ 76) s.paths.now
+  pub paths : (j : ℕ) → j < n.products → sum_at (λ a. n.out_product (path_out n a)) j (seen s).path (path_count n) ≤ 2 ^ 76
   pub inflow : (j : ℕ) → j < n.products → product_inflow n (proportion_flows (seen s)) j ≤ 2 ^ 76
 
 -- at one pool, feed and path

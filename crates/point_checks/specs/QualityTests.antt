@@ -1,8 +1,8 @@
 -- What the tests of a point of P look at, part by part.
-use Rattle.std.specs.Prelude.{◌≡◌, ℕ, ◌*◌, ◌<◌, ◌≤◌, ◌^◌, length, List, get_or, EachIndex, ℤ, pos, ◌*ℤ◌, ◌≤ℤ◌, unsigned_abs}
+use Rattle.std.specs.Prelude.{◌≡◌, ℕ, ◌*◌, ◌<◌, ◌≤◌, ◌^◌, length, ℤ, pos, ◌*ℤ◌, ◌≤ℤ◌, unsigned_abs}
 use Rattle.integers.specs.Sums.{int_sum_at}
 use Rattle.pool_model.specs.Network.{Net}
-use Rattle.pool_model.specs.Plan.{mix, product_inflow}
+use Rattle.pool_model.specs.Plan.{mix, outflow, pool_inflow, product_inflow}
 use Rattle.row_model.specs.Boxes.{qual, root_low, root_high}
 use Rattle.program_model.specs.Points.{QualityPoint, quality_flows}
 use Rattle.program_model.specs.Programs.{IsPointOfP, mixed_inflow}
@@ -26,15 +26,14 @@ pub record IsQualPoint (n : Net) (s : QualSlices) : Type 0 where
   pub shape : HasQualShape n s
   pub point : IsPointOfP n (seen n s)
 
--- no number of the list is this far from 0
-abbrev pub AreWithin : ℕ → List ℤ → Type 0
-AreWithin most xs = EachIndex xs (λ i. unsigned_abs (get_or xs i (pos 0)) ≤ most)
-
--- Small enough for sums of qualities: what a product takes is limited, and so is all that flows to products.
+-- Small enough for sums of qualities: mixed variables are at most 10^11 for each unit of their outs' flows, and what pools and products
+-- take is limited.
 pub record AreSmallQuals (n : Net) (s : QualSlices) : Type 0 where
   pub outs : AreAtMost (2 ^ 76) s.flows.outs.now
   pub directs : AreAtMost (2 ^ 76) s.flows.directs.now
-  pub mixed : AreWithin (2 ^ 113) s.mix.now
+  pub mixed : (o k : ℕ) → o < n.outs → k < n.qualities → unsigned_abs ((seen n s).mixed o k) ≤ 10 ^ 11 * (seen n s).out o
+  pub fed : (l : ℕ) → l < n.pools → pool_inflow n (quality_flows (seen n s)) l ≤ 2 ^ 83
+  pub sent : (l : ℕ) → l < n.pools → outflow n (quality_flows (seen n s)) l ≤ 2 ^ 83
   pub inflow : (j : ℕ) → j < n.products → product_inflow n (quality_flows (seen n s)) j ≤ 2 ^ 76
 
 -- a pool's quality lies between the least and the greatest that it is fed

@@ -2,16 +2,17 @@
 
 ghost use Rattle.std.specs.Prelude.{◌≡◌, ℕ, ◌*◌, ◌<◌, ◌≤◌, ◌↔◌, IsTrue};
 ghost use Rattle.pool_model.specs.Network.{net_of};
-ghost use Rattle.pool_model.specs.Plan.{Carries};
+ghost use Rattle.pool_model.specs.Plan.{Carries, KeepsMaxima};
 ghost use Rattle.point_checks.specs.Flows.{AreFlows, KeepsPool, KeepsProduct, KeepsSource, flows_plan};
 
 use crate::flows::Flows;
 use crate::sums::{room, sum_at_node};
 use blend_network::{Key, Network};
 
-/// Whether the flows carry.
+/// Whether flows that keep within the maxima of their arcs carry.
 pub fn carry(net: &Network, flows: &Flows) -> bool
-    requires { AreFlows (net_of net.now) flows.now }
+    requires flows { AreFlows (net_of net.now) flows.now }
+    requires maxima { KeepsMaxima (net_of net.now) (flows_plan flows.now) }
     ensures { IsTrue result ↔ Carries (net_of net.now) (flows_plan flows.now) }
 {
     keep_sources(net, flows) && keep_pools(net, flows) && keep_products(net, flows)

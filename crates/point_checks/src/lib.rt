@@ -7,7 +7,8 @@
 //! Beneath them are the rules of the network on flows, and the qualities that flows bring:
 //!
 //! - [`Flows`]: flows of feeds, outs and directs over a base.
-//! - [`flows_fit`]: whether no flow is too large, and [`are_at_most`], whether no number is above another.
+//! - [`flows_fit`]: whether no flow is too large, and none is above the maximum of its arc; [`are_at_most`]: whether no number is above
+//!   another.
 //! - [`carry`]: whether no node takes or sends more than it may, and what flows into a pool flows out of it.
 //! - [`sum_at_node`]: the sum of flows at a node.
 //! - [`quality_into`]: the quality that flows bring to a node, and [`is_within_limits`], whether a product's
@@ -24,6 +25,7 @@ mod carried;
 mod carriers;
 mod fits;
 mod flows;
+mod maxima;
 mod prop_checks;
 mod prop_limits;
 mod prop_slices;

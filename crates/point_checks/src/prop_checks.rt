@@ -43,10 +43,10 @@ pub fn are_bases(base: u64, second: u32) -> bool
     0 < base && base <= MAX_BASE && 0 < second && second <= MAX_SECOND_BASE
 }
 
-/// Whether no flow is above 10^14 millionths, and no proportion above 1.
+/// Whether the flows fit, no flow along a path is above 10^14 millionths, and no proportion above 1.
 pub(crate) fn fits(net: &Network, point: &PropSlices) -> bool
     requires { HasPropShape (net_of net.now) point.now }
-    ensures { IsTrue result ↔ FitsProps point.now }
+    ensures { IsTrue result ↔ FitsProps (net_of net.now) point.now }
 {
     let Flows {
         base,
@@ -93,7 +93,7 @@ fn proportion_sum(net: &Network, proportions: &[u32], pool: u32) -> u64
 /// Whether along each path flows its feed's proportion of what its out carries.
 pub(crate) fn are_products(net: &Network, point: &PropSlices) -> bool
     requires shape { HasPropShape (net_of net.now) point.now }
-    requires fits { FitsProps point.now }
+    requires fits { FitsProps (net_of net.now) point.now }
     ensures { IsTrue result ↔ ((a : ℕ) → a < path_count (net_of net.now) → IsProduct (net_of net.now) (seen point.now) a) }
 {
     for path in 0..net.paths() {
@@ -106,7 +106,7 @@ pub(crate) fn are_products(net: &Network, point: &PropSlices) -> bool
 
 fn is_product(net: &Network, point: &PropSlices, path: u32) -> bool
     requires shape { HasPropShape (net_of net.now) point.now }
-    requires fits { FitsProps point.now }
+    requires fits { FitsProps (net_of net.now) point.now }
     requires path { path < path_count (net_of net.now) }
     ensures { IsTrue result ↔ IsProduct (net_of net.now) (seen point.now) path }
 {
@@ -127,7 +127,7 @@ fn times(factor: u32, flow: u128) -> u128
 /// Whether what each feed brings goes along its paths.
 pub(crate) fn come_from_feeds(net: &Network, point: &PropSlices) -> bool
     requires shape { HasPropShape (net_of net.now) point.now }
-    requires fits { FitsProps point.now }
+    requires fits { FitsProps (net_of net.now) point.now }
     ensures { IsTrue result ↔ ((e : ℕ) → e < (net_of net.now).feeds → ComesFrom (net_of net.now) (seen point.now) e) }
 {
     let counts = net.sizes();
@@ -141,7 +141,7 @@ pub(crate) fn come_from_feeds(net: &Network, point: &PropSlices) -> bool
 
 fn comes_from_feed(net: &Network, point: &PropSlices, feed: u32) -> bool
     requires shape { HasPropShape (net_of net.now) point.now }
-    requires fits { FitsProps point.now }
+    requires fits { FitsProps (net_of net.now) point.now }
     requires feed { feed < (net_of net.now).feeds }
     ensures { IsTrue result ↔ ComesFrom (net_of net.now) (seen point.now) feed }
 {

@@ -44,7 +44,7 @@ pub fn is_prop_point(net: &Network, point: &PropSlices) -> bool
 /// Whether the flows of the point carry.
 fn flows_carry(net: &Network, point: &PropSlices) -> bool
     requires shape { HasPropShape (net_of net.now) point.now }
-    requires fits { FitsProps point.now }
+    requires fits { FitsProps (net_of net.now) point.now }
     ensures { IsTrue result ↔ Carries (net_of net.now) (proportion_flows (seen point.now)) }
 {
     carry(net, &point.flows)

@@ -2,20 +2,19 @@
 //! qualities hold.
 
 ghost use Rattle.std.specs.Prelude.{◌≡◌, ℕ, ◌*◌, ◌<◌, ◌≤◌, ◌^◌, ◌↔◌, IsTrue, length, pos, ◌*ℤ◌, ◌≤ℤ◌, ◌<ℤ◌};
-ghost use Rattle.integers.specs.Sums.{sum_at};
 ghost use Rattle.pool_model.specs.Network.{IsLimited, net_of};
-ghost use Rattle.pool_model.specs.Plan.{Carries};
-ghost use Rattle.program_model.specs.Points.{quality_flows};
-ghost use Rattle.point_checks.specs.Sizes.{FlowsFit};
+ghost use Rattle.point_checks.specs.Flows.{FlowsFit};
 ghost use Rattle.point_checks.specs.QualSlices.{seen};
 ghost use Rattle.point_checks.specs.QualityTests.{AreSmallQuals, HasQualShape, HasQuality, KeepsQuality, LiesBetween};
 
+use crate::carriers::Carrier;
 use crate::fits::flows_fit;
 use crate::flows::Flows;
 use crate::prop_checks::are_bases;
 use crate::qual_slices::QualSlices;
-use crate::qual_sums::{cell, mixed_sum, quality_fed};
-use blend_network::{Key, Network};
+use crate::qual_sums::{cell, quality_out};
+use crate::qualities::quality_into;
+use blend_network::Network;
 use box_space::{Coord, root_ends};
 use exact_num::compare_ratio;
 use std::cmp::Ordering;
@@ -46,10 +45,10 @@ fn cells(rows: u32, width: u32) -> usize
     rows as usize * width as usize
 }
 
-/// Whether no flow is above 10^14 millionths.
+/// Whether the flows fit.
 pub(crate) fn fits(net: &Network, point: &QualSlices) -> bool
     requires { HasQualShape (net_of net.now) point.now }
-    ensures { IsTrue result ↔ FlowsFit point.now.flows.base point.now.flows.feeds.now point.now.flows.outs.now point.now.flows.directs.now }
+    ensures { IsTrue result ↔ FlowsFit (net_of net.now) point.now.flows.base point.now.flows.feeds.now point.now.flows.outs.now point.now.flows.directs.now }
 {
     let Flows {
         base,
@@ -131,7 +130,7 @@ fn end_over(end: i64, base: u32) -> i128
 /// Whether what flows along each out has its pool's qualities.
 pub(crate) fn have_qualities(net: &Network, point: &QualSlices) -> bool
     requires shape { HasQualShape (net_of net.now) point.now }
-    requires fits { FlowsFit point.now.flows.base point.now.flows.feeds.now point.now.flows.outs.now point.now.flows.directs.now }
+    requires fits { FlowsFit (net_of net.now) point.now.flows.base point.now.flows.feeds.now point.now.flows.outs.now point.now.flows.directs.now }
     ensures { IsTrue result ↔ ((o : ℕ) → o < (net_of net.now).outs → (k : ℕ) → k < (net_of net.now).qualities → HasQuality (net_of net.now) (seen (net_of net.now) point.now) o k) }
 {
     let counts = net.sizes();
@@ -145,7 +144,7 @@ pub(crate) fn have_qualities(net: &Network, point: &QualSlices) -> bool
 
 fn has_qualities(net: &Network, point: &QualSlices, out: u32) -> bool
     requires shape { HasQualShape (net_of net.now) point.now }
-    requires fits { FlowsFit point.now.flows.base point.now.flows.feeds.now point.now.flows.outs.now point.now.flows.directs.now }
+    requires fits { FlowsFit (net_of net.now) point.now.flows.base point.now.flows.feeds.now point.now.flows.outs.now point.now.flows.directs.now }
     requires out { out < (net_of net.now).outs }
     ensures { IsTrue result ↔ ((k : ℕ) → k < (net_of net.now).qualities → HasQuality (net_of net.now) (seen (net_of net.now) point.now) out k) }
 {
@@ -160,7 +159,7 @@ fn has_qualities(net: &Network, point: &QualSlices, out: u32) -> bool
 
 fn has_quality(net: &Network, point: &QualSlices, out: u32, quality: u32) -> bool
     requires shape { HasQualShape (net_of net.now) point.now }
-    requires fits { FlowsFit point.now.flows.base point.now.flows.feeds.now point.now.flows.outs.now point.now.flows.directs.now }
+    requires fits { FlowsFit (net_of net.now) point.now.flows.base point.now.flows.feeds.now point.now.flows.outs.now point.now.flows.directs.now }
     requires out { out < (net_of net.now).outs }
     requires quality { quality < (net_of net.now).qualities }
     ensures { IsTrue result ↔ HasQuality (net_of net.now) (seen (net_of net.now) point.now) out quality }
@@ -188,7 +187,6 @@ fn is_product(mixed: i128, base: u32, quality: i128, flow: u128) -> bool
 pub(crate) fn keep_qualities(net: &Network, point: &QualSlices) -> bool
     requires shape { HasQualShape (net_of net.now) point.now }
     requires small { AreSmallQuals (net_of net.now) point.now }
-    requires carries { Carries (net_of net.now) (quality_flows (seen (net_of net.now) point.now)) }
     ensures { IsTrue result ↔ ((l : ℕ) → l < (net_of net.now).pools → (k : ℕ) → k < (net_of net.now).qualities → KeepsQuality (net_of net.now) (seen (net_of net.now) point.now) l k) }
 {
     let counts = net.sizes();
@@ -203,7 +201,6 @@ pub(crate) fn keep_qualities(net: &Network, point: &QualSlices) -> bool
 fn keeps_qualities(net: &Network, point: &QualSlices, pool: u32) -> bool
     requires shape { HasQualShape (net_of net.now) point.now }
     requires small { AreSmallQuals (net_of net.now) point.now }
-    requires carries { Carries (net_of net.now) (quality_flows (seen (net_of net.now) point.now)) }
     requires pool { pool < (net_of net.now).pools }
     ensures { IsTrue result ↔ ((k : ℕ) → k < (net_of net.now).qualities → KeepsQuality (net_of net.now) (seen (net_of net.now) point.now) pool k) }
 {
@@ -217,14 +214,12 @@ fn keeps_qualities(net: &Network, point: &QualSlices, pool: u32) -> bool
 }
 
 fn keeps_quality(net: &Network, point: &QualSlices, pool: u32, quality: u32) -> bool
-    requires limited { IsLimited (net_of net.now) }
     requires shape { HasQualShape (net_of net.now) point.now }
     requires small { AreSmallQuals (net_of net.now) point.now }
-    requires carries { Carries (net_of net.now) (quality_flows (seen (net_of net.now) point.now)) }
     requires pool { pool < (net_of net.now).pools }
     requires quality { quality < (net_of net.now).qualities }
     ensures { IsTrue result ↔ KeepsQuality (net_of net.now) (seen (net_of net.now) point.now) pool quality }
 {
-    let taken = quality_fed(net, pool, quality, point.flows.feeds);
-    taken == mixed_sum(net, Key::OutsFrom, pool, quality, point.mix)
+    let taken = quality_into(net, Carrier::Feeds, pool, quality, point.flows.feeds);
+    taken == quality_out(net, point, pool, quality)
 }

@@ -4,7 +4,7 @@ ghost use Rattle.std.specs.Prelude.{◌≡◌, ℕ, ◌<◌, ◌≤◌, ◌↔�
 ghost use Rattle.pool_model.specs.Network.{IsLimited, net_of};
 ghost use Rattle.pool_model.specs.Plan.{Carries};
 ghost use Rattle.program_model.specs.Points.{quality_flows};
-ghost use Rattle.point_checks.specs.Sizes.{FlowsFit};
+ghost use Rattle.point_checks.specs.Flows.{FlowsFit};
 ghost use Rattle.point_checks.specs.QualSlices.{seen};
 ghost use Rattle.point_checks.specs.QualityTests.{AreSmallQuals, HasQualShape, IsQualPoint, KeepsLimits};
 
@@ -12,7 +12,7 @@ use crate::carried::carry;
 use crate::carriers::Carrier;
 use crate::qual_checks::{fits, has_shape, have_qualities, keep_qualities, lie_between};
 use crate::qual_slices::QualSlices;
-use crate::qual_sums::mixed_sum;
+use crate::qual_sums::quality_through;
 use crate::qualities::{is_within_limits, quality_into};
 use crate::sums::sum_at_node;
 use blend_network::{Key, Network};
@@ -47,7 +47,7 @@ pub fn is_qual_point(net: &Network, point: &QualSlices) -> bool
 /// Whether the flows of the point carry.
 fn flows_carry(net: &Network, point: &QualSlices) -> bool
     requires shape { HasQualShape (net_of net.now) point.now }
-    requires fits { FlowsFit point.now.flows.base point.now.flows.feeds.now point.now.flows.outs.now point.now.flows.directs.now }
+    requires fits { FlowsFit (net_of net.now) point.now.flows.base point.now.flows.feeds.now point.now.flows.outs.now point.now.flows.directs.now }
     ensures { IsTrue result ↔ Carries (net_of net.now) (quality_flows (seen (net_of net.now) point.now)) }
 {
     carry(net, &point.flows)
@@ -91,7 +91,7 @@ fn keeps_limits(net: &Network, point: &QualSlices, product: u32, quality: u32) -
     ensures { IsTrue result ↔ KeepsLimits (net_of net.now) (seen (net_of net.now) point.now) product quality }
 {
     let (y, z) = (point.flows.outs, point.flows.directs);
-    let mixed = mixed_sum(net, Key::OutsInto, product, quality, point.mix);
+    let mixed = quality_through(net, point, product, quality);
     let straight = quality_into(net, Carrier::Directs, product, quality, z);
     let pooled = sum_at_node(net, Key::OutsInto, product, y);
     let direct = sum_at_node(net, Key::DirectsInto, product, z);

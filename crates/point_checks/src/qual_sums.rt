@@ -1,59 +1,80 @@
-//! The qualities that feeds bring to a pool, and sums of mixed variables.
+//! What mixed variables bring out of a pool, and through pools to a product.
 
-ghost use Rattle.std.specs.Prelude.{◌≡◌, ℕ, ◌+◌, ◌*◌, ◌<◌, ◌≤◌, ◌^◌, get_or, length, ℤ, pos, ◌*ℤ◌, unsigned_abs};
-ghost use Rattle.integers.specs.Sums.{int_sum_at, sum_at};
-ghost use Rattle.pool_model.specs.Network.{IsLimited, net_of};
-ghost use Rattle.blend_network.specs.Keys.{count_of, key_of, nodes_of};
-ghost use Rattle.point_checks.specs.QualityTests.{AreWithin};
+ghost use Rattle.std.specs.Prelude.{◌≡◌, ◌+◌, ◌*◌, ◌<◌, ◌≤◌, ◌^◌, pos, ◌*ℤ◌, unsigned_abs};
+ghost use Rattle.integers.specs.Sums.{int_sum_at};
+ghost use Rattle.pool_model.specs.Network.{net_of};
+ghost use Rattle.point_checks.specs.QualSlices.{seen};
+ghost use Rattle.point_checks.specs.QualityTests.{AreSmallQuals, HasQualShape};
 
-use crate::qualities::weighted;
+use crate::qual_slices::QualSlices;
 use blend_network::{Key, Network};
 
-/// The quality that feeds bring to a pool, times their flow.
-pub(crate) fn quality_fed(net: &Network, pool: u32, quality: u32, flows: &[u128]) -> i128
-    requires limited { IsLimited (net_of net.now) }
+/// The quality that flows out of a pool.
+pub(crate) fn quality_out(net: &Network, point: &QualSlices, pool: u32, quality: u32) -> i128
+    requires shape { HasQualShape (net_of net.now) point.now }
+    requires small { AreSmallQuals (net_of net.now) point.now }
     requires pool { pool < (net_of net.now).pools }
     requires quality { quality < (net_of net.now).qualities }
-    requires long { length flows.now ≡ (net_of net.now).feeds }
-    requires small { sum_at (net_of net.now).feed_pool pool (λ e. get_or flows.now e 0) (net_of net.now).feeds ≤ 2 ^ 83 }
-    ensures { result ≡ int_sum_at (net_of net.now).feed_pool pool (λ e. (net_of net.now).source_quality ((net_of net.now).feed_source e) quality *ℤ pos (get_or flows.now e 0)) (net_of net.now).feeds }
+    ensures { result ≡ int_sum_at (net_of net.now).out_pool pool (λ o. (seen (net_of net.now) point.now).mixed o quality) (net_of net.now).outs }
 {
     let mut sum = 0;
-    for feed in net.numbers_at(Key::FeedsInto, pool) {
-        sum += fed(net, *feed, quality, flows[*feed as usize]);
+    for out in net.numbers_at(Key::OutsFrom, pool) {
+        sum += mixed(net, point, *out, quality);
     }
     sum
 }
 
-/// The quality that a feed brings, times its flow.
-fn fed(net: &Network, feed: u32, quality: u32, flow: u128) -> i128
-    requires limited { IsLimited (net_of net.now) }
-    requires feed { feed < (net_of net.now).feeds }
+/// The quality that reaches a product through pools, in parts of the scale: what these retain of the mixed variables.
+pub(crate) fn quality_through(net: &Network, point: &QualSlices, product: u32, quality: u32) -> i128
+    requires shape { HasQualShape (net_of net.now) point.now }
+    requires small { AreSmallQuals (net_of net.now) point.now }
+    requires product { product < (net_of net.now).products }
     requires quality { quality < (net_of net.now).qualities }
-    requires small { flow ≤ 2 ^ 83 }
-    ensures value { result ≡ (net_of net.now).source_quality ((net_of net.now).feed_source feed) quality *ℤ pos flow }
-    ensures small { unsigned_abs result ≤ 10 ^ 11 * flow }
+    ensures value { result ≡ int_sum_at (net_of net.now).out_product product
+        (λ o. pos ((net_of net.now).retained ((net_of net.now).out_pool o) quality) *ℤ (seen (net_of net.now) point.now).mixed o quality) (net_of net.now).outs }
+    ensures small { unsigned_abs result ≤ 2 ^ 123 }
 {
-    let (source, _) = net.feed(feed);
-    weighted(i128::from(net.source_quality(source, quality)), flow)
+    let mut sum = 0;
+    for out in net.numbers_at(Key::OutsInto, product) {
+        sum += retained(net, point, *out, quality);
+    }
+    sum
 }
 
-/// The sum of the mixed variables of the outs that a key has at a node, of one quality.
-pub(crate) fn mixed_sum(net: &Network, key: Key, node: u32, quality: u32, mix: &[i128]) -> i128
-    requires node { node < nodes_of (net_of net.now) key }
-    requires outs { count_of (net_of net.now) key ≡ (net_of net.now).outs }
+/// What an out's pool retains of its mixed variable, in parts of the scale.
+fn retained(net: &Network, point: &QualSlices, out: u32, quality: u32) -> i128
+    requires shape { HasQualShape (net_of net.now) point.now }
+    requires small { AreSmallQuals (net_of net.now) point.now }
+    requires out { out < (net_of net.now).outs }
     requires quality { quality < (net_of net.now).qualities }
-    requires long { length mix.now ≡ (net_of net.now).outs * (net_of net.now).qualities }
-    requires small { AreWithin (2 ^ 113) mix.now }
-    ensures value { result ≡ int_sum_at (key_of (net_of net.now) key) node (λ o. get_or mix.now (o * (net_of net.now).qualities + quality) (pos 0)) (net_of net.now).outs }
-    ensures small { unsigned_abs result ≤ 2 ^ 122 }
+    ensures value { result ≡ pos ((net_of net.now).retained ((net_of net.now).out_pool out) quality) *ℤ (seen (net_of net.now) point.now).mixed out quality }
+    ensures small { unsigned_abs result ≤ 10 ^ 14 * (seen (net_of net.now) point.now).out out }
+{
+    let (pool, _) = net.out(out);
+    parted(net.retained(pool, quality), mixed(net, point, out, quality))
+}
+
+/// A number, so many times.
+fn parted(parts: i64, number: i128) -> i128
+    requires parts { unsigned_abs parts ≤ 1000 }
+    requires number { unsigned_abs number ≤ 2 ^ 113 }
+    ensures value { result ≡ parts *ℤ number }
+    ensures size { unsigned_abs result ≡ unsigned_abs parts * unsigned_abs number }
+{
+    i128::from(parts) * number
+}
+
+/// The mixed variable of an out.
+fn mixed(net: &Network, point: &QualSlices, out: u32, quality: u32) -> i128
+    requires shape { HasQualShape (net_of net.now) point.now }
+    requires small { AreSmallQuals (net_of net.now) point.now }
+    requires out { out < (net_of net.now).outs }
+    requires quality { quality < (net_of net.now).qualities }
+    ensures value { result ≡ (seen (net_of net.now) point.now).mixed out quality }
+    ensures small { unsigned_abs result ≤ 10 ^ 11 * (seen (net_of net.now) point.now).out out }
 {
     let counts = net.sizes();
-    let mut sum = 0;
-    for out in net.numbers_at(key, node) {
-        sum += mix[cell(*out, quality, counts.outs, counts.qualities)];
-    }
-    sum
+    point.mix[cell(out, quality, counts.outs, counts.qualities)]
 }
 
 /// The place of a row and a column in a grid.

@@ -3,20 +3,19 @@
 ghost use Rattle.std.specs.Prelude.{◌≡◌, ℕ, ◌*◌, ◌<◌, ◌≤◌, ◌^◌, ◌↔◌, IfSome, IsTrue, get_or, length, pos, ◌*ℤ◌, unsigned_abs};
 ghost use Rattle.pool_model.specs.Network.{IsWithin, net_of};
 ghost use Rattle.blend_network.specs.Keys.{count_of, nodes_of};
-ghost use Rattle.point_checks.specs.Qualities.{IsAbove, IsBelow, MeetsLimits, key_by, quality_brought, source_by};
-ghost use Rattle.point_checks.specs.Sizes.{AreAtMost};
+ghost use Rattle.point_checks.specs.Qualities.{IsAbove, IsBelow, MeetsLimits, flow_into, key_by, most_by, quality_brought, quality_by};
 
 use crate::carriers::Carrier;
 use blend_network::Network;
 
-/// The quality that flows bring to a node, times their flow.
+/// The quality that flows bring to a node, times their flow: feeds to a pool, and directs and paths, in parts of the scale, to a product.
 pub fn quality_into(net: &Network, by: Carrier, node: u32, quality: u32, flows: &[u128]) -> i128
     requires node { node < nodes_of (net_of net.now) (key_by by) }
     requires quality { quality < (net_of net.now).qualities }
     requires long { length flows.now ≡ count_of (net_of net.now) (key_by by) }
-    requires small { AreAtMost (2 ^ 76) flows.now }
+    requires small { most_by by * flow_into (net_of net.now) by node (λ i. get_or flows.now i 0) ≤ 2 ^ 123 }
     ensures value { result ≡ quality_brought (net_of net.now) by node quality (λ i. get_or flows.now i 0) }
-    ensures small { unsigned_abs result ≤ 2 ^ 122 }
+    ensures small { unsigned_abs result ≤ 2 ^ 123 }
 {
     let mut sum = 0;
     for number in net.numbers_at(by.key(), node) {
@@ -25,42 +24,66 @@ pub fn quality_into(net: &Network, by: Carrier, node: u32, quality: u32, flows: 
     sum
 }
 
-/// The quality that one feed, direct or path brings, times its flow.
+/// What one feed, direct or path brings of a quality, times its flow.
 fn part(net: &Network, by: Carrier, number: u32, quality: u32, flow: u128) -> i128
     requires number { number < count_of (net_of net.now) (key_by by) }
     requires quality { quality < (net_of net.now).qualities }
-    requires small { flow ≤ 2 ^ 76 }
-    ensures value { result ≡ (net_of net.now).source_quality (source_by (net_of net.now) by number) quality *ℤ pos flow }
-    ensures small { unsigned_abs result ≤ 2 ^ 113 }
+    requires small { most_by by * flow ≤ 2 ^ 123 }
+    ensures value { result ≡ quality_by (net_of net.now) by number quality *ℤ pos flow }
+    ensures small { unsigned_abs result ≤ most_by by * flow }
 {
-    let source = source_of(net, by, number);
-    weighted(i128::from(net.source_quality(source, quality)), flow)
+    weighted(quality_of(net, by, number, quality), flow)
 }
 
-/// The source at which a feed, a direct or a path begins.
-fn source_of(net: &Network, by: Carrier, number: u32) -> u32
-    requires { number < count_of (net_of net.now) (key_by by) }
-    ensures value { result ≡ source_by (net_of net.now) by number }
-    ensures known { result < (net_of net.now).sources }
+/// What one feed, direct or path brings of a quality.
+fn quality_of(net: &Network, by: Carrier, number: u32, quality: u32) -> i128
+    requires number { number < count_of (net_of net.now) (key_by by) }
+    requires quality { quality < (net_of net.now).qualities }
+    ensures value { result ≡ quality_by (net_of net.now) by number quality }
+    ensures size { unsigned_abs result ≤ most_by by }
 {
     match by {
-        Carrier::Feeds => net.feed(number).0,
-        Carrier::Directs => net.direct(number).0,
-        Carrier::Paths => net.path_ends(number).0,
+        Carrier::Feeds => {
+            let (source, _) = net.feed(number);
+            i128::from(net.source_quality(source, quality))
+        }
+        Carrier::Directs => {
+            let (source, _) = net.direct(number);
+            in_parts(net.scale(), net.source_quality(source, quality))
+        }
+        Carrier::Paths => {
+            let (feed, out) = net.path(number);
+            let (source, _) = net.feed(feed);
+            let (pool, _) = net.out(out);
+            in_parts(
+                net.retained(pool, quality),
+                net.source_quality(source, quality),
+            )
+        }
     }
+}
+
+/// So many parts of a quality.
+fn in_parts(parts: i64, quality: i64) -> i128
+    requires parts { unsigned_abs parts ≤ 1000 }
+    requires quality { unsigned_abs quality ≤ 10 ^ 11 }
+    ensures value { result ≡ parts *ℤ quality }
+    ensures size { unsigned_abs result ≤ 10 ^ 14 }
+{
+    i128::from(parts) * i128::from(quality)
 }
 
 /// A number for each unit of a flow.
 pub fn weighted(number: i128, flow: u128) -> i128
     requires flow { flow < 2 ^ 127 }
-    requires size { unsigned_abs number * flow ≤ 2 ^ 122 }
+    requires size { unsigned_abs number * flow ≤ 2 ^ 123 }
     ensures value { result ≡ number *ℤ pos flow }
     ensures size { unsigned_abs result ≡ unsigned_abs number * flow }
 {
     number * flow as i128
 }
 
-/// Whether the quality that reaches a product, times the product's inflow, lies between the product's limits.
+/// Whether the quality that reaches a product, in parts of the scale, times the product's inflow, lies between the product's limits.
 pub fn is_within_limits(
     net: &Network,
     product: u32,
@@ -73,32 +96,35 @@ pub fn is_within_limits(
     requires inflow { inflow ≤ 2 ^ 76 }
     ensures { IsTrue result ↔ MeetsLimits (net_of net.now) product quality inflow brought }
 {
-    if is_above(net.product_most(product, quality), inflow, brought) {
+    let scale = net.scale();
+    if is_above(net.product_most(product, quality), scale, inflow, brought) {
         return false;
     }
-    !is_below(net.product_least(product, quality), inflow, brought)
+    !is_below(net.product_least(product, quality), scale, inflow, brought)
 }
 
 /// Whether a quality that reaches a product passes its most.
-fn is_above(most: Option<i64>, inflow: u128, quality: i128) -> bool
+fn is_above(most: Option<i64>, scale: i64, inflow: u128, quality: i128) -> bool
     requires inflow { inflow ≤ 2 ^ 76 }
     requires most { IfSome most (IsWithin (10 ^ 11)) }
-    ensures { IsTrue result ↔ IsAbove most inflow quality }
+    requires scale { unsigned_abs scale ≤ 1000 }
+    ensures { IsTrue result ↔ IsAbove most scale inflow quality }
 {
     match most {
         None => false,
-        Some(most) => weighted(i128::from(most), inflow) < quality,
+        Some(most) => weighted(in_parts(scale, most), inflow) < quality,
     }
 }
 
 /// Whether a quality that reaches a product stays below its least.
-fn is_below(least: Option<i64>, inflow: u128, quality: i128) -> bool
+fn is_below(least: Option<i64>, scale: i64, inflow: u128, quality: i128) -> bool
     requires inflow { inflow ≤ 2 ^ 76 }
     requires least { IfSome least (IsWithin (10 ^ 11)) }
-    ensures { IsTrue result ↔ IsBelow least inflow quality }
+    requires scale { unsigned_abs scale ≤ 1000 }
+    ensures { IsTrue result ↔ IsBelow least scale inflow quality }
 {
     match least {
         None => false,
-        Some(least) => quality < weighted(i128::from(least), inflow),
+        Some(least) => quality < weighted(in_parts(scale, least), inflow),
     }
 }

@@ -4,7 +4,7 @@ use Rattle.std.proofs.lemmas.Int.{ints}
 use Rattle.std.proofs.lemmas.Bool.Decides.{nat_tests, Decides-and, Decides-eqb, Decides-like, Decides-ltb, Decides-not, Decides-by_and}
 use Rattle.std.specs.List.{list_all}
 use Rattle.pool_model.specs.Network.{Net}
-use Rattle.pool_model.specs.Plan.{Plan, Written, plan_of, Obeys, Blends, source_outflow, pool_inflow, outflow, product_inflow, quality_inflow, quality_room}
+use Rattle.pool_model.specs.Plan.{Plan, Written, plan_of, Obeys, KeepsMaxima, Blends, source_outflow, pool_inflow, outflow, product_inflow, quality_inflow, quality_room}
 use Rattle.pool_model.specs.Starting.{all_below}
 use Rattle.pool_model.proofs.AllBelow.{all_below-each, all_below-all}
 
@@ -16,6 +16,16 @@ pools_test n p = all_below (λ l. (pool_inflow n p l == outflow n p l) && nat_le
 
 abbrev pub products_test : Net → Plan → Bool
 products_test n p = all_below (λ j. nat_le (p.base * n.product_min j) (product_inflow n p j) && nat_le (product_inflow n p j) (p.base * n.product_max j)) n.products
+
+-- a flow against a maximum
+abbrev pub max_test : Option ℕ → ℕ → ℕ → Bool
+max_test None base flow = true
+max_test (Some m) base flow = nat_le flow (base * m)
+
+abbrev pub arcs_test : Net → Plan → Bool
+arcs_test n p =
+    all_below (λ e. max_test (n.feed_max e) p.base (p.feed e)) n.feeds
+    && (all_below (λ o. max_test (n.out_max o) p.base (p.out o)) n.outs && all_below (λ e. max_test (n.direct_max e) p.base (p.direct e)) n.directs)
 
 -- a product's inflow of a quality against its limits
 abbrev pub most_test : Net → Plan → ℕ → ℤ → Option ℤ → Bool
@@ -30,7 +40,7 @@ abbrev pub blends_test : Net → Plan → Bool
 blends_test n p = all_below (λ j. all_below (λ k. most_test n p j (quality_inflow n p j k) (n.most j k) && least_test n p j (quality_inflow n p j k) (n.least j k)) n.qualities) n.products
 
 abbrev pub obeys_test : Net → Plan → Bool
-obeys_test n p = nat_lt 0 p.base && (sources_test n p && (pools_test n p && (products_test n p && blends_test n p)))
+obeys_test n p = nat_lt 0 p.base && (sources_test n p && (pools_test n p && (products_test n p && (arcs_test n p && blends_test n p))))
 
 -- ---- what the tests tell
 Decides-nat_le : (a b : ℕ) → Decides (nat_le a b) (a ≤ b)
@@ -93,14 +103,38 @@ Decides-products n p =
     (λ j. Decides-and (nat_le (p.base * n.product_min j) (product_inflow n p j)) (nat_le (product_inflow n p j) (p.base * n.product_max j))
     (Decides-nat_le (p.base * n.product_min j) (product_inflow n p j)) (Decides-nat_le (product_inflow n p j) (p.base * n.product_max j)))
 
+Decides-max : (max : Option ℕ) (base flow : ℕ) → Decides (max_test max base flow) ((m : ℕ) → max ≡ Some m → flow ≤ base * m)
+Decides-max None base flow = (λ e m is. cc, λ h. refl)
+Decides-max (Some c) base flow = (
+  λ e m is. let same : c ≡ m = cc in subst (λ (v : ℕ). flow ≤ base * v) same ((Decides-nat_le flow (base * c)).0 e),
+  λ h. (Decides-nat_le flow (base * c)).1 (h c refl),
+)
+
+Decides-maxima : (max : ℕ → Option ℕ) (base : ℕ) (flow : ℕ → ℕ) (count : ℕ)
+    → Decides (all_below (λ i. max_test (max i) base (flow i)) count) ((i : ℕ) → i < count → (m : ℕ) → max i ≡ Some m → flow i ≤ base * m)
+Decides-maxima max base flow count =
+    Decides-all_below (λ i. max_test (max i) base (flow i)) (λ i. (m : ℕ) → max i ≡ Some m → flow i ≤ base * m) count (λ i. Decides-max (max i) base (flow i))
+
+Decides-arcs : (n : Net) (p : Plan) → Decides (arcs_test n p) (KeepsMaxima n p)
+Decides-arcs n p =
+    let feeds = all_below (λ e. max_test (n.feed_max e) p.base (p.feed e)) n.feeds in
+    let outs = all_below (λ o. max_test (n.out_max o) p.base (p.out o)) n.outs in
+    let directs = all_below (λ e. max_test (n.direct_max e) p.base (p.direct e)) n.directs in
+    Decides-like (arcs_test n p)
+    (λ h. record { feeds = λ e m lt is. h.0 e lt m is; outs = λ o m lt is. h.1.0 o lt m is; directs = λ e m lt is. h.1.1 e lt m is })
+    (λ k. (λ e lt m is. k.feeds e m lt is, (λ o lt m is. k.outs o m lt is, λ e lt m is. k.directs e m lt is)))
+    (Decides-and feeds (outs && directs) (Decides-maxima n.feed_max p.base p.feed n.feeds)
+    (Decides-and outs directs (Decides-maxima n.out_max p.base p.out n.outs) (Decides-maxima n.direct_max p.base p.direct n.directs)))
+
 -- the test and what it decides
 pub Decides-obeys : (n : Net) (p : Plan) → Decides (obeys_test n p) (Obeys n p)
 Decides-obeys n p = (
   λ e.
-      let a = both (nat_lt 0 p.base) (sources_test n p && (pools_test n p && (products_test n p && blends_test n p))) e in
-      let b = both (sources_test n p) (pools_test n p && (products_test n p && blends_test n p)) a.1 in
-      let d = both (pools_test n p) (products_test n p && blends_test n p) b.1 in
-      let f = both (products_test n p) (blends_test n p) d.1 in
+      let a = both (nat_lt 0 p.base) (sources_test n p && (pools_test n p && (products_test n p && (arcs_test n p && blends_test n p)))) e in
+      let b = both (sources_test n p) (pools_test n p && (products_test n p && (arcs_test n p && blends_test n p))) a.1 in
+      let d = both (pools_test n p) (products_test n p && (arcs_test n p && blends_test n p)) b.1 in
+      let f = both (products_test n p) (arcs_test n p && blends_test n p) d.1 in
+      let g = both (arcs_test n p) (blends_test n p) f.1 in
       record {
         denominator = (Decides-ltb 0 p.base).0 a.0;
         carries = record {
@@ -109,14 +143,16 @@ Decides-obeys n p = (
           pools = λ l lt. ((Decides-pools n p).0 d.0 l lt).1;
           at_least = λ j lt. ((Decides-products n p).0 f.0 j lt).0;
           at_most = λ j lt. ((Decides-products n p).0 f.0 j lt).1;
+          arcs = (Decides-arcs n p).0 g.0;
         };
-        blends = (Decides-blends n p).0 f.1;
+        blends = (Decides-blends n p).0 g.1;
       },
   λ o.
-      join (nat_lt 0 p.base) (sources_test n p && (pools_test n p && (products_test n p && blends_test n p))) ((Decides-ltb 0 p.base).1 o.denominator)
-      (join (sources_test n p) (pools_test n p && (products_test n p && blends_test n p)) ((Decides-sources n p).1 o.carries.sources)
-      (join (pools_test n p) (products_test n p && blends_test n p) ((Decides-pools n p).1 (λ l lt. (o.carries.balanced l lt, o.carries.pools l lt)))
-      (join (products_test n p) (blends_test n p) ((Decides-products n p).1 (λ j lt. (o.carries.at_least j lt, o.carries.at_most j lt))) ((Decides-blends n p).1 o.blends)))),
+      join (nat_lt 0 p.base) (sources_test n p && (pools_test n p && (products_test n p && (arcs_test n p && blends_test n p)))) ((Decides-ltb 0 p.base).1 o.denominator)
+      (join (sources_test n p) (pools_test n p && (products_test n p && (arcs_test n p && blends_test n p))) ((Decides-sources n p).1 o.carries.sources)
+      (join (pools_test n p) (products_test n p && (arcs_test n p && blends_test n p)) ((Decides-pools n p).1 (λ l lt. (o.carries.balanced l lt, o.carries.pools l lt)))
+      (join (products_test n p) (arcs_test n p && blends_test n p) ((Decides-products n p).1 (λ j lt. (o.carries.at_least j lt, o.carries.at_most j lt)))
+      (join (arcs_test n p) (blends_test n p) ((Decides-arcs n p).1 o.carries.arcs) ((Decides-blends n p).1 o.blends))))),
 )
   where
     both : (a b : Bool) → (a && b) ≡ true → (a ≡ true) × (b ≡ true)

@@ -1,5 +1,9 @@
 pub mod Reach
 pub mod AllBelow
+pub mod Capped
+pub mod ArcCosts
+pub mod Plain
+pub mod Sizes
 pub mod Shipments
 pub mod Starts
 pub mod PathStarts

@@ -1,6 +1,7 @@
 pub mod Quantity
 pub mod Rows
 pub mod Network
+pub mod Plain
 pub mod Paths
 pub mod Limits
 pub mod Naming

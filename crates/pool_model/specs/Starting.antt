@@ -1,9 +1,9 @@
 -- The starting plans, which the solver tries first, and the bound that margins alone give.
-use Rattle.std.specs.Prelude.{◌≡◌, ℕ, zero, suc, ◌+◌, ◌-◌, ◌<◌, ◌≤◌, nat_lt, min, length, Bool, true, ◌&&◌, ◌==◌, if◌then◌else◌, ◌⊎◌, Option, Some, None, ℤ, pos, neg_ℤ, ◌-ℤ◌, ◌*ℤ◌, ◌≤ℤ◌, ◌<ℤ◌, int_le}
+use Rattle.std.specs.Prelude.{◌≡◌, ℕ, zero, suc, ◌+◌, ◌-◌, ◌<◌, ◌≤◌, nat_lt, min, length, Bool, true, ◌&&◌, ◌==◌, if◌then◌else◌, ◌⊎◌, Option, Some, None, option_map, ℤ, pos, neg_ℤ, ◌+ℤ◌, ◌-ℤ◌, ◌*ℤ◌, ◌≤ℤ◌, ◌<ℤ◌, int_le}
 use Rattle.std.specs.Int.{int_min, int_max}
 use Rattle.integers.specs.Sums.{int_sum_below, sum_at}
 use Rattle.integers.specs.Numbers.{tabulate}
-use Rattle.pool_model.specs.Network.{Net}
+use Rattle.pool_model.specs.Network.{Net, feed_delivered, direct_delivered, capped}
 use Rattle.pool_model.specs.Paths.{paths_of, path_at}
 use Rattle.pool_model.specs.Plan.{Written, plan_of, Obeys, cost_of}
 
@@ -42,32 +42,43 @@ abbrev pub IsWay : Net → Way → Type 0
 IsWay n (through e o) = (e < n.feeds) × (o < n.outs) × (n.feed_pool e ≡ n.out_pool o)
 IsWay n (straight e) = e < n.directs
 
--- whether a quality lies between two limits, where they are set
-abbrev pub is_above : Option ℤ → ℤ → Bool
-is_above None q = true
-is_above (Some least) q = int_le least q
+-- what a way brings of a quality, in parts of the scale: a path what its pool retains
+abbrev pub way_quality : Net → Way → ℕ → ℤ
+way_quality n (through e o) k = pos (n.retained (n.out_pool o) k) *ℤ n.source_quality (n.feed_source e) k
+way_quality n (straight e) k = pos n.scale *ℤ n.source_quality (n.direct_source e) k
 
-abbrev pub is_below : Option ℤ → ℤ → Bool
-is_below None q = true
-is_below (Some most) q = int_le q most
+-- whether a quality in parts of a scale lies between two limits, where they are set
+abbrev pub is_above : ℤ → Option ℤ → ℤ → Bool
+is_above scale None q = true
+is_above scale (Some least) q = int_le (scale *ℤ least) q
+
+abbrev pub is_below : ℤ → Option ℤ → ℤ → Bool
+is_below scale None q = true
+is_below scale (Some most) q = int_le q (scale *ℤ most)
 
 -- whether a test passes at each number below a count
 abbrev pub all_below : (ℕ → Bool) → ℕ → Bool
 all_below test zero = true
 all_below test (suc n) = all_below test n && test n
 
--- whether each quality of a source lies between a product's limits
-abbrev pub suits : Net → ℕ → ℕ → Bool
-suits n i j = all_below (λ k. is_above (n.least j k) (n.source_quality i k) && is_below (n.most j k) (n.source_quality i k)) n.qualities
+-- whether each of these qualities lies between a product's limits
+abbrev pub suits : Net → (ℕ → ℤ) → ℕ → Bool
+suits n quality j = all_below (λ k. is_above (pos n.scale) (n.least j k) (quality k) && is_below (pos n.scale) (n.most j k) (quality k)) n.qualities
+
+-- the least of the maxima along a way: those of its nodes and of its arcs
+abbrev pub direct_room : Net → ℕ → ℕ
+direct_room n e = capped (n.direct_max e) (min (n.source_max (n.direct_source e)) (n.product_max (n.direct_product e)))
+
+abbrev pub path_room : Net → ℕ → ℕ → ℕ
+path_room n e o =
+    capped (n.out_max o) (capped (n.feed_max e) (min (n.source_max (n.feed_source e)) (min (n.pool_max (n.out_pool o)) (n.product_max (n.out_product o)))))
 
 -- how much a way alone carries: the least of the maxima along it, or nothing where a quality breaks a limit
 abbrev pub direct_flow : Net → ℕ → ℕ
-direct_flow n e =
-    if suits n (n.direct_source e) (n.direct_product e) then min (n.source_max (n.direct_source e)) (n.product_max (n.direct_product e)) else 0
+direct_flow n e = if suits n (way_quality n (straight e)) (n.direct_product e) then direct_room n e else 0
 
 abbrev pub path_flow : Net → ℕ → ℕ → ℕ
-path_flow n e o =
-    if suits n (n.feed_source e) (n.out_product o) then min (n.source_max (n.feed_source e)) (min (n.pool_max (n.out_pool o)) (n.product_max (n.out_product o))) else 0
+path_flow n e o = if suits n (way_quality n (through e o)) (n.out_product o) then path_room n e o else 0
 
 -- an amount at one number, and 0 at all others
 abbrev pub alone : ℕ → ℕ → ℕ → ℕ
@@ -104,9 +115,15 @@ abbrev pub way_flow : Net → Way → ℕ
 way_flow n (through e o) = path_flow n e o
 way_flow n (straight e) = direct_flow n e
 
--- what the simple plan of a way costs, in picos: the source's cost less the product's price, for each unit that it carries
+-- what a unit along the arcs of a way costs
+abbrev pub way_carriage : Net → Way → ℤ
+way_carriage n (through e o) = n.feed_cost e +ℤ n.out_cost o
+way_carriage n (straight e) = n.direct_cost e
+
+-- what the simple plan of a way costs, in picos: for each unit that it carries the costs of the source and the arcs less the
+-- product's price
 abbrev pub way_cost : Net → Way → ℤ
-way_cost n way = (n.source_cost (way_source n way) -ℤ n.price (way_product n way)) *ℤ pos (way_flow n way)
+way_cost n way = (n.source_cost (way_source n way) +ℤ way_carriage n way -ℤ n.price (way_product n way)) *ℤ pos (way_flow n way)
 
 -- each product takes what it must, where so much flows to this product and nothing to the others
 abbrev pub MeetsMinima : Net → ℕ → ℕ → Type 0
@@ -157,16 +174,20 @@ abbrev pub least_below : (ℕ → Option ℤ) → ℕ → Option ℤ
 least_below f zero = None
 least_below f (suc n) = lesser (least_below f n) (f n)
 
--- the least cost of the sources that feed a pool
+-- the least that a unit costs that feeds bring to a pool
 abbrev pub pool_cost : Net → ℕ → Option ℤ
-pool_cost n l = least_below (λ e. if n.feed_pool e == l then Some (n.source_cost (n.feed_source e)) else None) n.feeds
+pool_cost n l = least_below (λ e. if n.feed_pool e == l then Some (feed_delivered n e) else None) n.feeds
 
--- the least cost of the sources that reach a product, by a direct or through a pool
+-- the least that a unit costs that reaches a product along an out
+abbrev pub out_delivered : Net → ℕ → Option ℤ
+out_delivered n o = option_map (λ c. c +ℤ n.out_cost o) (pool_cost n (n.out_pool o))
+
+-- the least that a unit costs that reaches a product, by a direct or through a pool
 abbrev pub reach_cost : Net → ℕ → Option ℤ
 reach_cost n j =
     lesser
-    (least_below (λ e. if n.direct_product e == j then Some (n.source_cost (n.direct_source e)) else None) n.directs)
-    (least_below (λ o. if n.out_product o == j then pool_cost n (n.out_pool o) else None) n.outs)
+    (least_below (λ e. if n.direct_product e == j then Some (direct_delivered n e) else None) n.directs)
+    (least_below (λ o. if n.out_product o == j then out_delivered n o else None) n.outs)
 
 -- what a unit at this price earns at the most, where it costs at least that
 abbrev pub margin : Option ℤ → ℤ → ℤ

@@ -1,6 +1,6 @@
 -- Worked networks, as files name them, and plans for them. Quantities are millionths.
-use Rattle.std.specs.Prelude.{ℕ, List, [], ◌∷◌, get_or, Option, Some, None, ℤ, pos, codes}
-use Rattle.pool_model.specs.Rows.{SourceRow, PoolRow, ProductRow, Rows}
+use Rattle.std.specs.Prelude.{ℕ, List, [], ◌∷◌, get_or, Option, Some, None, ℤ, pos, neg_ℤ, codes}
+use Rattle.pool_model.specs.Rows.{SourceRow, PoolRow, ProductRow, ArcRow, Rows}
 use Rattle.pool_model.specs.Network.{Net, net_of}
 use Rattle.pool_model.specs.Naming.{network_of}
 use Rattle.pool_model.specs.Plan.{Plan, Written, plan_of, Obeys, cost_of}
@@ -22,9 +22,13 @@ cost_in r w = cost_of (net_in r) (plan_in r w)
 abbrev pub source_row : List ℕ → ℤ → Option ℤ → List ℤ → SourceRow
 source_row name cost max quality = record { name = name; cost = cost; max = max; quality = quality }
 
--- a pool without a maximum of its own
+-- a pool without a maximum of its own, which removes nothing of the one quality
 abbrev pub pool_row : List ℕ → PoolRow
-pool_row name = record { name = name; max = None }
+pool_row name = record { name = name; max = None; ratio = pos 1000 ∷ [] }
+
+-- an arc that costs nothing and has no maximum of its own
+abbrev pub arc_row : List ℕ → List ℕ → ArcRow
+arc_row from to = record { from = from; to = to; cost = pos 0; max = None }
 
 -- a product that need not take anything, and has no least quality
 abbrev pub product_row : List ℕ → ℤ → ℤ → List (Option ℤ) → List (Option ℤ) → ProductRow
@@ -40,7 +44,7 @@ one_source max = record {
   sources = source_row (codes "A") (pos 6000000) (Some (pos 100000000)) (pos 3000000 ∷ []) ∷ [];
   pools = [];
   products = product_row (codes "X") (pos 9000000) max (None ∷ []) (Some (pos 3000000) ∷ []) ∷ [];
-  arcs = (codes "A", codes "X") ∷ [];
+  arcs = arc_row (codes "A") (codes "X") ∷ [];
 }
 
 abbrev pub nothing : Rows
@@ -54,7 +58,7 @@ haverly cost = record {
   pools = pool_row (codes "P") ∷ [];
   products = product_row (codes "X") (pos 9000000) (pos 100000000) (None ∷ []) (Some (pos 2500000) ∷ []) ∷ product_row (codes "Y") (pos 15000000)
       (pos 200000000) (None ∷ []) (Some (pos 1500000) ∷ []) ∷ [];
-  arcs = (codes "A", codes "P") ∷ (codes "B", codes "P") ∷ (codes "P", codes "X") ∷ (codes "P", codes "Y") ∷ (codes "C", codes "X") ∷ (codes "C", codes "Y") ∷ [];
+  arcs = arc_row (codes "A") (codes "P") ∷ arc_row (codes "B") (codes "P") ∷ arc_row (codes "P") (codes "X") ∷ arc_row (codes "P") (codes "Y") ∷ arc_row (codes "C") (codes "X") ∷ arc_row (codes "C") (codes "Y") ∷ [];
 }
 
 -- all of B through the pool and as much of C into Y, whose sulfur is then at its most
@@ -76,7 +80,7 @@ two_feeds = record {
   sources = source_row (codes "A") (pos 6000000) None (pos 3000000 ∷ []) ∷ source_row (codes "B") (pos 16000000) None (pos 1000000 ∷ []) ∷ [];
   pools = pool_row (codes "P") ∷ [];
   products = product_row (codes "X") (pos 9000000) (pos 100000000) (None ∷ []) (None ∷ []) ∷ [];
-  arcs = (codes "A", codes "P") ∷ (codes "B", codes "P") ∷ (codes "P", codes "X") ∷ [];
+  arcs = arc_row (codes "A") (codes "P") ∷ arc_row (codes "B") (codes "P") ∷ arc_row (codes "P") (codes "X") ∷ [];
 }
 
 -- a source without a maximum, and two products
@@ -86,7 +90,7 @@ two_products = record {
   sources = source_row (codes "A") (pos 1000000) None [] ∷ [];
   pools = [];
   products = product_row (codes "X") (pos 2000000) (pos 30000000) [] [] ∷ product_row (codes "Y") (pos 2000000) (pos 20000000) [] [] ∷ [];
-  arcs = (codes "A", codes "X") ∷ (codes "A", codes "Y") ∷ [];
+  arcs = arc_row (codes "A") (codes "X") ∷ arc_row (codes "A") (codes "Y") ∷ [];
 }
 
 -- the outlets of a site, with loads and flows of waste water
@@ -98,8 +102,8 @@ wastewater = record {
   pools = pool_row (codes "basin 1") ∷ pool_row (codes "basin 2") ∷ [];
   products = product_row (codes "river") (pos 3000000) (pos 80000000) (None ∷ []) (Some (pos 50000000) ∷ []) ∷ product_row (codes "sewer")
       (pos 1000000) (pos 100000000) (None ∷ []) (Some (pos 90000000) ∷ []) ∷ [];
-  arcs = (codes "W1", codes "basin 1") ∷ (codes "W2", codes "basin 1") ∷ (codes "W2", codes "basin 2") ∷ (codes "fresh", codes "basin 2")
-      ∷ (codes "basin 1", codes "river") ∷ (codes "basin 1", codes "sewer") ∷ (codes "basin 2", codes "river") ∷ (codes "basin 2", codes "sewer") ∷ (codes "fresh", codes "river") ∷ [];
+  arcs = arc_row (codes "W1") (codes "basin 1") ∷ arc_row (codes "W2") (codes "basin 1") ∷ arc_row (codes "W2") (codes "basin 2") ∷ arc_row (codes "fresh") (codes "basin 2")
+      ∷ arc_row (codes "basin 1") (codes "river") ∷ arc_row (codes "basin 1") (codes "sewer") ∷ arc_row (codes "basin 2") (codes "river") ∷ arc_row (codes "basin 2") (codes "sewer") ∷ arc_row (codes "fresh") (codes "river") ∷ [];
 }
 
 -- ---- each rule by itself
@@ -110,9 +114,9 @@ abbrev pub strict : Rows
 strict = record {
   qualities = codes "load" ∷ [];
   sources = source_row (codes "A") (pos 1) (Some (pos 40)) (pos 30 ∷ []) ∷ source_row (codes "B") (pos 2) (Some (pos 45)) (pos 10 ∷ []) ∷ [];
-  pools = record { name = codes "P"; max = Some (pos 50) } ∷ [];
+  pools = record { name = codes "P"; max = Some (pos 50); ratio = pos 1000 ∷ [] } ∷ [];
   products = record { name = codes "X"; price = pos 5; min = pos 10; max = pos 60; least = Some (pos 15) ∷ []; most = Some (pos 25) ∷ [] } ∷ [];
-  arcs = (codes "A", codes "P") ∷ (codes "B", codes "P") ∷ (codes "P", codes "X") ∷ (codes "B", codes "X") ∷ [];
+  arcs = arc_row (codes "A") (codes "P") ∷ arc_row (codes "B") (codes "P") ∷ arc_row (codes "P") (codes "X") ∷ arc_row (codes "B") (codes "X") ∷ [];
 }
 
 -- what flows from A and from B into P, from P to X, and from B to X
@@ -129,8 +133,8 @@ shared = record {
   pools = pool_row (codes "P") ∷ pool_row (codes "Q") ∷ pool_row (codes "R") ∷ [];
   products = product_row (codes "X") (pos 9) (pos 100) (Some (pos 15) ∷ []) (Some (pos 25) ∷ [])
       ∷ record { name = codes "Y"; price = pos 15; min = pos 5; max = pos 200; least = None ∷ []; most = Some (pos 15) ∷ [] } ∷ [];
-  arcs = (codes "A", codes "P") ∷ (codes "B", codes "P") ∷ (codes "A", codes "Q") ∷ (codes "B", codes "Q") ∷ (codes "P", codes "X") ∷ (codes "P", codes "Y")
-      ∷ (codes "Q", codes "Y") ∷ (codes "C", codes "X") ∷ (codes "C", codes "Y") ∷ (codes "B", codes "R") ∷ (codes "R", codes "Y") ∷ [];
+  arcs = arc_row (codes "A") (codes "P") ∷ arc_row (codes "B") (codes "P") ∷ arc_row (codes "A") (codes "Q") ∷ arc_row (codes "B") (codes "Q") ∷ arc_row (codes "P") (codes "X") ∷ arc_row (codes "P") (codes "Y")
+      ∷ arc_row (codes "Q") (codes "Y") ∷ arc_row (codes "C") (codes "X") ∷ arc_row (codes "C") (codes "Y") ∷ arc_row (codes "B") (codes "R") ∷ arc_row (codes "R") (codes "Y") ∷ [];
 }
 
 -- Bases; the weights of A and B in P, of A and B in Q and of B in R; flows from P to X, P to Y, Q to Y and R to Y; flows from
@@ -160,3 +164,39 @@ shared_breaking =
     ∷ over_bases 1 1 (0 ∷ 1 ∷ 0 ∷ 1 ∷ 1 ∷ []) (0 ∷ 100 ∷ 101 ∷ 0 ∷ []) (0 ∷ 0 ∷ [])
     ∷ over_bases 2 1 (1 ∷ 0 ∷ 0 ∷ 2 ∷ 2 ∷ []) (0 ∷ 10 ∷ 10 ∷ 0 ∷ []) (0 ∷ 0 ∷ [])
     ∷ []
+
+-- ---- arcs that cost and hold, and pools that remove
+
+-- A costs 6 and has sulfur 3, of which so many thousandths leave the pool P; the arc from A costs 0.5 and holds 80; X brings 9 and
+-- takes 100 with sulfur 1.5 at the most
+abbrev pub desulfured : ℤ → Rows
+desulfured ratio = record {
+  qualities = codes "sulfur" ∷ [];
+  sources = source_row (codes "A") (pos 6000000) (Some (pos 100000000)) (pos 3000000 ∷ []) ∷ [];
+  pools = record { name = codes "P"; max = None; ratio = ratio ∷ [] } ∷ [];
+  products = product_row (codes "X") (pos 9000000) (pos 100000000) (None ∷ []) (Some (pos 1500000) ∷ []) ∷ [];
+  arcs = record { from = codes "A"; to = codes "P"; cost = pos 500000; max = Some (pos 80000000) } ∷ arc_row (codes "P") (codes "X") ∷ [];
+}
+
+-- X takes from 15 to 20 of the load. Half of A's 30 leaves the pool P, and B has 25.
+abbrev pub cleaned : Rows
+cleaned = record {
+  qualities = codes "load" ∷ [];
+  sources = source_row (codes "A") (pos 1) None (pos 30 ∷ []) ∷ source_row (codes "B") (pos 2) None (pos 25 ∷ []) ∷ [];
+  pools = record { name = codes "P"; max = None; ratio = pos 500 ∷ [] } ∷ [];
+  products = product_row (codes "X") (pos 5) (pos 60) (Some (pos 15) ∷ []) (Some (pos 20) ∷ []) ∷ [];
+  arcs = arc_row (codes "A") (codes "P") ∷ arc_row (codes "P") (codes "X") ∷ arc_row (codes "B") (codes "X") ∷ [];
+}
+
+-- A and B feed the pool P, and B reaches X direct: 20 at the most from A, 30 from P and 7 from B to X. A costs 1, B costs 2, X brings
+-- 5; the arcs cost 3 from A, 1 less than nothing from P, and 2 from B to X.
+abbrev pub piped : Rows
+piped = record {
+  qualities = [];
+  sources = source_row (codes "A") (pos 1) None [] ∷ source_row (codes "B") (pos 2) None [] ∷ [];
+  pools = record { name = codes "P"; max = None; ratio = [] } ∷ [];
+  products = product_row (codes "X") (pos 5) (pos 60) [] [] ∷ [];
+  arcs = record { from = codes "A"; to = codes "P"; cost = pos 3; max = Some (pos 20) } ∷ arc_row (codes "B") (codes "P")
+      ∷ record { from = codes "P"; to = codes "X"; cost = neg_ℤ (pos 1); max = Some (pos 30) }
+      ∷ record { from = codes "B"; to = codes "X"; cost = pos 2; max = Some (pos 7) } ∷ [];
+}

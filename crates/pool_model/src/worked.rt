@@ -1,12 +1,13 @@
 //! Worked networks and plans: what the definitions come to, computed by the checker. There is no code here.
 #![tactic(auto, using(crate::proofs::Decision::obeys, crate::proofs::Decision::breaks), unfolding(crate::specs::Network::net_of))]
 
-ghost use Rattle.std.specs.Prelude.{◌≡◌, [], ◌∷◌, neg_ℤ, pos, All};
-ghost use Rattle.pool_model.specs.Network.{net_of};
+ghost use Rattle.std.specs.Prelude.{◌≡◌, [], ◌∷◌, None, Some, neg_ℤ, pos, All};
+ghost use Rattle.integers.specs.Numbers.{tabulate};
+ghost use Rattle.pool_model.specs.Network.{arc_cost, arc_max, arcs, net_of};
 ghost use Rattle.pool_model.specs.Plan.{Obeys, cost_of, quality_inflow, quality_room};
-ghost use Rattle.pool_model.specs.Starting.{reach_bound, simple_plan, straight, through, zero_plan};
+ghost use Rattle.pool_model.specs.Starting.{direct_flow, path_flow, reach_bound, simple_plan, straight, through, zero_plan};
 ghost use Rattle.pool_model.specs.Worked.{ObeysIn, cost_in, flows, haverly, haverly_best, haverly_mixed, net_in, nothing, one_source, plan_in, pooled_haverly};
-ghost use Rattle.pool_model.specs.Worked.{shared, shared_breaking, shared_obeying, strict, two_feeds, two_products, wastewater, written};
+ghost use Rattle.pool_model.specs.Worked.{cleaned, desulfured, piped, shared, shared_breaking, shared_obeying, strict, two_feeds, two_products, wastewater, written};
 
 /// Worked plans: whether they obey, and what they cost.
 pub fn worked_plans()
@@ -35,6 +36,12 @@ pub fn worked_plans()
     ensures two_products_over { ¬ ObeysIn two_products (written 1 [] [] (30000000 ∷ 20000001 ∷ [])) }
     ensures wastewater_fresh { ObeysIn wastewater (simple_plan (net_in wastewater) (straight 0)) }
     ensures wastewater_fresh_cost { cost_in wastewater (simple_plan (net_in wastewater) (straight 0)) ≡ neg_ℤ (pos 212000000000000) }
+    ensures desulfured_full { ObeysIn (desulfured (pos 500)) (written 1 (1 ∷ []) (80000000 ∷ []) []) }
+    ensures desulfured_starts { simple_plan (net_in (desulfured (pos 500))) (through 0 0) ≡ written 1 (1 ∷ []) (80000000 ∷ []) [] }
+    ensures desulfured_cost { cost_in (desulfured (pos 500)) (written 1 (1 ∷ []) (80000000 ∷ []) []) ≡ neg_ℤ (pos 200000000000000) }
+    ensures desulfured_over { ¬ ObeysIn (desulfured (pos 500)) (written 1 (1 ∷ []) (80000001 ∷ []) []) }
+    ensures desulfured_less { ¬ ObeysIn (desulfured (pos 501)) (written 1 (1 ∷ []) (80000000 ∷ []) []) }
+    ensures desulfured_nothing { simple_plan (net_in (desulfured (pos 501))) (through 0 0) ≡ written 1 (1 ∷ []) (0 ∷ []) [] }
     ensures shared_obey { All (ObeysIn shared) shared_obeying }
     ensures shared_break { All (λ w. ¬ ObeysIn shared w) shared_breaking }
 {}
@@ -61,6 +68,28 @@ pub fn worked_rules()
     ensures cost { cost_of (net_in strict) (flows 1 40 10 50 9) ≡ neg_ℤ (pos 217) }
 {}
 
+/// What arcs cost and hold, at each maximum and past it by the least amount, and what pools remove, at each limit and past it.
+pub fn worked_arcs()
+    // Promise: Worked plans: each rule kept at its limit, and broken by the least amount
+    ensures arcs_full { Obeys (net_in piped) (flows 1 20 10 30 7) }
+    ensures feed_over { ¬ Obeys (net_in piped) (flows 1 21 9 30 7) }
+    ensures other_feed { Obeys (net_in piped) (flows 1 0 30 30 7) }
+    ensures out_over { ¬ Obeys (net_in piped) (flows 1 20 11 31 7) }
+    ensures direct_over { ¬ Obeys (net_in piped) (flows 1 20 10 30 8) }
+    ensures half_over { ¬ Obeys (net_in piped) (flows 2 40 20 60 15) }
+    ensures cost { cost_of (net_in piped) (flows 1 20 10 30 7) ≡ neg_ℤ (pos 87) }
+    ensures numbered_costs { tabulate (arc_cost (net_in piped)) (arcs (net_in piped)) ≡ pos 3 ∷ pos 0 ∷ neg_ℤ (pos 1) ∷ pos 2 ∷ [] }
+    ensures numbered_maxima { tabulate (arc_max (net_in piped)) (arcs (net_in piped)) ≡ Some 20 ∷ None ∷ Some 30 ∷ Some 7 ∷ [] }
+
+    ensures treated_least { Obeys (net_in cleaned) (flows 1 10 0 10 0) }
+    ensures treated_most { Obeys (net_in cleaned) (flows 1 10 0 10 10) }
+    ensures treated_over { ¬ Obeys (net_in cleaned) (flows 1 10 0 10 11) }
+    ensures path_alone { path_flow (net_in cleaned) 0 0 ≡ 60 }
+    ensures direct_alone { direct_flow (net_in cleaned) 0 ≡ 0 }
+    ensures parts { ((net_in cleaned).scale ≡ 1000) × ((net_in cleaned).retained 0 0 ≡ 500) }
+    ensures one_part { ((net_in (haverly (pos 16000000))).scale ≡ 1) × ((net_in (haverly (pos 16000000))).retained 0 0 ≡ 1) }
+{}
+
 /// Worked reach bounds.
 pub fn worked_bounds()
     // Promise: Worked networks: the bounds of some
@@ -68,4 +97,6 @@ pub fn worked_bounds()
     ensures haverly_bound { reach_bound (net_in (haverly (pos 16000000))) ≡ neg_ℤ (pos 2100000000000000) }
     ensures wastewater_bound { reach_bound (net_in wastewater) ≡ neg_ℤ (pos 340000000000000) }
     ensures nothing_bound { reach_bound (net_in nothing) ≡ pos 0 }
+    ensures desulfured_bound { reach_bound (net_in (desulfured (pos 500))) ≡ neg_ℤ (pos 250000000000000) }
+    ensures piped_bound { reach_bound (net_in piped) ≡ neg_ℤ (pos 240) }
 {}

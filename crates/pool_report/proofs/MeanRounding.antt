@@ -27,10 +27,10 @@ down-scaled m z d some positive =
     apart f m d = simp sorted refl
 
 -- a mean, rounded down, by its two numbers
-pub mean_is : (n : Net) (p : Plan) (j k : ℕ) (num den : ℤ) (inflow : ℕ) → IsMean n p j k num den → 0 < product_inflow n p j → inflow ≡ product_inflow n p j
-    → rounded_down num inflow ≡ mean_of n p j k
-mean_is n p j k num den inflow is positive e =
+pub mean_is : (n : Net) (p : Plan) (j k : ℕ) (num den : ℤ) (inflow : ℕ) → IsMean n p j k num den → inflow ≡ n.scale * product_inflow n p j → rounded_down num inflow ≡ mean_of n p j k
+mean_is n p j k num den inflow is e =
     let m = product_below (factor n p) n.pools in
+    let all = n.scale * product_inflow n p j in
     ap (λ (d : ℕ). rounded_down num d) e
-    ∙ down-scaled m num (product_inflow n p j) (positive-product_below (factor n p) n.pools (λ l. omega arith)) positive
-    ∙ ap (λ (z : ℤ). rounded_down z (m * product_inflow n p j)) is.quality
+    ∙ down-scaled m num all (positive-product_below (factor n p) n.pools (λ l. omega arith)) is.some
+    ∙ ap (λ (z : ℤ). rounded_down z (m * all)) is.quality

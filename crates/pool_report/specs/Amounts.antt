@@ -13,6 +13,7 @@ units p flow = rounded_down (pos flow) p.base
 abbrev pub slack : Plan → ℕ → ℕ → ℤ
 slack p most flow = rounded_down (pos (p.base * most) -ℤ pos flow) p.base
 
--- A product's mean of a quality: the quality inflow of the blending rules, over the product's inflow and the factors of all pools.
+-- A product's mean of a quality: the quality inflow of the blending rules, over the scale, the product's inflow and the factors of
+-- all pools.
 abbrev pub mean_of : Net → Plan → ℕ → ℕ → ℤ
-mean_of n p j k = rounded_down (quality_inflow n p j k) (product_below (factor n p) n.pools * product_inflow n p j)
+mean_of n p j k = rounded_down (quality_inflow n p j k) (product_below (factor n p) n.pools * (n.scale * product_inflow n p j))

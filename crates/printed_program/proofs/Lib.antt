@@ -6,6 +6,7 @@ pub mod Terms
 pub mod Groups
 pub mod Ends
 pub mod Parts
+pub mod Maxima
 pub mod PointsOfP
 pub mod PointsOfQ
 pub mod FlowEnds

@@ -8,7 +8,8 @@ use Rattle.integers.proofs.Ring.{additive, linear, sorted}
 use Rattle.integers.proofs.Order.{le-mul_int_min}
 use Rattle.integers.proofs.AtKey.{term-le-sum_at}
 use Rattle.integers.proofs.Tabulate.{All-tabulate}
-use Rattle.pool_model.specs.Network.{Net, IsLimited}
+use Rattle.pool_model.specs.Network.{Net, IsLimited, capped}
+use Rattle.pool_model.proofs.Capped.{le-mul_capped}
 use Rattle.row_model.specs.Boxes.{root, prop, flow_number, root_low, root_high, grain}
 use Rattle.row_model.specs.Variables.{variables, by_number, lows, highs, path_count, path_feed, path_out}
 use Rattle.row_model.specs.Catalogue.{network_families, pq_families}
@@ -51,16 +52,19 @@ module _ (n : Net) (lim : IsLimited n) (q : ProportionPoint) (h : IsPointOfQ n q
         let o = path_out n a in
         let le = path_feed-below n a lt in
         let i = n.feed_source e in
-        let by_feed : q.path a ≤ q.base * n.source_max i = omega (
+        let along_feed : q.path a ≤ q.feed e = omega (arith, h.feeds e le, term-le-sum_at (path_feed n) e q.path (path_count n) a lt refl) in
+        let by_source : q.path a ≤ q.base * n.source_max i = omega (
           arith,
-          h.feeds e le,
-          term-le-sum_at (path_feed n) e q.path (path_count n) a lt refl,
+          along_feed,
           term-le-sum_at n.feed_source i q.feed n.feeds e le refl,
           h.carries.sources i (lim.feed_sources e le),
         ) in
+        let sent = capped (n.feed_max e) (n.source_max i) in
+        let by_feed : q.path a ≤ q.base * sent = le-mul_capped (n.feed_max e) (q.path a) q.base (n.source_max i) by_source
+        (λ m is. omega (arith, along_feed, h.carries.arcs.feeds e m le is)) in
         let most = path_most a lt in
-        le-mul_int_min (pos (q.path a)) (pos q.base) (pos (n.source_max i)) ((root n).high (flow_number n o))
-        (signed (q.path a) q.base (n.source_max i) by_feed)
+        le-mul_int_min (pos (q.path a)) (pos q.base) (pos sent) ((root n).high (flow_number n o))
+        (signed (q.path a) q.base sent by_feed)
         (omega (arith, additive, most, out-under n (proportion_flows q) fits o (path_out-below n a lt)))
       where
         signed : (x b m : ℕ) → x ≤ b * m → pos x ≤ℤ (pos m *ℤ pos b)

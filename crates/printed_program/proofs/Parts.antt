@@ -23,7 +23,7 @@ use Rattle.printed_program.specs.Printed.{named_terms, variable_line, variable_l
 use Rattle.printed_program.proofs.Lists.{All-front, All-behind, All-lists_below, All-optional, int_sum_by-nothing}
 use Rattle.printed_program.proofs.VariableKinds.{out_number, direct_number, path_number, proportion_number}
 use Rattle.printed_program.proofs.Terms.{AreNamed, terms-dot, name-feed, name-out, name-direct, name-path, name-proportion, number-feed, number-out, number-direct, number-path, number-proportion}
-use Rattle.printed_program.proofs.Ends.{ends-kept, variables-kept, proportion-low, flow-low, from_zero}
+use Rattle.printed_program.proofs.Ends.{IsWithin, ends-kept, variables-kept, proportion-low, flow-low, from_zero}
 
 -- ---- parts
 
@@ -83,28 +83,34 @@ pub each-behind : (A : Row → Type 0) (fs gs : List Family) → HoldsOfEach A (
 each-behind A [] gs h = h
 each-behind A (f ∷ fs) gs h = each-behind A fs gs h.1
 
--- ---- flows, proportions and flows along paths are not below 0
+-- ---- flows lie between their ends, and neither they nor proportions and flows along paths are below 0
 
 module _ (n : Net) (form : Form) (q : Numbers) (h : All (Keeps q) (variable_lines n form)) where
+  pub feed-within : (e : ℕ) → e < n.feeds → has_symbol form symbols.Feed ≡ true → IsWithin q.base (pos 0) ((highs n (root n)).x e) (q.value (named symbols.Feed e))
+  feed-within e lt has =
+      ends-kept n form q e (named symbols.Feed e) (pos 0) ((highs n (root n)).x e) (name-feed n e lt) (number-feed n (lows n (root n)) e lt) (number-feed n (highs n (root n)) e lt) has
+      (variables-kept n form q e h (omega arith))
+
+  pub out-within : (o : ℕ) → o < n.outs → has_symbol form symbols.Out ≡ true → IsWithin q.base ((lows n (root n)).y o) ((highs n (root n)).y o) (q.value (named symbols.Out o))
+  out-within o lt has =
+      ends-kept n form q (out_number n o) (named symbols.Out o) ((lows n (root n)).y o) ((highs n (root n)).y o)
+      (name-out n o lt) (number-out n (lows n (root n)) o lt) (number-out n (highs n (root n)) o lt) has
+      (variables-kept n form q (out_number n o) h (omega arith))
+
+  pub direct-within : (e : ℕ) → e < n.directs → has_symbol form symbols.Direct ≡ true → IsWithin q.base (pos 0) ((highs n (root n)).z e) (q.value (named symbols.Direct e))
+  direct-within e lt has =
+      ends-kept n form q (direct_number n e) (named symbols.Direct e) (pos 0) ((highs n (root n)).z e)
+      (name-direct n e lt) (number-direct n (lows n (root n)) e lt) (number-direct n (highs n (root n)) e lt) has
+      (variables-kept n form q (direct_number n e) h (omega arith))
+
   pub feed-signed : (e : ℕ) → e < n.feeds → has_symbol form symbols.Feed ≡ true → pos 0 ≤ℤ q.value (named symbols.Feed e)
-  feed-signed e lt has =
-      from_zero q.base (pos 0) ((highs n (root n)).x e) (q.value (named symbols.Feed e)) refl
-      (ends-kept n form q e (named symbols.Feed e) (pos 0) ((highs n (root n)).x e) (name-feed n e lt) (number-feed n (lows n (root n)) e lt) (number-feed n (highs n (root n)) e lt) has
-      (variables-kept n form q e h (omega arith)))
+  feed-signed e lt has = from_zero q.base (pos 0) ((highs n (root n)).x e) (q.value (named symbols.Feed e)) refl (feed-within e lt has)
 
   pub out-signed : (o : ℕ) → o < n.outs → has_symbol form symbols.Out ≡ true → pos 0 ≤ℤ q.value (named symbols.Out o)
-  out-signed o lt has =
-      from_zero q.base ((lows n (root n)).y o) ((highs n (root n)).y o) (q.value (named symbols.Out o)) (flow-low n o lt)
-      (ends-kept n form q (out_number n o) (named symbols.Out o) ((lows n (root n)).y o) ((highs n (root n)).y o)
-      (name-out n o lt) (number-out n (lows n (root n)) o lt) (number-out n (highs n (root n)) o lt) has
-      (variables-kept n form q (out_number n o) h (omega arith)))
+  out-signed o lt has = from_zero q.base ((lows n (root n)).y o) ((highs n (root n)).y o) (q.value (named symbols.Out o)) (flow-low n o lt) (out-within o lt has)
 
   pub direct-signed : (e : ℕ) → e < n.directs → has_symbol form symbols.Direct ≡ true → pos 0 ≤ℤ q.value (named symbols.Direct e)
-  direct-signed e lt has =
-      from_zero q.base (pos 0) ((highs n (root n)).z e) (q.value (named symbols.Direct e)) refl
-      (ends-kept n form q (direct_number n e) (named symbols.Direct e) (pos 0) ((highs n (root n)).z e)
-      (name-direct n e lt) (number-direct n (lows n (root n)) e lt) (number-direct n (highs n (root n)) e lt) has
-      (variables-kept n form q (direct_number n e) h (omega arith)))
+  direct-signed e lt has = from_zero q.base (pos 0) ((highs n (root n)).z e) (q.value (named symbols.Direct e)) refl (direct-within e lt has)
 
   pub path-signed : (a : ℕ) → a < path_count n → has_symbol form symbols.Path ≡ true → pos 0 ≤ℤ q.value (named symbols.Path a)
   path-signed a lt has =

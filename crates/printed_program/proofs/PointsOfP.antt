@@ -23,6 +23,7 @@ use Rattle.printed_program.proofs.Scaling.{AreTimes, times-number, times-nothing
 use Rattle.printed_program.proofs.Terms.{numbers_of, numbers-named, name-quality, number-quality}
 use Rattle.printed_program.proofs.Groups.{group-meets}
 use Rattle.printed_program.proofs.Ends.{IsWithin, ends-kept, variables-kept, quality-low, quality-high, unsigned}
+use Rattle.printed_program.proofs.Maxima.{maxima-kept}
 use Rattle.printed_program.proofs.Parts.{KeepsParts, to_parts, meets_each, each-both, feed-signed, out-signed, direct-signed}
 
 -- a row of P has no flow along a path and no proportion
@@ -117,4 +118,5 @@ lines-solve_p n q h =
       products = product-kept n q parts;
       low = λ l k ll lk. (quality-within n q parts l k ll lk).low;
       high = λ l k ll lk. (quality-within n q parts l k ll lk).high;
+      maxima = maxima-kept n P q parts.variables;
     }

@@ -23,6 +23,7 @@ use Rattle.printed_program.proofs.Scaling.{AreTimes, times-number, times-nothing
 use Rattle.printed_program.proofs.Terms.{numbers_of, numbers-named}
 use Rattle.printed_program.proofs.Groups.{group-meets}
 use Rattle.printed_program.proofs.Ends.{unsigned}
+use Rattle.printed_program.proofs.Maxima.{maxima-kept}
 use Rattle.printed_program.proofs.Parts.{to_parts, meets_each, each-both, feed-signed, out-signed, direct-signed, path-signed, proportion-signed, has-feeds, has-outs, has-directs}
 
 -- a row of Q has no quality and no mixed variable
@@ -125,6 +126,7 @@ lines-solve_q n q h =
           (group-meets n q v groups.Network named parts.network)
           (group-meets n q v groups.Q named (All-front (Keeps q) (group_rows n groups.Q) products parts.own))));
       products = product-kept n Q q-paths q parts.variables (All-behind (Keeps q) (group_rows n groups.Q) products parts.own);
+      maxima = maxima-kept n Q q parts.variables;
     }
 
 pub lines-solve_pq : (n : Net) (q : Numbers) → IsPointOf (program_lines n Pq) q → SolvesPq n (proportion_point_at q)
@@ -148,4 +150,5 @@ lines-solve_pq n q h =
           (group-meets n q v groups.Q named (All-front (Keeps q) (group_rows n groups.Q) products of_q))
           (group-meets n q v groups.Further named (All-behind (Keeps q) rows (group_rows n groups.Further) parts.own)))));
       products = product-kept n Pq pq-paths q parts.variables (All-behind (Keeps q) (group_rows n groups.Q) products of_q);
+      maxima = maxima-kept n Pq q parts.variables;
     }

@@ -1,5 +1,5 @@
 -- The numbers of a printed program are short: all are below 10^64 in size.
-use Rattle.std.proofs.Common.{refl, All, ◌≡◌, ℕ, ◌+◌, ◌*◌, ◌/◌, ◌%◌, ◌^◌, ◌<◌, ◌≤◌, Bool, true, false, ◌==◌, if◌then◌else◌, [], ◌∷◌, ◌++◌, ℤ, pos, neg_ℤ, ◌-ℤ◌, ◌*ℤ◌, unsigned_abs}
+use Rattle.std.proofs.Common.{refl, All, ◌≡◌, ℕ, ◌+◌, ◌*◌, ◌/◌, ◌%◌, ◌^◌, ◌<◌, ◌≤◌, Bool, true, false, ◌==◌, if◌then◌else◌, [], ◌∷◌, ◌++◌, Option, ℤ, pos, neg_ℤ, ◌+ℤ◌, ◌-ℤ◌, ◌*ℤ◌, unsigned_abs}
 use Rattle.std.proofs.Common.{arith, sym, ap, subst}
 use Rattle.std.specs.Int.{int_min, int_max}
 use Rattle.std.proofs.lemmas.Int.{ints, clamps}
@@ -9,7 +9,8 @@ use Rattle.integers.specs.Numbers.{tabulate}
 use Rattle.integers.proofs.Order.{abs-mul-le}
 use Rattle.integers.proofs.Grids.{grid-below, grid-row, grid-column}
 use Rattle.integers.proofs.Tabulate.{All-tabulate}
-use Rattle.pool_model.specs.Network.{Net, IsLimited, IsWithin as IsOfSize}
+use Rattle.pool_model.specs.Network.{Net, IsLimited, IsWithin as IsOfSize, capped}
+use Rattle.pool_model.proofs.Capped.{capped-le}
 use Rattle.row_model.specs.Boxes.{root, qual_number, flow_number, prop_number}
 use Rattle.row_model.specs.Variables.{variables, by_number, costs, lows, highs, path_count, path_feed, path_out, least_product, greatest_product}
 use Rattle.row_model.specs.Catalogue.{Kind, at_least, equal, Row, row_count, rows, row_at}
@@ -66,14 +67,21 @@ greatest-short a b c d ha hb hc hd =
 near : (z : ℤ) → unsigned_abs z ≤ 10 ^ 12 → IsShortNumber z
 near z h = omega (arith, h)
 
-opposite : (size : ℕ) (z : ℤ) → size ≤ 10 ^ 12 → IsOfSize size z → IsShortNumber z × IsShortNumber (neg_ℤ z)
-opposite size z h (low, high) = (omega (arith, ints), omega (arith, ints))
+both : (a b : ℤ) → IsOfSize (10 ^ 12) a → IsOfSize (10 ^ 12) b → IsShortNumber (a +ℤ b)
+both a b (low, high) (under, over) = omega (arith, ints)
 
-difference : (a b : ℤ) → IsOfSize (10 ^ 12) a → IsOfSize (10 ^ 12) b → IsShortNumber (a -ℤ b)
-difference a b (low, high) (under, over) = omega (arith, ints)
+less : (a b : ℤ) → IsOfSize (10 ^ 12) a → IsOfSize (10 ^ 12) b → IsShortNumber (a -ℤ b)
+less a b (low, high) (under, over) = omega (arith, ints)
 
-lesser : (m : ℕ) (z : ℤ) → m ≤ 10 ^ 14 → unsigned_abs z ≤ 10 ^ 12 → IsShortNumber (int_min (pos m) z)
-lesser m z h k = omega (arith, ints, clamps)
+both-less : (a b c : ℤ) → IsOfSize (10 ^ 12) a → IsOfSize (10 ^ 12) b → IsOfSize (10 ^ 12) c → IsShortNumber (a +ℤ b -ℤ c)
+both-less a b c (low, high) (under, over) (below, above) = omega (arith, ints)
+
+-- an end that a maximum caps
+capped-short : (o : Option ℕ) (amount m : ℕ) → amount ≤ m → m ≤ 10 ^ 14 → IsShortNumber (pos (capped o amount))
+capped-short o amount m h k = omega (arith, capped-le o amount)
+
+lesser : (o : Option ℕ) (m : ℕ) (z : ℤ) → m ≤ 10 ^ 14 → unsigned_abs z ≤ 10 ^ 12 → IsShortNumber (int_min (pos (capped o m)) z)
+lesser o m z h k = omega (arith, ints, clamps, capped-le o m)
 
 module _ (n : Net) (lim : IsLimited n) (few : path_count n ≤ 512) where
   -- ---- names
@@ -107,10 +115,10 @@ module _ (n : Net) (lim : IsLimited n) (few : path_count n ≤ 512) where
 
   costs-short : (v : ℕ) → v < variables n → IsShortNumber (by_number n (costs n) v)
   costs-short = by_number-each n (λ a b. IsShortNumber a) (costs n) (costs n) record {
-    x = λ e lt. (opposite (10 ^ 12) (n.source_cost (n.feed_source e)) (omega arith) (lim.source_costs (n.feed_source e) (lim.feed_sources e lt))).0;
-    y = λ o lt. (opposite (10 ^ 12) (n.price (n.out_product o)) (omega arith) (lim.prices (n.out_product o) (lim.out_products o lt))).1;
-    z = λ e lt. difference (n.source_cost (n.direct_source e)) (n.price (n.direct_product e))
-        (lim.source_costs (n.direct_source e) (lim.direct_sources e lt)) (lim.prices (n.direct_product e) (lim.direct_products e lt));
+    x = λ e lt. both (n.source_cost (n.feed_source e)) (n.feed_cost e) (lim.source_costs (n.feed_source e) (lim.feed_sources e lt)) (lim.feed_costs e lt);
+    y = λ o lt. less (n.out_cost o) (n.price (n.out_product o)) (lim.out_costs o lt) (lim.prices (n.out_product o) (lim.out_products o lt));
+    z = λ e lt. both-less (n.source_cost (n.direct_source e)) (n.direct_cost e) (n.price (n.direct_product e))
+        (lim.source_costs (n.direct_source e) (lim.direct_sources e lt)) (lim.direct_costs e lt) (lim.prices (n.direct_product e) (lim.direct_products e lt));
     w = λ a lt. omega arith;
     proportion = λ e lt. omega arith;
     quality = λ l k lt lk. omega arith;
@@ -145,10 +153,10 @@ module _ (n : Net) (lim : IsLimited n) (few : path_count n ≤ 512) where
 
   highs-short : (v : ℕ) → v < variables n → IsShortNumber (by_number n (highs n (root n)) v)
   highs-short = by_number-each n (λ a b. IsShortNumber a) (highs n (root n)) (highs n (root n)) record {
-    x = λ e lt. omega (arith, lim.source_maxima (n.feed_source e) (lim.feed_sources e lt));
+    x = λ e lt. capped-short (n.feed_max e) _ (n.source_max (n.feed_source e)) (omega arith) (lim.source_maxima (n.feed_source e) (lim.feed_sources e lt));
     y = λ o lt. near ((root n).high (flow_number n o)) (flow-near o lt).high;
-    z = λ e lt. omega (arith, lim.source_maxima (n.direct_source e) (lim.direct_sources e lt));
-    w = λ a lt. lesser (n.source_max (n.feed_source (path_feed n a))) ((root n).high (flow_number n (path_out n a)))
+    z = λ e lt. capped-short (n.direct_max e) _ (n.source_max (n.direct_source e)) (omega arith) (lim.source_maxima (n.direct_source e) (lim.direct_sources e lt));
+    w = λ a lt. lesser (n.feed_max (path_feed n a)) (n.source_max (n.feed_source (path_feed n a))) ((root n).high (flow_number n (path_out n a)))
         (lim.source_maxima (n.feed_source (path_feed n a)) (lim.feed_sources (path_feed n a) (path_feed-below n a lt))) (flow-near (path_out n a) (path_out-below n a lt)).high;
     proportion = λ e lt. near ((root n).high (prop_number n e)) (proportion-near e lt).high;
     quality = λ l k lt lk. near ((root n).high (qual_number n l k)) (quality-near l k lt lk).high;

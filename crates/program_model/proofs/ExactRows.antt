@@ -34,10 +34,10 @@ point_of_pq-rows n q h =
 -- ---- with the products: the programs by their rows
 
 pub point_of_p-solves : (n : Net) (q : QualityPoint) → IsPointOfP n q → SolvesP n q
-point_of_p-solves n q h = record { base = h.base; qual_base = h.qual_base; rows = point_of_p-rows n q h; products = h.products; low = h.low; high = h.high }
+point_of_p-solves n q h = record { base = h.base; qual_base = h.qual_base; rows = point_of_p-rows n q h; products = h.products; low = h.low; high = h.high; maxima = h.carries.arcs }
 
 pub point_of_q-solves : (n : Net) (q : ProportionPoint) → IsPointOfQ n q → SolvesQ n q
-point_of_q-solves n q h = record { base = h.base; prop_base = h.prop_base; rows = point_of_q-rows n q h; products = h.products }
+point_of_q-solves n q h = record { base = h.base; prop_base = h.prop_base; rows = point_of_q-rows n q h; products = h.products; maxima = h.carries.arcs }
 
 pub point_of_pq-solves : (n : Net) (q : ProportionPoint) → IsPointOfPq n q → SolvesPq n q
-point_of_pq-solves n q h = record { base = h.of_q.base; prop_base = h.of_q.prop_base; rows = point_of_pq-rows n q h; products = h.of_q.products }
+point_of_pq-solves n q h = record { base = h.of_q.base; prop_base = h.of_q.prop_base; rows = point_of_pq-rows n q h; products = h.of_q.products; maxima = h.of_q.carries.arcs }

@@ -3,18 +3,19 @@
 use Rattle.std.proofs.Common.{◌≡◌, ℕ, ◌*◌, ◌<◌, ◌≤◌, ℤ, pos, ◌+ℤ◌, ◌*ℤ◌, ◌≤ℤ◌, arith, refl, sym, ap, ◌∙◌}
 use Rattle.std.proofs.Math.Nat.{mul-le-mul, mul-le-mul_left}
 use Rattle.integers.specs.Sums.{product_but, int_sum_at, sum_at}
-use Rattle.integers.proofs.Ring.{additive, linear, sorted, mul_comm_ℤ, mul-add, mul_left_comm_ℤ}
+use Rattle.integers.proofs.Ring.{additive, linear, sorted, mul_comm_ℤ, mul-add, mul_assoc_ℤ, mul_left_comm_ℤ}
 use Rattle.integers.proofs.Order.{le-mul, same-cancel, same_pos}
-use Rattle.integers.proofs.AtKey.{int_sum_at-same, int_sum_at-mul, sum_at-mul, product_but_is}
+use Rattle.integers.proofs.AtKey.{int_sum_at-same, int_sum_at-mul, sum_at-mul, pos-sum_at, product_but_is}
 use Rattle.integers.proofs.ByNode.{sum_at-same_key}
 use Rattle.pool_model.specs.Network.{Net, IsLimited}
-use Rattle.pool_model.specs.Plan.{Plan, Carries, Obeys, outflow, product_inflow, factor}
+use Rattle.pool_model.specs.Plan.{Plan, Carries, Obeys, outflow, limit_room, mix, direct_mix, factor}
 use Rattle.row_model.specs.Boxes.{share}
 use Rattle.row_model.specs.Variables.{path_count, path_feed, path_out}
 use Rattle.row_model.proofs.PathSums.{path_out-below, path-joined, paths_at_key, natural_paths_at_feed, natural_paths_at_out}
 use Rattle.row_model.proofs.Shares.{share-sum, share-out}
 use Rattle.program_model.specs.Points.{ProportionPoint, proportion_flows}
-use Rattle.program_model.specs.Programs.{IsPointOfQ, IsPointOfPq, direct_mix, path_inflow}
+use Rattle.row_model.specs.Catalogue.{path_quality}
+use Rattle.program_model.specs.Programs.{IsPointOfQ, IsPointOfPq, path_inflow}
 use Rattle.program_model.specs.Lifted.{factors, proportion_point}
 use Rattle.program_model.proofs.Means.{HasQualities, BlendsByMeans, mean_inflow, positive-factors, blends-by_means}
 use Rattle.program_model.proofs.Scaled.{carries-scaled}
@@ -73,50 +74,66 @@ feed-of_q n q e lim h lt =
 abbrev pub proportion_quality : Net → ProportionPoint → ℕ → ℕ → ℤ
 proportion_quality n q l k = int_sum_at n.feed_pool l (λ e. n.source_quality (n.feed_source e) k *ℤ pos (q.proportion e)) n.feeds
 
+-- what the pool retains of it
+abbrev pub retained_proportion : Net → ProportionPoint → ℕ → ℕ → ℤ
+retained_proportion n q l k = pos (n.retained l k) *ℤ proportion_quality n q l k
+
 -- it is the pool's mean quality
-pub has_qualities-of_q : (n : Net) (q : ProportionPoint) → IsLimited n → IsPointOfQ n q → HasQualities n (proportion_flows q) q.prop_base (proportion_quality n q)
-has_qualities-of_q n q lim h = record {
-  each = λ l k lt lk.
-      let quality = λ (e : ℕ). n.source_quality (n.feed_source e) k in
-      let t = outflow n (proportion_flows q) l in
-      sym (int_sum_at-mul n.feed_pool l (pos q.prop_base) (λ e. quality e *ℤ pos (q.feed e)) n.feeds)
-      ∙ int_sum_at-same n.feed_pool l (λ e. pos q.prop_base *ℤ (quality e *ℤ pos (q.feed e))) (λ e. pos t *ℤ (quality e *ℤ pos (q.proportion e))) n.feeds
-      (λ e le is.
-      mul_left_comm_ℤ (pos q.prop_base) (quality e) (pos (q.feed e))
-      ∙ ap (λ z. quality e *ℤ pos z) (feed-of_q n q e lim h le ∙ ap (λ i. q.proportion e * outflow n (proportion_flows q) i) is)
-      ∙ last (quality e) (pos (q.proportion e)) (pos t))
-      ∙ int_sum_at-mul n.feed_pool l (pos t) (λ e. quality e *ℤ pos (q.proportion e)) n.feeds
-      ∙ mul_comm_ℤ (pos t) (proportion_quality n q l k);
-}
+mean-of_q : (n : Net) (q : ProportionPoint) (l k : ℕ) → IsLimited n → IsPointOfQ n q
+    → pos q.prop_base *ℤ mix n (proportion_flows q) l k ≡ proportion_quality n q l k *ℤ pos (outflow n (proportion_flows q) l)
+mean-of_q n q l k lim h =
+    let quality = λ (e : ℕ). n.source_quality (n.feed_source e) k in
+    let t = outflow n (proportion_flows q) l in
+    sym (int_sum_at-mul n.feed_pool l (pos q.prop_base) (λ e. quality e *ℤ pos (q.feed e)) n.feeds)
+    ∙ int_sum_at-same n.feed_pool l (λ e. pos q.prop_base *ℤ (quality e *ℤ pos (q.feed e))) (λ e. pos t *ℤ (quality e *ℤ pos (q.proportion e))) n.feeds
+    (λ e le is.
+    mul_left_comm_ℤ (pos q.prop_base) (quality e) (pos (q.feed e))
+    ∙ ap (λ z. quality e *ℤ pos z) (feed-of_q n q e lim h le ∙ ap (λ i. q.proportion e * outflow n (proportion_flows q) i) is)
+    ∙ last (quality e) (pos (q.proportion e)) (pos t))
+    ∙ int_sum_at-mul n.feed_pool l (pos t) (λ e. quality e *ℤ pos (q.proportion e)) n.feeds
+    ∙ mul_comm_ℤ (pos t) (proportion_quality n q l k)
   where
     last : (q r t : ℤ) → q *ℤ (r *ℤ t) ≡ t *ℤ (q *ℤ r)
     last q r t = simp sorted refl
 
+pub has_qualities-of_q : (n : Net) (q : ProportionPoint) → IsLimited n → IsPointOfQ n q → HasQualities n (proportion_flows q) q.prop_base (retained_proportion n q)
+has_qualities-of_q n q lim h = record {
+  each = λ l k lt lk.
+      let r = pos (n.retained l k) in
+      mul_left_comm_ℤ (pos q.prop_base) r (mix n (proportion_flows q) l k)
+      ∙ ap (λ z. r *ℤ z) (mean-of_q n q l k lim h)
+      ∙ sym (mul_assoc_ℤ r (proportion_quality n q l k) (pos (outflow n (proportion_flows q) l)));
+}
+
 -- what reaches a product by the pools' qualities is what flows along paths bring
 pub mean_inflow-of_q : (n : Net) (q : ProportionPoint) (j k : ℕ) → IsLimited n → IsPointOfQ n q
-    → mean_inflow n (proportion_flows q) q.prop_base (proportion_quality n q) j k ≡ pos q.prop_base *ℤ path_inflow n q j k
+    → mean_inflow n (proportion_flows q) q.prop_base (retained_proportion n q) j k ≡ pos q.prop_base *ℤ path_inflow n q j k
 mean_inflow-of_q n q j k lim h =
     let r = pos q.prop_base in
     let quality = λ (e : ℕ). n.source_quality (n.feed_source e) k in
-    let of_pair = λ (e o : ℕ). quality e *ℤ (pos (q.proportion e) *ℤ pos (q.out o)) in
-    let along = λ (a : ℕ). quality (path_feed n a) *ℤ pos (q.path a) in
+    let retained = λ (o : ℕ). pos (n.retained (n.out_pool o) k) in
+    let of_pair = λ (e o : ℕ). (retained o *ℤ quality e) *ℤ (pos (q.proportion e) *ℤ pos (q.out o)) in
+    let along = λ (a : ℕ). path_quality n a k *ℤ pos (q.path a) in
     let key = λ (a : ℕ). n.out_product (path_out n a) in
     let d = direct_mix n (proportion_flows q) j k in
     ap (λ z. z +ℤ r *ℤ d)
-    (int_sum_at-same n.out_product j (λ o. proportion_quality n q (n.out_pool o) k *ℤ pos (q.out o)) (λ o. int_sum_at n.feed_pool (n.out_pool o) (λ e. of_pair e o) n.feeds) n.outs
+    (int_sum_at-same n.out_product j (λ o. retained_proportion n q (n.out_pool o) k *ℤ pos (q.out o)) (λ o. int_sum_at n.feed_pool (n.out_pool o) (λ e. of_pair e o) n.feeds) n.outs
     (λ o lo is.
-    mul_comm_ℤ (proportion_quality n q (n.out_pool o) k) (pos (q.out o))
-    ∙ sym (int_sum_at-mul n.feed_pool (n.out_pool o) (pos (q.out o)) (λ e. quality e *ℤ pos (q.proportion e)) n.feeds)
-    ∙ int_sum_at-same n.feed_pool (n.out_pool o) (λ e. pos (q.out o) *ℤ (quality e *ℤ pos (q.proportion e))) (λ e. of_pair e o) n.feeds
-    (λ e le at. turned (pos (q.out o)) (quality e) (pos (q.proportion e))))
+    first (retained o) (proportion_quality n q (n.out_pool o) k) (pos (q.out o))
+    ∙ sym (int_sum_at-mul n.feed_pool (n.out_pool o) (retained o *ℤ pos (q.out o)) (λ e. quality e *ℤ pos (q.proportion e)) n.feeds)
+    ∙ int_sum_at-same n.feed_pool (n.out_pool o) (λ e. (retained o *ℤ pos (q.out o)) *ℤ (quality e *ℤ pos (q.proportion e))) (λ e. of_pair e o) n.feeds
+    (λ e le at. turned (retained o) (pos (q.out o)) (quality e) (pos (q.proportion e))))
     ∙ sym (paths_at_key n of_pair n.out_product j record { each = lim.feed_pools })
     ∙ int_sum_at-same key j (λ a. of_pair (path_feed n a) (path_out n a)) (λ a. r *ℤ along a) (path_count n)
-    (λ a la is. ap (λ z. quality (path_feed n a) *ℤ pos z) (sym (h.products a la)) ∙ last (quality (path_feed n a)) (pos (q.path a)) r)
+    (λ a la is. ap (λ z. path_quality n a k *ℤ pos z) (sym (h.products a la)) ∙ last (path_quality n a k) (pos (q.path a)) r)
     ∙ int_sum_at-mul key j r along (path_count n))
     ∙ sym (mul-add r (int_sum_at key j along (path_count n)) d)
   where
-    turned : (y q r : ℤ) → y *ℤ (q *ℤ r) ≡ q *ℤ (r *ℤ y)
-    turned y q r = simp sorted refl
+    first : (t q y : ℤ) → t *ℤ q *ℤ y ≡ (t *ℤ y) *ℤ q
+    first t q y = simp sorted refl
+
+    turned : (t y q r : ℤ) → (t *ℤ y) *ℤ (q *ℤ r) ≡ (t *ℤ q) *ℤ (r *ℤ y)
+    turned t y q r = simp sorted refl
 
     last : (q w r : ℤ) → q *ℤ (w *ℤ r) ≡ r *ℤ (q *ℤ w)
     last q w r = simp sorted refl
@@ -124,27 +141,54 @@ mean_inflow-of_q n q j k lim h =
 nonneg : (b : ℕ) → pos 0 ≤ℤ pos b
 nonneg b = omega (arith, linear)
 
-pub means-of_q : (n : Net) (q : ProportionPoint) → IsLimited n → IsPointOfQ n q → BlendsByMeans n (proportion_flows q) q.prop_base (proportion_quality n q)
+pub means-of_q : (n : Net) (q : ProportionPoint) → IsLimited n → IsPointOfQ n q → BlendsByMeans n (proportion_flows q) q.prop_base (retained_proportion n q)
 means-of_q n q lim h = record {
   at_most = λ j k u product lk set.
       rw (mean_inflow-of_q n q j k lim h)
-      (le-mul (pos q.prop_base) (path_inflow n q j k) (u *ℤ pos (product_inflow n (proportion_flows q) j)) (nonneg q.prop_base) (h.at_most j k u product lk set));
+      (le-mul (pos q.prop_base) (path_inflow n q j k) (limit_room n (proportion_flows q) j u) (nonneg q.prop_base) (h.at_most j k u product lk set));
   at_least = λ j k u product lk set.
       rw (mean_inflow-of_q n q j k lim h)
-      (le-mul (pos q.prop_base) (u *ℤ pos (product_inflow n (proportion_flows q) j)) (path_inflow n q j k) (nonneg q.prop_base) (h.at_least j k u product lk set));
+      (le-mul (pos q.prop_base) (limit_room n (proportion_flows q) j u) (path_inflow n q j k) (nonneg q.prop_base) (h.at_least j k u product lk set));
 }
 
 pub point_of_q-obeys : (n : Net) (q : ProportionPoint) → IsLimited n → IsPointOfQ n q → Obeys n (proportion_flows q)
 point_of_q-obeys n q lim h = record {
   denominator = h.base;
   carries = h.carries;
-  blends = blends-by_means n (proportion_flows q) q.prop_base (proportion_quality n q) lim h.prop_base (has_qualities-of_q n q lim h) (means-of_q n q lim h);
+  blends = blends-by_means n (proportion_flows q) q.prop_base (retained_proportion n q) lim h.prop_base (has_qualities-of_q n q lim h) (means-of_q n q lim h);
 }
 
 -- ---- the further rows of Pq
 
 cancel : (m a b : ℕ) → 0 < m → m * a ≡ m * b → a ≡ b
 cancel m a b h e = same_pos a b (same-cancel (pos m) (pos a) (pos b) (omega (arith, linear)) (ap pos e))
+
+-- along paths to a product flows what its outs carry, where proportions sum to 1 and paths carry their products
+pub paths_into : (n : Net) (q : ProportionPoint) (j : ℕ) → IsLimited n → 0 < q.prop_base → ((l : ℕ) → l < n.pools → sum_at n.feed_pool l q.proportion n.feeds ≡ q.prop_base)
+    → ((a : ℕ) → a < path_count n → q.path a * q.prop_base ≡ q.proportion (path_feed n a) * q.out (path_out n a))
+    → sum_at (λ a. n.out_product (path_out n a)) j q.path (path_count n) ≡ sum_at n.out_product j q.out n.outs
+paths_into n q j lim some proportions products =
+    let key = λ (a : ℕ). n.out_product (path_out n a) in
+    let r = q.prop_base in
+    let of_pair = λ (e o : ℕ). pos (q.proportion e * q.out o) in
+    cancel r (sum_at key j q.path (path_count n)) (sum_at n.out_product j q.out n.outs) some
+    (sym (sum_at-mul key j r q.path (path_count n))
+    ∙ sum_at-same_key key j (λ a. r * q.path a) (λ a. q.proportion (path_feed n a) * q.out (path_out n a)) (path_count n) (λ a la is. turned r (q.path a) ∙ products a la)
+    ∙ same_pos (sum_at key j (λ a. q.proportion (path_feed n a) * q.out (path_out n a)) (path_count n)) (sum_at n.out_product j (λ o. r * q.out o) n.outs)
+    (sym (pos-sum_at key j (λ a. q.proportion (path_feed n a) * q.out (path_out n a)) (path_count n))
+    ∙ paths_at_key n of_pair n.out_product j record { each = lim.feed_pools }
+    ∙ int_sum_at-same n.out_product j (λ o. int_sum_at n.feed_pool (n.out_pool o) (λ e. of_pair e o) n.feeds) (λ o. pos (r * q.out o)) n.outs
+    (λ o lo is.
+    pos-sum_at n.feed_pool (n.out_pool o) (λ e. q.proportion e * q.out o) n.feeds
+    ∙ ap pos (sum_at-same_key n.feed_pool (n.out_pool o) (λ e. q.proportion e * q.out o) (λ e. q.out o * q.proportion e) n.feeds (λ e le at. turned (q.proportion e) (q.out o))
+    ∙ sum_at-mul n.feed_pool (n.out_pool o) (q.out o) q.proportion n.feeds
+    ∙ ap (λ z. q.out o * z) (proportions (n.out_pool o) (lim.out_pools o lo))
+    ∙ turned (q.out o) r))
+    ∙ pos-sum_at n.out_product j (λ o. r * q.out o) n.outs)
+    ∙ sum_at-mul n.out_product j r q.out n.outs)
+  where
+    turned : (a b : ℕ) → a * b ≡ b * a
+    turned a b = omega arith
 
 -- what flows along an out comes along its paths
 outs-of_q : (n : Net) (q : ProportionPoint) (o : ℕ) → IsLimited n → IsPointOfQ n q → o < n.outs → sum_at (path_out n) o q.path (path_count n) ≡ q.out o

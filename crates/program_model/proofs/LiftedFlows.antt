@@ -5,47 +5,28 @@ use Rattle.integers.proofs.Ring.{additive, sorted, mul_left_comm_ℤ}
 use Rattle.integers.proofs.Order.{same_pos}
 use Rattle.integers.proofs.AtKey.{int_sum_at-same, int_sum_at-mul, pos-sum_at, product_but_is}
 use Rattle.pool_model.specs.Network.{Net, IsLimited}
-use Rattle.pool_model.specs.Plan.{Plan, Carries, outflow, product_inflow, mix, factor, quality_inflow, quality_room}
-use Rattle.row_model.specs.Variables.{path_count, path_feed, path_out}
-use Rattle.row_model.specs.Lift.{lift, others}
-use Rattle.row_model.proofs.PathSums.{HasFeedPools, paths_at_key}
+use Rattle.pool_model.specs.Plan.{Plan, Carries, outflow, product_inflow, limit_room, mix, factor, quality_inflow, quality_room}
+use Rattle.row_model.specs.Variables.{path_count, path_feed}
+use Rattle.row_model.specs.Lift.{others}
+use Rattle.row_model.proofs.Brought.{pools-bring}
 use Rattle.row_model.proofs.PRows.{mix-out}
 use Rattle.row_model.proofs.Shares.{feed-le}
-use Rattle.row_model.proofs.QRows.{others-flow, paths_from_feed}
+use Rattle.row_model.proofs.QRows.{others-flow, paths_from_feed, path_quality-sum}
 use Rattle.program_model.specs.Programs.{mixed_inflow, path_inflow}
 use Rattle.program_model.specs.Lifted.{factors, proportion_point, quality_point}
 use Rattle.program_model.proofs.Scaled.{scaled, mix-scaled, direct_mix-scaled, product_inflow-scaled}
 
 -- ---- along paths
 
--- the quality that flows along paths to a product is what reaches it through the pools
-path_quality-sum : (n : Net) (p : Plan) (j k : ℕ) → HasFeedPools n
-    → int_sum_at (λ a. n.out_product (path_out n a)) j (λ a. n.source_quality (n.feed_source (path_feed n a)) k *ℤ (lift n p).w a) (path_count n)
-    ≡ int_sum_at n.out_product j (λ o. others n p (n.out_pool o) *ℤ mix n p (n.out_pool o) k *ℤ pos (p.out o)) n.outs
-path_quality-sum n p j k h =
-    let quality = λ (e : ℕ). n.source_quality (n.feed_source e) k in
-    let of_pair = λ (e o : ℕ). quality e *ℤ (others n p (n.out_pool o) *ℤ (pos (p.feed e) *ℤ pos (p.out o))) in
-    paths_at_key n of_pair n.out_product j h
-    ∙ int_sum_at-same n.out_product j (λ o. int_sum_at n.feed_pool (n.out_pool o) (λ e. of_pair e o) n.feeds) (λ o. others n p (n.out_pool o) *ℤ mix n p (n.out_pool o) k *ℤ pos (p.out o)) n.outs
-    (λ o lo is.
-    int_sum_at-same n.feed_pool (n.out_pool o) (λ e. of_pair e o) (λ e. (others n p (n.out_pool o) *ℤ pos (p.out o)) *ℤ (quality e *ℤ pos (p.feed e))) n.feeds
-    (λ e le at. regroup (quality e) (others n p (n.out_pool o)) (pos (p.feed e)) (pos (p.out o)))
-    ∙ int_sum_at-mul n.feed_pool (n.out_pool o) (others n p (n.out_pool o) *ℤ pos (p.out o)) (λ e. quality e *ℤ pos (p.feed e)) n.feeds
-    ∙ last (others n p (n.out_pool o)) (pos (p.out o)) (mix n p (n.out_pool o) k))
-  where
-    regroup : (q b x y : ℤ) → q *ℤ (b *ℤ (x *ℤ y)) ≡ (b *ℤ y) *ℤ (q *ℤ x)
-    regroup q b x y = simp sorted refl
-
-    last : (b y m : ℤ) → (b *ℤ y) *ℤ m ≡ b *ℤ m *ℤ y
-    last b y m = simp sorted refl
-
 -- what reaches a product at the point is what reaches it in the plan, times all factors
 pub path_inflow-lifted : (n : Net) (p : Plan) (j k : ℕ) → IsLimited n → path_inflow n (proportion_point n p) j k ≡ quality_inflow n p j k
 path_inflow-lifted n p j k lim =
     omega (arith, additive, path_quality-sum n p j k record { each = lim.feed_pools }, direct_mix-scaled n (factors n p) p j k)
 
-pub room-lifted : (n : Net) (p : Plan) (j : ℕ) (u : ℤ) → u *ℤ pos (product_inflow n (scaled (factors n p) p) j) ≡ quality_room n p j u
-room-lifted n p j u = ap (λ z. u *ℤ pos z) (product_inflow-scaled n (factors n p) p j) ∙ mul_left_comm_ℤ u (pos (factors n p)) (pos (product_inflow n p j))
+pub room-lifted : (n : Net) (p : Plan) (j : ℕ) (u : ℤ) → limit_room n (scaled (factors n p) p) j u ≡ quality_room n p j u
+room-lifted n p j u =
+    let limit = pos n.scale *ℤ u in
+    ap (λ z. limit *ℤ pos z) (product_inflow-scaled n (factors n p) p j) ∙ mul_left_comm_ℤ limit (pos (factors n p)) (pos (product_inflow n p j))
 
 -- what a feed brings goes along its paths
 pub feeds-lifted : (n : Net) (p : Plan) (e : ℕ) → IsLimited n → Carries n p → e < n.feeds
@@ -63,17 +44,7 @@ feeds-lifted n p e lim c lt =
 -- what reaches a product through pools is what mixed variables bring
 pub mixed_inflow-lifted : (n : Net) (p : Plan) (j k : ℕ) → mixed_inflow n (quality_point n p) j k ≡ quality_inflow n p j k
 mixed_inflow-lifted n p j k =
-    omega (
-      arith,
-      additive,
-      int_sum_at-same n.out_product j (λ o. others n p (n.out_pool o) *ℤ (mix n p (n.out_pool o) k *ℤ pos (p.out o)))
-          (λ o. others n p (n.out_pool o) *ℤ mix n p (n.out_pool o) k *ℤ pos (p.out o)) n.outs
-          (λ o lo is. grouped (others n p (n.out_pool o)) (mix n p (n.out_pool o) k) (pos (p.out o))),
-      direct_mix-scaled n (factors n p) p j k,
-    )
-  where
-    grouped : (b m y : ℤ) → b *ℤ (m *ℤ y) ≡ b *ℤ m *ℤ y
-    grouped b m y = simp sorted refl
+    omega (arith, additive, pools-bring n p j k, direct_mix-scaled n (factors n p) p j k)
 
 -- the quality that flows into a pool flows out of it
 pub mixing-lifted : (n : Net) (p : Plan) (l k : ℕ) → IsLimited n → Carries n p → l < n.pools

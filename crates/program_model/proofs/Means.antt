@@ -5,22 +5,21 @@ use Rattle.integers.proofs.Ring.{additive, linear, sorted, mul-add, mul_left_com
 use Rattle.integers.proofs.Order.{le-mul, le-cancel}
 use Rattle.integers.proofs.AtKey.{int_sum_at-same, int_sum_at-mul, product_but_is, positive-product_below}
 use Rattle.pool_model.specs.Network.{Net, IsLimited}
-use Rattle.pool_model.specs.Plan.{Plan, Blends, outflow, product_inflow, mix, factor, quality_inflow, quality_room}
+use Rattle.pool_model.specs.Plan.{Plan, Blends, outflow, limit_room, treated, direct_mix, factor, quality_inflow, quality_room}
 use Rattle.row_model.proofs.Shares.{out-le}
 use Rattle.row_model.proofs.QRows.{others-flow}
-use Rattle.program_model.specs.Programs.{direct_mix}
 
--- each pool's mean quality is this, over the base
+-- what leaves each pool has this quality in parts of the scale, over the base
 pub record HasQualities (n : Net) (p : Plan) (base : ℕ) (quality : ℕ → ℕ → ℤ) : Type 0 where
-  pub each : (l k : ℕ) → l < n.pools → k < n.qualities → pos base *ℤ mix n p l k ≡ quality l k *ℤ pos (outflow n p l)
+  pub each : (l k : ℕ) → l < n.pools → k < n.qualities → pos base *ℤ treated n p l k ≡ quality l k *ℤ pos (outflow n p l)
 
--- the quality that reaches a product, times its flow and the base
+-- the quality that reaches a product, in parts of the scale, times its flow and the base
 abbrev pub mean_inflow : Net → Plan → ℕ → (ℕ → ℕ → ℤ) → ℕ → ℕ → ℤ
 mean_inflow n p base quality j k = int_sum_at n.out_product j (λ o. quality (n.out_pool o) k *ℤ pos (p.out o)) n.outs +ℤ pos base *ℤ direct_mix n p j k
 
--- a quality, times the product's inflow and the base
+-- a quality, in parts of the scale, times the product's inflow and the base
 abbrev pub mean_room : Net → Plan → ℕ → ℕ → ℤ → ℤ
-mean_room n p base j u = pos base *ℤ (u *ℤ pos (product_inflow n p j))
+mean_room n p base j u = pos base *ℤ limit_room n p j u
 
 -- the product of the factors of all pools
 abbrev pub all_factors : Net → Plan → ℕ
@@ -29,14 +28,14 @@ all_factors n p = product_below (factor n p) n.pools
 pub positive-factors : (n : Net) (p : Plan) → 0 < all_factors n p
 positive-factors n p = positive-product_below (factor n p) n.pools (λ l. omega arith)
 
--- one out: its pool's other factors times its mix are all factors times its pool's quality
+-- one out: its pool's other factors times what it retains of its mix are all factors times the quality that leaves it
 out-mean : (n : Net) (p : Plan) (base : ℕ) (quality : ℕ → ℕ → ℤ) (k o : ℕ) → HasQualities n p base quality → o < n.outs → n.out_pool o < n.pools → k < n.qualities
-    → pos base *ℤ (pos (product_but (n.out_pool o) (factor n p) n.pools) *ℤ mix n p (n.out_pool o) k *ℤ pos (p.out o))
+    → pos base *ℤ (pos (product_but (n.out_pool o) (factor n p) n.pools) *ℤ treated n p (n.out_pool o) k *ℤ pos (p.out o))
     ≡ pos (all_factors n p) *ℤ (quality (n.out_pool o) k *ℤ pos (p.out o))
 out-mean n p base quality k o h lt below lk =
     let l = n.out_pool o in
     let b = product_but l (factor n p) n.pools in
-    regroup (pos base) (pos b) (mix n p l k) (pos (p.out o))
+    regroup (pos base) (pos b) (treated n p l k) (pos (p.out o))
     ∙ ap (λ z. (pos b *ℤ pos (p.out o)) *ℤ z) (h.each l k below lk)
     ∙ turned (pos b) (pos (p.out o)) (quality l k) (pos (outflow n p l))
     ∙ ap (λ z. pos z *ℤ quality l k) (others-flow b (outflow n p l) (all_factors n p) (p.out o) (product_but_is l (factor n p) n.pools below) (out-le n p o lt))
@@ -55,7 +54,7 @@ out-mean n p base quality k o h lt below lk =
 pub quality_inflow-mean : (n : Net) (p : Plan) (base : ℕ) (quality : ℕ → ℕ → ℤ) (j k : ℕ) → IsLimited n → HasQualities n p base quality → k < n.qualities
     → pos base *ℤ quality_inflow n p j k ≡ pos (all_factors n p) *ℤ mean_inflow n p base quality j k
 quality_inflow-mean n p base quality j k lim h lk =
-    let through = λ (o : ℕ). pos (product_but (n.out_pool o) (factor n p) n.pools) *ℤ mix n p (n.out_pool o) k *ℤ pos (p.out o) in
+    let through = λ (o : ℕ). pos (product_but (n.out_pool o) (factor n p) n.pools) *ℤ treated n p (n.out_pool o) k *ℤ pos (p.out o) in
     let mean = λ (o : ℕ). quality (n.out_pool o) k *ℤ pos (p.out o) in
     let m = pos (all_factors n p) in
     let d = direct_mix n p j k in
@@ -69,7 +68,7 @@ quality_inflow-mean n p base quality j k lim h lk =
 
 -- the room of a limit, by the base
 quality_room-mean : (n : Net) (p : Plan) (base j : ℕ) (u : ℤ) → pos base *ℤ quality_room n p j u ≡ pos (all_factors n p) *ℤ mean_room n p base j u
-quality_room-mean n p base j u = mul_left_comm_ℤ (pos base) (pos (all_factors n p)) (u *ℤ pos (product_inflow n p j))
+quality_room-mean n p base j u = mul_left_comm_ℤ (pos base) (pos (all_factors n p)) (limit_room n p j u)
 
 -- each product's mean lies between its limits, by the qualities of the pools
 pub record BlendsByMeans (n : Net) (p : Plan) (base : ℕ) (quality : ℕ → ℕ → ℤ) : Type 0 where

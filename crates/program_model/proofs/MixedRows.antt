@@ -5,16 +5,46 @@ use Rattle.integers.proofs.Ring.{additive, linear, neg-mul, mul-add, mul_left_co
 use Rattle.integers.proofs.AtKey.{int_sum_at-same, int_sum_at-mul}
 use Rattle.integers.proofs.Grids.{grid-row, grid-column}
 use Rattle.pool_model.specs.Network.{Net}
-use Rattle.pool_model.specs.Plan.{product_inflow, mix}
+use Rattle.pool_model.specs.Plan.{limit_room, mix, direct_mix}
+use Rattle.pool_model.specs.Starting.{straight, way_quality}
 use Rattle.pool_model.specs.Limits.{Limit, most_limits, least_limits, no_limit}
 use Rattle.pool_model.proofs.Limits.{most_limit-set, least_limit-set}
 use Rattle.row_model.specs.Variables.{path_count}
-use Rattle.row_model.specs.Catalogue.{when, mixing_row, mixed_most_row, mixed_least_row}
-use Rattle.row_model.proofs.RowSums.{no_sum, no_sums, key_sum, one_sums, scaled_at, same_at, room_at, excess_at, room_of_both}
+use Rattle.row_model.specs.Catalogue.{when, limit_parts, mixing_row, mixed_most_row, mixed_least_row}
+use Rattle.row_model.proofs.RowSums.{no_sum, no_sums, key_sum, one_sums, scaled_at, same_at, opposite_at, room_at, excess_at, room_of_both}
+use Rattle.row_model.proofs.Brought.{directs-bring}
 use Rattle.program_model.specs.Points.{QualityPoint, quality_flows}
-use Rattle.program_model.specs.Programs.{IsPointOfP, direct_mix, mixed_inflow}
+use Rattle.program_model.specs.Programs.{IsPointOfP, mixed_inflow}
 use Rattle.program_model.specs.Rows.{exact_p_families, quality_values, value_over, MeetsRows}
 use Rattle.program_model.proofs.PathRows.{room-met}
+
+-- what pools retain of the mixed variables of one quality on a product's outs, times the second base
+retained-sum : (n : Net) (q : QualityPoint) (j k : ℕ)
+    → int_sum_at n.out_product j (λ o. pos (n.retained (n.out_pool o) k) *ℤ (quality_values q).mixed o k) n.outs
+    ≡ pos q.qual_base *ℤ int_sum_at n.out_product j (λ o. pos (n.retained (n.out_pool o) k) *ℤ q.mixed o k) n.outs
+retained-sum n q j k =
+    let m = pos q.qual_base in
+    let retained = λ (o : ℕ). pos (n.retained (n.out_pool o) k) in
+    int_sum_at-same n.out_product j (λ o. retained o *ℤ (m *ℤ q.mixed o k)) (λ o. m *ℤ (retained o *ℤ q.mixed o k)) n.outs (λ o lo is. mul_left_comm_ℤ (retained o) m (q.mixed o k))
+    ∙ int_sum_at-mul n.out_product j m (λ o. retained o *ℤ q.mixed o k) n.outs
+
+retained-most : (n : Net) (q : QualityPoint) (j k : ℕ) → k < n.qualities
+    → int_sum_below (λ o. int_sum_below (λ h. when h k (when (n.out_product o) j (neg_ℤ (pos (n.retained (n.out_pool o) k)))) *ℤ (quality_values q).mixed o h) n.qualities) n.outs
+    ≡ neg_ℤ (pos q.qual_base *ℤ int_sum_at n.out_product j (λ o. pos (n.retained (n.out_pool o) k) *ℤ q.mixed o k) n.outs)
+retained-most n q j k lk =
+    let retained = λ (o : ℕ). pos (n.retained (n.out_pool o) k) in
+    one_sums k (λ o. when (n.out_product o) j (neg_ℤ (retained o))) (quality_values q).mixed n.outs n.qualities lk
+    ∙ opposite_at n.out_product j retained (λ o. (quality_values q).mixed o k) n.outs
+    ∙ ap neg_ℤ (retained-sum n q j k)
+
+retained-least : (n : Net) (q : QualityPoint) (j k : ℕ) → k < n.qualities
+    → int_sum_below (λ o. int_sum_below (λ h. when h k (when (n.out_product o) j (pos (n.retained (n.out_pool o) k))) *ℤ (quality_values q).mixed o h) n.qualities) n.outs
+    ≡ pos q.qual_base *ℤ int_sum_at n.out_product j (λ o. pos (n.retained (n.out_pool o) k) *ℤ q.mixed o k) n.outs
+retained-least n q j k lk =
+    let retained = λ (o : ℕ). pos (n.retained (n.out_pool o) k) in
+    one_sums k (λ o. when (n.out_product o) j (retained o)) (quality_values q).mixed n.outs n.qualities lk
+    ∙ key_sum n.out_product j retained (λ o. (quality_values q).mixed o k) n.outs
+    ∙ retained-sum n q j k
 
 -- the mixed variables of one quality at a key, with a coefficient each
 mixed-sum : (n : Net) (q : QualityPoint) (key : ℕ → ℕ) (j k : ℕ) (c : ℤ) → k < n.qualities
@@ -48,43 +78,47 @@ mixing_row-value n q l k lk =
 
 pub mixed_most_row-value : (n : Net) (q : QualityPoint) (u : Limit) → u.quality < n.qualities
     → value_over n (quality_values q) (q.base * q.qual_base) (mixed_most_row n u)
-    ≡ pos q.qual_base *ℤ (u.limit *ℤ pos (product_inflow n (quality_flows q) u.product)) -ℤ pos q.qual_base *ℤ mixed_inflow n q u.product u.quality
+    ≡ pos q.qual_base *ℤ limit_room n (quality_flows q) u.product u.limit -ℤ pos q.qual_base *ℤ mixed_inflow n q u.product u.quality
 mixed_most_row-value n q u lk =
     let m = pos q.qual_base in
     let v = quality_values q in
+    let limit = limit_parts n u in
     omega (
       arith,
-      linear,
+      additive,
       no_sum v.x n.feeds,
       no_sum v.w (path_count n),
       no_sum v.proportion n.feeds,
       no_sums v.quality n.pools n.qualities,
-      scaled_at n.out_product u.product u.limit m q.out n.outs,
-      room_at n.direct_product u.product u.limit m (λ e. n.source_quality (n.direct_source e) u.quality) q.direct n.directs,
-      mixed-sum n q n.out_product u.product u.quality (neg_ℤ (pos 1)) lk,
-      mul-add m (int_sum_at n.out_product u.product (λ o. q.mixed o u.quality) n.outs) (direct_mix n (quality_flows q) u.product u.quality),
-      room_of_both m u.limit (pos (sum_at n.out_product u.product q.out n.outs)) (pos (sum_at n.direct_product u.product q.direct n.directs)),
+      scaled_at n.out_product u.product limit m q.out n.outs,
+      room_at n.direct_product u.product limit m (λ e. way_quality n (straight e) u.quality) q.direct n.directs,
+      ap (λ z. m *ℤ z) (directs-bring n (quality_flows q) u.product u.quality),
+      retained-most n q u.product u.quality lk,
+      mul-add m (int_sum_at n.out_product u.product (λ o. pos (n.retained (n.out_pool o) u.quality) *ℤ q.mixed o u.quality) n.outs) (direct_mix n (quality_flows q) u.product u.quality),
+      room_of_both m limit (pos (sum_at n.out_product u.product q.out n.outs)) (pos (sum_at n.direct_product u.product q.direct n.directs)),
     )
 
 pub mixed_least_row-value : (n : Net) (q : QualityPoint) (u : Limit) → u.quality < n.qualities
     → value_over n (quality_values q) (q.base * q.qual_base) (mixed_least_row n u)
-    ≡ pos q.qual_base *ℤ mixed_inflow n q u.product u.quality -ℤ pos q.qual_base *ℤ (u.limit *ℤ pos (product_inflow n (quality_flows q) u.product))
+    ≡ pos q.qual_base *ℤ mixed_inflow n q u.product u.quality -ℤ pos q.qual_base *ℤ limit_room n (quality_flows q) u.product u.limit
 mixed_least_row-value n q u lk =
     let m = pos q.qual_base in
     let v = quality_values q in
+    let limit = limit_parts n u in
     omega (
       arith,
-      linear,
+      additive,
       no_sum v.x n.feeds,
       no_sum v.w (path_count n),
       no_sum v.proportion n.feeds,
       no_sums v.quality n.pools n.qualities,
-      scaled_at n.out_product u.product (neg_ℤ u.limit) m q.out n.outs,
-      neg-mul u.limit (m *ℤ pos (sum_at n.out_product u.product q.out n.outs)),
-      excess_at n.direct_product u.product u.limit m (λ e. n.source_quality (n.direct_source e) u.quality) q.direct n.directs,
-      mixed-sum n q n.out_product u.product u.quality (pos 1) lk,
-      mul-add m (int_sum_at n.out_product u.product (λ o. q.mixed o u.quality) n.outs) (direct_mix n (quality_flows q) u.product u.quality),
-      room_of_both m u.limit (pos (sum_at n.out_product u.product q.out n.outs)) (pos (sum_at n.direct_product u.product q.direct n.directs)),
+      scaled_at n.out_product u.product (neg_ℤ limit) m q.out n.outs,
+      neg-mul limit (m *ℤ pos (sum_at n.out_product u.product q.out n.outs)),
+      excess_at n.direct_product u.product limit m (λ e. way_quality n (straight e) u.quality) q.direct n.directs,
+      ap (λ z. m *ℤ z) (directs-bring n (quality_flows q) u.product u.quality),
+      retained-least n q u.product u.quality lk,
+      mul-add m (int_sum_at n.out_product u.product (λ o. pos (n.retained (n.out_pool o) u.quality) *ℤ q.mixed o u.quality) n.outs) (direct_mix n (quality_flows q) u.product u.quality),
+      room_of_both m limit (pos (sum_at n.out_product u.product q.out n.outs)) (pos (sum_at n.direct_product u.product q.direct n.directs)),
     )
 
 pub p_rows-met : (n : Net) (q : QualityPoint) → IsPointOfP n q → MeetsRows n (quality_values q) (q.base * q.qual_base) (exact_p_families n)
@@ -98,14 +132,14 @@ p_rows-met n q h = (
     λ i lt.
         let u = get_or (most_limits n) i no_limit in
         let s = most_limit-set n i lt in
-        room-met q.qual_base (mixed_inflow n q u.product u.quality) (u.limit *ℤ pos (product_inflow n (quality_flows q) u.product))
+        room-met q.qual_base (mixed_inflow n q u.product u.quality) (limit_room n (quality_flows q) u.product u.limit)
         (value_over n (quality_values q) (q.base * q.qual_base) (mixed_most_row n u))
         (h.at_most u.product u.quality u.limit s.product s.quality s.set) (mixed_most_row-value n q u s.quality),
     (
       λ i lt.
           let u = get_or (least_limits n) i no_limit in
           let s = least_limit-set n i lt in
-          room-met q.qual_base (u.limit *ℤ pos (product_inflow n (quality_flows q) u.product)) (mixed_inflow n q u.product u.quality)
+          room-met q.qual_base (limit_room n (quality_flows q) u.product u.limit) (mixed_inflow n q u.product u.quality)
           (value_over n (quality_values q) (q.base * q.qual_base) (mixed_least_row n u))
           (h.at_least u.product u.quality u.limit s.product s.quality s.set) (mixed_least_row-value n q u s.quality),
       tt,

@@ -6,15 +6,17 @@ use Rattle.integers.proofs.Ring.{additive, linear, neg-mul, mul-add, mul_left_co
 use Rattle.integers.proofs.Order.{le-mul}
 use Rattle.integers.proofs.AtKey.{int_sum_at-same, int_sum_at-mul, sum_at-mul, pos-sum_at}
 use Rattle.pool_model.specs.Network.{Net}
-use Rattle.pool_model.specs.Plan.{product_inflow}
+use Rattle.pool_model.specs.Plan.{limit_room, direct_mix}
+use Rattle.pool_model.specs.Starting.{straight, way_quality}
 use Rattle.pool_model.specs.Limits.{Limit, most_limits, least_limits, no_limit}
 use Rattle.pool_model.proofs.Limits.{most_limit-set, least_limit-set}
 use Rattle.row_model.specs.Boxes.{grain}
 use Rattle.row_model.specs.Variables.{path_count, path_feed, path_out}
-use Rattle.row_model.specs.Catalogue.{when, pq_families, proportions_row, feed_row, path_most_row, path_least_row, out_row, share_row}
+use Rattle.row_model.specs.Catalogue.{when, limit_parts, path_quality, pq_families, proportions_row, feed_row, path_most_row, path_least_row, out_row, share_row}
+use Rattle.row_model.proofs.Brought.{directs-bring}
 use Rattle.row_model.proofs.RowSums.{no_sum, no_sums, key_sum, one_sum, scaled_at, same_at, opposite_at, room_at, excess_at, room_of_both}
 use Rattle.program_model.specs.Points.{ProportionPoint, proportion_flows}
-use Rattle.program_model.specs.Programs.{IsPointOfQ, IsPointOfPq, direct_mix, path_inflow}
+use Rattle.program_model.specs.Programs.{IsPointOfQ, IsPointOfPq, path_inflow}
 use Rattle.program_model.specs.Rows.{exact_q_families, proportion_values, value_over, MeetsRows}
 
 -- a sum over paths, times the second base
@@ -75,24 +77,25 @@ feed_row-value n q e lt =
 -- ---- limits
 
 -- the quality along paths to a product, times the second base
-path_quality : (n : Net) (q : ProportionPoint) (j k : ℕ)
-    → int_sum_at (λ a. n.out_product (path_out n a)) j (λ a. n.source_quality (n.feed_source (path_feed n a)) k *ℤ (proportion_values q).w a) (path_count n)
-    ≡ pos q.prop_base *ℤ int_sum_at (λ a. n.out_product (path_out n a)) j (λ a. n.source_quality (n.feed_source (path_feed n a)) k *ℤ pos (q.path a)) (path_count n)
-path_quality n q j k =
+paths-bring : (n : Net) (q : ProportionPoint) (j k : ℕ)
+    → int_sum_at (λ a. n.out_product (path_out n a)) j (λ a. path_quality n a k *ℤ (proportion_values q).w a) (path_count n)
+    ≡ pos q.prop_base *ℤ int_sum_at (λ a. n.out_product (path_out n a)) j (λ a. path_quality n a k *ℤ pos (q.path a)) (path_count n)
+paths-bring n q j k =
     let key = λ (a : ℕ). n.out_product (path_out n a) in
-    let quality = λ (a : ℕ). n.source_quality (n.feed_source (path_feed n a)) k in
+    let quality = λ (a : ℕ). path_quality n a k in
     int_sum_at-same key j (λ a. quality a *ℤ (pos q.prop_base *ℤ pos (q.path a))) (λ a. pos q.prop_base *ℤ (quality a *ℤ pos (q.path a))) (path_count n)
     (λ a la is. mul_left_comm_ℤ (quality a) (pos q.prop_base) (pos (q.path a)))
     ∙ int_sum_at-mul key j (pos q.prop_base) (λ a. quality a *ℤ pos (q.path a)) (path_count n)
 
 pub path_most_row-value : (n : Net) (q : ProportionPoint) (u : Limit)
     → value_over n (proportion_values q) (q.base * q.prop_base) (path_most_row n u)
-    ≡ pos q.prop_base *ℤ (u.limit *ℤ pos (product_inflow n (proportion_flows q) u.product)) -ℤ pos q.prop_base *ℤ path_inflow n q u.product u.quality
+    ≡ pos q.prop_base *ℤ limit_room n (proportion_flows q) u.product u.limit -ℤ pos q.prop_base *ℤ path_inflow n q u.product u.quality
 path_most_row-value n q u =
     let m = pos q.prop_base in
     let v = proportion_values q in
     let key = λ (a : ℕ). n.out_product (path_out n a) in
-    let quality = λ (a : ℕ). n.source_quality (n.feed_source (path_feed n a)) u.quality in
+    let quality = λ (a : ℕ). path_quality n a u.quality in
+    let limit = limit_parts n u in
     omega (
       arith,
       additive,
@@ -100,22 +103,24 @@ path_most_row-value n q u =
       no_sum v.proportion n.feeds,
       no_sums v.quality n.pools n.qualities,
       no_sums v.mixed n.outs n.qualities,
-      scaled_at n.out_product u.product u.limit m q.out n.outs,
-      room_at n.direct_product u.product u.limit m (λ e. n.source_quality (n.direct_source e) u.quality) q.direct n.directs,
+      scaled_at n.out_product u.product limit m q.out n.outs,
+      room_at n.direct_product u.product limit m (λ e. way_quality n (straight e) u.quality) q.direct n.directs,
+      ap (λ z. m *ℤ z) (directs-bring n (proportion_flows q) u.product u.quality),
       opposite_at key u.product quality v.w (path_count n),
-      path_quality n q u.product u.quality,
+      paths-bring n q u.product u.quality,
       mul-add m (int_sum_at key u.product (λ a. quality a *ℤ pos (q.path a)) (path_count n)) (direct_mix n (proportion_flows q) u.product u.quality),
-      room_of_both m u.limit (pos (sum_at n.out_product u.product q.out n.outs)) (pos (sum_at n.direct_product u.product q.direct n.directs)),
+      room_of_both m limit (pos (sum_at n.out_product u.product q.out n.outs)) (pos (sum_at n.direct_product u.product q.direct n.directs)),
     )
 
 pub path_least_row-value : (n : Net) (q : ProportionPoint) (u : Limit)
     → value_over n (proportion_values q) (q.base * q.prop_base) (path_least_row n u)
-    ≡ pos q.prop_base *ℤ path_inflow n q u.product u.quality -ℤ pos q.prop_base *ℤ (u.limit *ℤ pos (product_inflow n (proportion_flows q) u.product))
+    ≡ pos q.prop_base *ℤ path_inflow n q u.product u.quality -ℤ pos q.prop_base *ℤ limit_room n (proportion_flows q) u.product u.limit
 path_least_row-value n q u =
     let m = pos q.prop_base in
     let v = proportion_values q in
     let key = λ (a : ℕ). n.out_product (path_out n a) in
-    let quality = λ (a : ℕ). n.source_quality (n.feed_source (path_feed n a)) u.quality in
+    let quality = λ (a : ℕ). path_quality n a u.quality in
+    let limit = limit_parts n u in
     omega (
       arith,
       additive,
@@ -123,13 +128,14 @@ path_least_row-value n q u =
       no_sum v.proportion n.feeds,
       no_sums v.quality n.pools n.qualities,
       no_sums v.mixed n.outs n.qualities,
-      scaled_at n.out_product u.product (neg_ℤ u.limit) m q.out n.outs,
-      neg-mul u.limit (m *ℤ pos (sum_at n.out_product u.product q.out n.outs)),
-      excess_at n.direct_product u.product u.limit m (λ e. n.source_quality (n.direct_source e) u.quality) q.direct n.directs,
+      scaled_at n.out_product u.product (neg_ℤ limit) m q.out n.outs,
+      neg-mul limit (m *ℤ pos (sum_at n.out_product u.product q.out n.outs)),
+      excess_at n.direct_product u.product limit m (λ e. way_quality n (straight e) u.quality) q.direct n.directs,
+      ap (λ z. m *ℤ z) (directs-bring n (proportion_flows q) u.product u.quality),
       key_sum key u.product quality v.w (path_count n),
-      path_quality n q u.product u.quality,
+      paths-bring n q u.product u.quality,
       mul-add m (int_sum_at key u.product (λ a. quality a *ℤ pos (q.path a)) (path_count n)) (direct_mix n (proportion_flows q) u.product u.quality),
-      room_of_both m u.limit (pos (sum_at n.out_product u.product q.out n.outs)) (pos (sum_at n.direct_product u.product q.direct n.directs)),
+      room_of_both m limit (pos (sum_at n.out_product u.product q.out n.outs)) (pos (sum_at n.direct_product u.product q.direct n.directs)),
     )
 
 nonneg : (m : ℕ) → pos 0 ≤ℤ pos m
@@ -148,14 +154,14 @@ q_rows-met n q h = (
       λ i lt.
           let u = get_or (most_limits n) i no_limit in
           let s = most_limit-set n i lt in
-          room-met q.prop_base (path_inflow n q u.product u.quality) (u.limit *ℤ pos (product_inflow n (proportion_flows q) u.product))
+          room-met q.prop_base (path_inflow n q u.product u.quality) (limit_room n (proportion_flows q) u.product u.limit)
           (value_over n (proportion_values q) (q.base * q.prop_base) (path_most_row n u))
           (h.at_most u.product u.quality u.limit s.product s.quality s.set) (path_most_row-value n q u),
       (
         λ i lt.
             let u = get_or (least_limits n) i no_limit in
             let s = least_limit-set n i lt in
-            room-met q.prop_base (u.limit *ℤ pos (product_inflow n (proportion_flows q) u.product)) (path_inflow n q u.product u.quality)
+            room-met q.prop_base (limit_room n (proportion_flows q) u.product u.limit) (path_inflow n q u.product u.quality)
             (value_over n (proportion_values q) (q.base * q.prop_base) (path_least_row n u))
             (h.at_least u.product u.quality u.limit s.product s.quality s.set) (path_least_row-value n q u),
         tt,

@@ -7,7 +7,7 @@ use Rattle.integers.proofs.Ring.{additive, linear}
 use Rattle.integers.proofs.Order.{le-cancel, same-cancel, same_pos}
 use Rattle.integers.proofs.Grids.{grid-below}
 use Rattle.pool_model.specs.Network.{Net}
-use Rattle.pool_model.specs.Plan.{Plan, Carries, outflow, pool_inflow, source_outflow, product_inflow, mix}
+use Rattle.pool_model.specs.Plan.{Plan, Carries, KeepsMaxima, outflow, pool_inflow, source_outflow, product_inflow, limit_room, mix}
 use Rattle.pool_model.specs.Limits.{Limit, most_limits, least_limits, no_limit}
 use Rattle.row_model.specs.Boxes.{grain}
 use Rattle.row_model.specs.Variables.{PerVariable, path_count, path_feed, path_out}
@@ -52,8 +52,8 @@ MeetsRows-behind n v base [] gs h = h
 MeetsRows-behind n v base (f ∷ fs) gs h = MeetsRows-behind n v base fs gs h.1
 
 -- ---- the network
-carries-back : (n : Net) (second : ℕ) (p : Plan) (others : PerVariable) → 0 < second → MeetsRows n (with_flows second p others) (p.base * second) (network_families n) → Carries n p
-carries-back n second p others hm h =
+carries-back : (n : Net) (second : ℕ) (p : Plan) (others : PerVariable) → 0 < second → MeetsRows n (with_flows second p others) (p.base * second) (network_families n) → KeepsMaxima n p → Carries n p
+carries-back n second p others hm h keeps =
     let v = with_flows second p others in
     let base = p.base * second in
     record {
@@ -63,6 +63,7 @@ carries-back n second p others hm h =
       pools = λ l lt. used_le_room second (outflow n p l) (p.base * n.pool_max l) (value_over n v base (pool_row n l)) hm (pool_row-value n second p others l) (h.1.1.0 l lt);
       at_least = λ j lt. used_le_room second (p.base * n.product_min j) (product_inflow n p j) (value_over n v base (minimum_row n j)) hm (minimum_row-value n second p others j) (h.1.1.1.1.0 j lt);
       at_most = λ j lt. used_le_room second (product_inflow n p j) (p.base * n.product_max j) (value_over n v base (maximum_row n j)) hm (maximum_row-value n second p others j) (h.1.1.1.0 j lt);
+      arcs = keeps;
     }
 
 -- ---- limits: what holds of each in the list holds of each that is set
@@ -93,7 +94,7 @@ solves-point_of_p n q s =
     record {
       base = s.base;
       qual_base = s.qual_base;
-      carries = carries-back n q.qual_base (quality_flows q) v s.qual_base (MeetsRows-front n v base (network_families n) (exact_p_families n) s.rows);
+      carries = carries-back n q.qual_base (quality_flows q) v s.qual_base (MeetsRows-front n v base (network_families n) (exact_p_families n) s.rows) s.maxima;
       mixing = λ l k lt lk.
           let met = subst (λ (i : ℕ). MeetsRow n v base (mixing_row n i ((l * n.qualities + k) % n.qualities))) (div-mul-add l n.qualities k lk)
           (h.0 (l * n.qualities + k) (grid-below n.pools n.qualities l k lt lk)) in
@@ -102,11 +103,11 @@ solves-point_of_p n q s =
           (subst (λ (i : ℕ). MeetsRow n v base (mixing_row n l i)) (mod-mul-add l n.qualities k lk) met);
       at_most = λ j k u lj lk set.
           let w : Limit = record { product = j; quality = k; limit = u } in
-          low_le_high q.qual_base (mixed_inflow n q j k) (u *ℤ pos (product_inflow n (quality_flows q) j)) (value_over n v base (mixed_most_row n w)) s.qual_base (mixed_most_row-value n q w lk)
+          low_le_high q.qual_base (mixed_inflow n q j k) (limit_room n (quality_flows q) j u) (value_over n v base (mixed_most_row n w)) s.qual_base (mixed_most_row-value n q w lk)
           (of_most n (λ (x : Limit). MeetsRow n v base (mixed_most_row n x)) h.1.0 j k u lj lk set);
       at_least = λ j k u lj lk set.
           let w : Limit = record { product = j; quality = k; limit = u } in
-          low_le_high q.qual_base (u *ℤ pos (product_inflow n (quality_flows q) j)) (mixed_inflow n q j k) (value_over n v base (mixed_least_row n w)) s.qual_base (mixed_least_row-value n q w lk)
+          low_le_high q.qual_base (limit_room n (quality_flows q) j u) (mixed_inflow n q j k) (value_over n v base (mixed_least_row n w)) s.qual_base (mixed_least_row-value n q w lk)
           (of_least n (λ (x : Limit). MeetsRow n v base (mixed_least_row n x)) h.1.1.0 j k u lj lk set);
       products = s.products;
       low = s.low;
@@ -118,25 +119,26 @@ point_of_q-back : (n : Net) (q : ProportionPoint) → 0 < q.base → 0 < q.prop_
     → MeetsRows n (proportion_values q) (q.base * q.prop_base) (network_families n)
     → MeetsRows n (proportion_values q) (q.base * q.prop_base) (exact_q_families n)
     → ((a : ℕ) → a < path_count n → q.path a * q.prop_base ≡ q.proportion (path_feed n a) * q.out (path_out n a))
+    → KeepsMaxima n (proportion_flows q)
     → IsPointOfQ n q
-point_of_q-back n q hb hp network h products =
+point_of_q-back n q hb hp network h products keeps =
     let v = proportion_values q in
     let base = q.base * q.prop_base in
     let parts : 0 < grain * q.base = omega (arith, hb) in
     record {
       base = hb;
       prop_base = hp;
-      carries = carries-back n q.prop_base (proportion_flows q) v hp network;
+      carries = carries-back n q.prop_base (proportion_flows q) v hp network keeps;
       proportions = λ l lt. same_naturals (grain * q.base) (sum_at n.feed_pool l q.proportion n.feeds) q.prop_base
           (value_over n v base (proportions_row n l)) parts (proportions_row-value n q l) (h.0 l lt);
       feeds = λ e lt. same_naturals q.prop_base (q.feed e) (sum_at (path_feed n) e q.path (path_count n)) (value_over n v base (feed_row n e)) hp (feed_row-value n q e lt) (h.1.0 e lt);
       at_most = λ j k u lj lk set.
           let w : Limit = record { product = j; quality = k; limit = u } in
-          low_le_high q.prop_base (path_inflow n q j k) (u *ℤ pos (product_inflow n (proportion_flows q) j)) (value_over n v base (path_most_row n w)) hp (path_most_row-value n q w)
+          low_le_high q.prop_base (path_inflow n q j k) (limit_room n (proportion_flows q) j u) (value_over n v base (path_most_row n w)) hp (path_most_row-value n q w)
           (of_most n (λ (x : Limit). MeetsRow n v base (path_most_row n x)) h.1.1.0 j k u lj lk set);
       at_least = λ j k u lj lk set.
           let w : Limit = record { product = j; quality = k; limit = u } in
-          low_le_high q.prop_base (u *ℤ pos (product_inflow n (proportion_flows q) j)) (path_inflow n q j k) (value_over n v base (path_least_row n w)) hp (path_least_row-value n q w)
+          low_le_high q.prop_base (limit_room n (proportion_flows q) j u) (path_inflow n q j k) (value_over n v base (path_least_row n w)) hp (path_least_row-value n q w)
           (of_least n (λ (x : Limit). MeetsRow n v base (path_least_row n x)) h.1.1.1.0 j k u lj lk set);
       products = products;
     }
@@ -146,7 +148,7 @@ solves-point_of_q n q s =
     let v = proportion_values q in
     let base = q.base * q.prop_base in
     point_of_q-back n q s.base s.prop_base (MeetsRows-front n v base (network_families n) (exact_q_families n) s.rows)
-    (MeetsRows-behind n v base (network_families n) (exact_q_families n) s.rows) s.products
+    (MeetsRows-behind n v base (network_families n) (exact_q_families n) s.rows) s.products s.maxima
 
 pub solves-point_of_pq : (n : Net) (q : ProportionPoint) → SolvesPq n q → IsPointOfPq n q
 solves-point_of_pq n q s =
@@ -156,7 +158,7 @@ solves-point_of_pq n q s =
     let rest = MeetsRows-behind n v base (network_families n) (exact_q_families n ++ pq_families n) s.rows in
     let further = MeetsRows-behind n v base (exact_q_families n) (pq_families n) rest in
     record {
-      of_q = point_of_q-back n q s.base s.prop_base network (MeetsRows-front n v base (exact_q_families n) (pq_families n) rest) s.products;
+      of_q = point_of_q-back n q s.base s.prop_base network (MeetsRows-front n v base (exact_q_families n) (pq_families n) rest) s.products s.maxima;
       outs = λ o lt. same_naturals q.prop_base (sum_at (path_out n) o q.path (path_count n)) (q.out o) (value_over n v base (out_row n o)) s.prop_base (out_row-value n q o lt) (further.0 o lt);
       shares = λ e lt.
           natural_le (q.prop_base * sum_at (path_feed n) e q.path (path_count n)) (n.pool_max (n.feed_pool e) * q.proportion e * q.base)

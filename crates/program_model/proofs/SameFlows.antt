@@ -7,12 +7,11 @@ use Rattle.integers.proofs.ByIndex.{int_sum_below-same, int_sum_below-mul}
 use Rattle.integers.proofs.AtKey.{sum_at-mul, int_sum_at-same, int_sum_at-mul}
 use Rattle.integers.proofs.ByNode.{sum_at-same}
 use Rattle.pool_model.specs.Network.{Net, IsLimited}
-use Rattle.pool_model.specs.Plan.{Plan, Carries, Obeys, outflow, pool_inflow, source_outflow, product_inflow, mix}
+use Rattle.pool_model.specs.Plan.{Plan, Carries, Obeys, outflow, pool_inflow, source_outflow, product_inflow, mix, treated, direct_mix, carriage}
 use Rattle.program_model.specs.Points.{SameFlows, SameCost, quality_flows}
-use Rattle.program_model.specs.Programs.{direct_mix}
 use Rattle.program_model.specs.Lifted.{factors, quality_point}
 use Rattle.program_model.proofs.Means.{HasQualities, BlendsByMeans, mean_inflow, mean_room, blends-by_means}
-use Rattle.program_model.proofs.FormP.{lifted-point_of_p, has_qualities-of_p, means-of_p}
+use Rattle.program_model.proofs.FormP.{retained_quality, lifted-point_of_p, has_qualities-of_p, means-of_p}
 
 -- ---- sums of the same flows
 
@@ -54,8 +53,18 @@ product_inflow-same n a b j h =
 mix-same : (n : Net) (a b : Plan) (l k : ℕ) → SameFlows n a b → pos b.base *ℤ mix n a l k ≡ pos a.base *ℤ mix n b l k
 mix-same n a b l k h = qualities_in_ratio n.feed_pool l b.base a.base (λ e. n.source_quality (n.feed_source e) k) a.feed b.feed n.feeds h.feed
 
+treated-same : (n : Net) (a b : Plan) (l k : ℕ) → SameFlows n a b → pos b.base *ℤ treated n a l k ≡ pos a.base *ℤ treated n b l k
+treated-same n a b l k h =
+    let r = pos (n.retained l k) in
+    mul_left_comm_ℤ (pos b.base) r (mix n a l k) ∙ ap (λ z. r *ℤ z) (mix-same n a b l k h) ∙ mul_left_comm_ℤ r (pos a.base) (mix n b l k)
+
 direct_mix-same : (n : Net) (a b : Plan) (j k : ℕ) → SameFlows n a b → pos b.base *ℤ direct_mix n a j k ≡ pos a.base *ℤ direct_mix n b j k
-direct_mix-same n a b j k h = qualities_in_ratio n.direct_product j b.base a.base (λ e. n.source_quality (n.direct_source e) k) a.direct b.direct n.directs h.direct
+direct_mix-same n a b j k h =
+    let scale = pos n.scale in
+    let brought = λ (p : Plan). int_sum_at n.direct_product j (λ e. n.source_quality (n.direct_source e) k *ℤ pos (p.direct e)) n.directs in
+    mul_left_comm_ℤ (pos b.base) scale (brought a)
+    ∙ ap (λ z. scale *ℤ z) (qualities_in_ratio n.direct_product j b.base a.base (λ e. n.source_quality (n.direct_source e) k) a.direct b.direct n.directs h.direct)
+    ∙ mul_left_comm_ℤ scale (pos a.base) (brought b)
 
 -- ---- what carries
 
@@ -86,6 +95,10 @@ at_least-same : (r s x y m : ℕ) → 0 < s → r * x ≡ s * y → s * m ≤ x 
 at_least-same r s x y m hs e h =
     natural (r * m) y (compared r s (pos (s * m)) (pos (r * m)) (pos x) (pos y) hs (ap pos (room r s m)) (ap pos e) (signed (s * m) x h))
 
+-- one flow in the ratio of the bases
+turned : (f r g s : ℕ) → f * r ≡ g * s → r * f ≡ s * g
+turned f r g s e = omega (arith, e)
+
 cancel : (m a b : ℕ) → 0 < m → m * a ≡ m * b → a ≡ b
 cancel m a b h e = same_pos a b (same-cancel (pos m) (pos a) (pos b) (positive-ℤ m h) (ap pos e))
 
@@ -97,18 +110,23 @@ carries-same n a b ha h c = record {
   pools = λ l lt. at_most-same b.base a.base (outflow n a l) (outflow n b l) (n.pool_max l) ha (outflow-same n a b l h) (c.pools l lt);
   at_least = λ j lt. at_least-same b.base a.base (product_inflow n a j) (product_inflow n b j) (n.product_min j) ha (product_inflow-same n a b j h) (c.at_least j lt);
   at_most = λ j lt. at_most-same b.base a.base (product_inflow n a j) (product_inflow n b j) (n.product_max j) ha (product_inflow-same n a b j h) (c.at_most j lt);
+  arcs = record {
+    feeds = λ e m lt is. at_most-same b.base a.base (a.feed e) (b.feed e) m ha (turned (a.feed e) b.base (b.feed e) a.base (h.feed e lt)) (c.arcs.feeds e m lt is);
+    outs = λ o m lt is. at_most-same b.base a.base (a.out o) (b.out o) m ha (turned (a.out o) b.base (b.out o) a.base (h.out o lt)) (c.arcs.outs o m lt is);
+    directs = λ e m lt is. at_most-same b.base a.base (a.direct e) (b.direct e) m ha (turned (a.direct e) b.base (b.direct e) a.base (h.direct e lt)) (c.arcs.directs e m lt is);
+  };
 }
 
 -- ---- what blends
 
--- the same pools have the same mean qualities
+-- the same pools send the same qualities
 has_qualities-same : (n : Net) (a b : Plan) (base : ℕ) (quality : ℕ → ℕ → ℤ) → 0 < a.base → SameFlows n a b → HasQualities n a base quality → HasQualities n b base quality
 has_qualities-same n a b base quality ha h q = record {
   each = λ l k lt lk.
-      same-cancel (pos a.base) (pos base *ℤ mix n b l k) (quality l k *ℤ pos (outflow n b l)) (positive-ℤ a.base ha)
-      (mul_left_comm_ℤ (pos a.base) (pos base) (mix n b l k)
-      ∙ ap (λ z. pos base *ℤ z) (sym (mix-same n a b l k h))
-      ∙ mul_left_comm_ℤ (pos base) (pos b.base) (mix n a l k)
+      same-cancel (pos a.base) (pos base *ℤ treated n b l k) (quality l k *ℤ pos (outflow n b l)) (positive-ℤ a.base ha)
+      (mul_left_comm_ℤ (pos a.base) (pos base) (treated n b l k)
+      ∙ ap (λ z. pos base *ℤ z) (sym (treated-same n a b l k h))
+      ∙ mul_left_comm_ℤ (pos base) (pos b.base) (treated n a l k)
       ∙ ap (λ z. pos b.base *ℤ z) (q.each l k lt lk)
       ∙ mul_left_comm_ℤ (pos b.base) (quality l k) (pos (outflow n a l))
       ∙ ap (λ z. quality l k *ℤ pos z) (outflow-same n a b l h)
@@ -132,9 +150,10 @@ mean_inflow-same n a b base quality j k h =
 
 mean_room-same : (n : Net) (a b : Plan) (base j : ℕ) (u : ℤ) → SameFlows n a b → pos b.base *ℤ mean_room n a base j u ≡ pos a.base *ℤ mean_room n b base j u
 mean_room-same n a b base j u h =
-    first (pos b.base) (pos base) u (pos (product_inflow n a j))
-    ∙ ap (λ z. (pos base *ℤ u) *ℤ pos z) (product_inflow-same n a b j h)
-    ∙ last (pos base) u (pos a.base) (pos (product_inflow n b j))
+    let limit = pos n.scale *ℤ u in
+    first (pos b.base) (pos base) limit (pos (product_inflow n a j))
+    ∙ ap (λ z. (pos base *ℤ limit) *ℤ pos z) (product_inflow-same n a b j h)
+    ∙ last (pos base) limit (pos a.base) (pos (product_inflow n b j))
   where
     first : (r b u x : ℤ) → r *ℤ (b *ℤ (u *ℤ x)) ≡ (b *ℤ u) *ℤ (r *ℤ x)
     first r b u x = simp sorted refl
@@ -174,10 +193,35 @@ obeys-same n a b lim hb h o =
     record {
       denominator = hb;
       carries = carries-same n a b o.denominator h o.carries;
-      blends = blends-by_means n b q.qual_base q.quality lim point.qual_base
-          (has_qualities-same n lifted b q.qual_base q.quality point.base same (has_qualities-of_p n q lim point))
-          (means-same n lifted b q.qual_base q.quality point.base same (means-of_p n q point));
+      blends = blends-by_means n b q.qual_base (retained_quality n q) lim point.qual_base
+          (has_qualities-same n lifted b q.qual_base (retained_quality n q) point.base same (has_qualities-of_p n q lim point))
+          (means-same n lifted b q.qual_base (retained_quality n q) point.base same (means-of_p n q point));
     }
+
+-- what flows in one ratio cost is in that ratio
+priced_in_ratio : (c : ℕ → ℤ) (r s : ℕ) (f g : ℕ → ℕ) (n : ℕ) → ((i : ℕ) → i < n → r * f i ≡ s * g i)
+    → pos r *ℤ int_sum_below (λ i. c i *ℤ pos (f i)) n ≡ pos s *ℤ int_sum_below (λ i. c i *ℤ pos (g i)) n
+priced_in_ratio c r s f g n h =
+    sym (int_sum_below-mul (pos r) (λ i. c i *ℤ pos (f i)) n)
+    ∙ int_sum_below-same (λ i. pos r *ℤ (c i *ℤ pos (f i))) (λ i. pos s *ℤ (c i *ℤ pos (g i))) n
+    (λ i lt. mul_left_comm_ℤ (pos r) (c i) (pos (f i)) ∙ ap (λ z. c i *ℤ pos z) (h i lt) ∙ mul_left_comm_ℤ (c i) (pos s) (pos (g i)))
+    ∙ int_sum_below-mul (pos s) (λ i. c i *ℤ pos (g i)) n
+
+carriage-same : (n : Net) (a b : Plan) → SameFlows n a b → pos b.base *ℤ carriage n a ≡ pos a.base *ℤ carriage n b
+carriage-same n a b h =
+    let feeds = λ (p : Plan). int_sum_below (λ e. n.feed_cost e *ℤ pos (p.feed e)) n.feeds in
+    let outs = λ (p : Plan). int_sum_below (λ o. n.out_cost o *ℤ pos (p.out o)) n.outs in
+    let directs = λ (p : Plan). int_sum_below (λ e. n.direct_cost e *ℤ pos (p.direct e)) n.directs in
+    let parts = λ (r : ℤ) (p : Plan). mul-add r (feeds p +ℤ outs p) (directs p) ∙ ap (λ z. z +ℤ r *ℤ directs p) (mul-add r (feeds p) (outs p)) in
+    omega (
+      arith,
+      additive,
+      parts (pos b.base) a,
+      priced_in_ratio n.feed_cost b.base a.base a.feed b.feed n.feeds (λ e lt. turned (a.feed e) b.base (b.feed e) a.base (h.feed e lt)),
+      priced_in_ratio n.out_cost b.base a.base a.out b.out n.outs (λ o lt. turned (a.out o) b.base (b.out o) a.base (h.out o lt)),
+      priced_in_ratio n.direct_cost b.base a.base a.direct b.direct n.directs (λ e lt. turned (a.direct e) b.base (b.direct e) a.base (h.direct e lt)),
+      parts (pos a.base) b,
+    )
 
 pub cost-same : (n : Net) (a b : Plan) → SameFlows n a b → SameCost n a b
 cost-same n a b h =
@@ -186,17 +230,11 @@ cost-same n a b h =
     omega (
       arith,
       additive,
-      mul_out (pos b.base) (int_sum_below (bought a) n.sources) (int_sum_below (sold a) n.products),
-      sym (int_sum_below-mul (pos b.base) (bought a) n.sources),
-      sym (int_sum_below-mul (pos b.base) (sold a) n.products),
-      int_sum_below-same (λ i. pos b.base *ℤ bought a i) (λ i. pos a.base *ℤ bought b i) n.sources
-          (λ i lt. priced (n.source_cost i) b.base a.base (source_outflow n a i) (source_outflow n b i) (source_outflow-same n a b i h)),
-      int_sum_below-same (λ j. pos b.base *ℤ sold a j) (λ j. pos a.base *ℤ sold b j) n.products
-          (λ j lt. priced (n.price j) b.base a.base (product_inflow n a j) (product_inflow n b j) (product_inflow-same n a b j h)),
-      int_sum_below-mul (pos a.base) (bought b) n.sources,
-      int_sum_below-mul (pos a.base) (sold b) n.products,
-      mul_out (pos a.base) (int_sum_below (bought b) n.sources) (int_sum_below (sold b) n.products),
+      mul_out (pos b.base) (int_sum_below (bought a) n.sources +ℤ carriage n a) (int_sum_below (sold a) n.products),
+      mul-add (pos b.base) (int_sum_below (bought a) n.sources) (carriage n a),
+      priced_in_ratio n.source_cost b.base a.base (source_outflow n a) (source_outflow n b) n.sources (λ i lt. source_outflow-same n a b i h),
+      carriage-same n a b h,
+      priced_in_ratio n.price b.base a.base (product_inflow n a) (product_inflow n b) n.products (λ j lt. product_inflow-same n a b j h),
+      mul-add (pos a.base) (int_sum_below (bought b) n.sources) (carriage n b),
+      mul_out (pos a.base) (int_sum_below (bought b) n.sources +ℤ carriage n b) (int_sum_below (sold b) n.products),
     )
-  where
-    priced : (c : ℤ) (r s x y : ℕ) → r * x ≡ s * y → pos r *ℤ (c *ℤ pos x) ≡ pos s *ℤ (c *ℤ pos y)
-    priced c r s x y e = mul_left_comm_ℤ (pos r) c (pos x) ∙ ap (λ z. c *ℤ pos z) e ∙ mul_left_comm_ℤ c (pos s) (pos y)

@@ -1,7 +1,7 @@
 -- The rows of the exact programs in the catalogue: those that are the same in every box, read at the numbers of a point.
 use Rattle.std.specs.Prelude.{◌≡◌, ℕ, ◌*◌, ◌/◌, ◌%◌, ◌<◌, List, [], ◌∷◌, ◌++◌, length, get_or, ℤ, pos, ◌+ℤ◌, ◌*ℤ◌, ◌≤ℤ◌}
 use Rattle.pool_model.specs.Network.{Net}
-use Rattle.pool_model.specs.Plan.{Plan}
+use Rattle.pool_model.specs.Plan.{Plan, KeepsMaxima}
 use Rattle.pool_model.specs.Limits.{most_limits, least_limits, no_limit}
 use Rattle.row_model.specs.Boxes.{grain, qual, root_low, root_high}
 use Rattle.row_model.specs.Variables.{PerVariable, none, dot, path_count, path_feed, path_out}
@@ -66,7 +66,8 @@ MeetsRows n v base (f ∷ fs) = ((i : ℕ) → i < f.count → MeetsRow n v base
 
 -- ---- the programs by their rows: what their texts say
 
--- numbers with bases above 0 that meet the rows of P and its products, with qualities between their ends
+-- numbers with bases above 0 that meet the rows of P and its products, with qualities between their ends and no flow above the
+-- maximum of its arc
 pub record SolvesP (n : Net) (q : QualityPoint) : Type 0 where
   pub base : 0 < q.base
   pub qual_base : 0 < q.qual_base
@@ -74,6 +75,7 @@ pub record SolvesP (n : Net) (q : QualityPoint) : Type 0 where
   pub products : (o k : ℕ) → o < n.outs → k < n.qualities → q.mixed o k *ℤ pos q.qual_base ≡ q.quality (n.out_pool o) k *ℤ pos (q.out o)
   pub low : (l k : ℕ) → l < n.pools → k < n.qualities → (root_low n (qual l k) *ℤ pos q.qual_base) ≤ℤ q.quality l k
   pub high : (l k : ℕ) → l < n.pools → k < n.qualities → q.quality l k ≤ℤ (root_high n (qual l k) *ℤ pos q.qual_base)
+  pub maxima : KeepsMaxima n (quality_flows q)
 
 -- the same of Q
 pub record SolvesQ (n : Net) (q : ProportionPoint) : Type 0 where
@@ -81,6 +83,7 @@ pub record SolvesQ (n : Net) (q : ProportionPoint) : Type 0 where
   pub prop_base : 0 < q.prop_base
   pub rows : MeetsRows n (proportion_values q) (q.base * q.prop_base) (network_families n ++ exact_q_families n)
   pub products : (a : ℕ) → a < path_count n → q.path a * q.prop_base ≡ q.proportion (path_feed n a) * q.out (path_out n a)
+  pub maxima : KeepsMaxima n (proportion_flows q)
 
 -- and of Pq
 pub record SolvesPq (n : Net) (q : ProportionPoint) : Type 0 where
@@ -88,3 +91,4 @@ pub record SolvesPq (n : Net) (q : ProportionPoint) : Type 0 where
   pub prop_base : 0 < q.prop_base
   pub rows : MeetsRows n (proportion_values q) (q.base * q.prop_base) (network_families n ++ (exact_q_families n ++ pq_families n))
   pub products : (a : ℕ) → a < path_count n → q.path a * q.prop_base ≡ q.proportion (path_feed n a) * q.out (path_out n a)
+  pub maxima : KeepsMaxima n (proportion_flows q)

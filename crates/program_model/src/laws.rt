@@ -46,10 +46,11 @@ pub fn same_flows_law()
     ensures cost { (n : Net) (a b : Plan) → SameFlows n a b → SameCost n a b }
 {}
 
-/// The points of a program are what meets its rows and its products: the rows are those of the catalogue that are the same in
-/// every box, as the text of the program has them, and the numbers of a point are taken over both of its bases.
+/// The points of a program are what meets its rows and its products, with no flow above the maximum of its arc: the rows are those of
+/// the catalogue that are the same in every box, as the text of the program has them, and the numbers of a point are taken over both
+/// of its bases.
 pub fn rows_law()
-    // Promise: The points of a program are exactly what meets its rows as the catalogue has them, and its products
+    // Promise: The points of a program are exactly what meets its rows as the catalogue has them, its products and its arcs' maxima
     ensures p { (n : Net) (q : QualityPoint) → IsPointOfP n q ↔ SolvesP n q }
     ensures q { (n : Net) (q : ProportionPoint) → IsPointOfQ n q ↔ SolvesQ n q }
     ensures pq { (n : Net) (q : ProportionPoint) → IsPointOfPq n q ↔ SolvesPq n q }

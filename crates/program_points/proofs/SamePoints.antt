@@ -4,12 +4,13 @@ use Rattle.integers.specs.Sums.{int_sum_at}
 use Rattle.integers.proofs.AtKey.{int_sum_at-same}
 use Rattle.integers.proofs.ByNode.{sum_at-same}
 use Rattle.pool_model.specs.Network.{Net, IsLimited}
-use Rattle.pool_model.specs.Plan.{Plan, product_inflow, mix}
+use Rattle.pool_model.specs.Plan.{Plan, product_inflow, limit_room, mix, direct_mix}
 use Rattle.row_model.specs.Boxes.{qual, root_low, root_high}
 use Rattle.row_model.specs.Variables.{path_count, path_feed, path_out}
+use Rattle.row_model.specs.Catalogue.{path_quality}
 use Rattle.row_model.proofs.PathSums.{path_feed-below, path_out-below}
 use Rattle.program_model.specs.Points.{ProportionPoint, QualityPoint, proportion_flows, quality_flows, SameFlows}
-use Rattle.program_model.specs.Programs.{IsPointOfP, IsPointOfQ, direct_mix, path_inflow, mixed_inflow}
+use Rattle.program_model.specs.Programs.{IsPointOfP, IsPointOfQ, path_inflow, mixed_inflow}
 use Rattle.program_model.proofs.FormP.{point_of_p-obeys}
 use Rattle.program_model.proofs.FormQ.{point_of_q-obeys}
 use Rattle.program_model.proofs.SameFlows.{obeys-same}
@@ -41,8 +42,12 @@ product_inflow-equal n a b j h = omega (arith, sum_at-same n.out_product j a.out
 
 direct_mix-equal : (n : Net) (a b : Plan) (j k : ℕ) → AreEqualFlows n a b → direct_mix n a j k ≡ direct_mix n b j k
 direct_mix-equal n a b j k h =
-    int_sum_at-same n.direct_product j (λ e. n.source_quality (n.direct_source e) k *ℤ pos (a.direct e)) (λ e. n.source_quality (n.direct_source e) k *ℤ pos (b.direct e)) n.directs
-    (λ e lt is. ap (λ z. n.source_quality (n.direct_source e) k *ℤ pos z) (h.direct e lt))
+    ap (λ z. pos n.scale *ℤ z)
+    (int_sum_at-same n.direct_product j (λ e. n.source_quality (n.direct_source e) k *ℤ pos (a.direct e)) (λ e. n.source_quality (n.direct_source e) k *ℤ pos (b.direct e)) n.directs
+    (λ e lt is. ap (λ z. n.source_quality (n.direct_source e) k *ℤ pos z) (h.direct e lt)))
+
+limit_room-equal : (n : Net) (a b : Plan) (j : ℕ) (u : ℤ) → AreEqualFlows n a b → limit_room n a j u ≡ limit_room n b j u
+limit_room-equal n a b j u h = ap (λ z. pos n.scale *ℤ u *ℤ pos z) (product_inflow-equal n a b j h)
 
 mix-equal : (n : Net) (a b : Plan) (l k : ℕ) → AreEqualFlows n a b → mix n a l k ≡ mix n b l k
 mix-equal n a b l k h =
@@ -62,7 +67,7 @@ pub record AreEqualProportions (n : Net) (a b : ProportionPoint) : Type 0 where
 
 path_inflow-equal : (n : Net) (a b : ProportionPoint) (j k : ℕ) → AreEqualProportions n a b → path_inflow n a j k ≡ path_inflow n b j k
 path_inflow-equal n a b j k h =
-    let quality = λ (q : ℕ). n.source_quality (n.feed_source (path_feed n q)) k in
+    let quality = λ (q : ℕ). path_quality n q k in
     let through = λ (p : ProportionPoint). int_sum_at (λ q. n.out_product (path_out n q)) j (λ q. quality q *ℤ pos (p.path q)) (path_count n) in
     ap (λ z. z +ℤ direct_mix n (proportion_flows a) j k)
     (int_sum_at-same (λ q. n.out_product (path_out n q)) j (λ q. quality q *ℤ pos (a.path q)) (λ q. quality q *ℤ pos (b.path q)) (path_count n) (λ q lt is. ap (λ z. quality q *ℤ pos z) (h.path q lt)))
@@ -73,7 +78,6 @@ point_of_q-equal n a b lim h p =
     let fa = proportion_flows a in
     let fb = proportion_flows b in
     let base = positive-same a.base b.base h.flows.base p.base in
-    let room = λ (j : ℕ) (u : ℤ). ap (λ z. u *ℤ pos z) (product_inflow-equal n fa fb j h.flows) in
     record {
       base = base;
       prop_base = positive-same a.prop_base b.prop_base h.prop_base p.prop_base;
@@ -81,11 +85,11 @@ point_of_q-equal n a b lim h p =
       proportions = λ l lt. sym (sum_at-same n.feed_pool l a.proportion b.proportion n.feeds h.proportion) ∙ p.proportions l lt ∙ h.prop_base;
       feeds = λ e lt. sym (h.flows.feed e lt) ∙ p.feeds e lt ∙ sum_at-same (path_feed n) e a.path b.path (path_count n) h.path;
       at_most = λ j k u product lk set.
-          compared_equal (path_inflow n a j k) (path_inflow n b j k) (u *ℤ pos (product_inflow n fa j)) (u *ℤ pos (product_inflow n fb j))
-          (path_inflow-equal n a b j k h) (room j u) (p.at_most j k u product lk set);
+          compared_equal (path_inflow n a j k) (path_inflow n b j k) (limit_room n fa j u) (limit_room n fb j u)
+          (path_inflow-equal n a b j k h) (limit_room-equal n fa fb j u h.flows) (p.at_most j k u product lk set);
       at_least = λ j k u product lk set.
-          compared_equal (u *ℤ pos (product_inflow n fa j)) (u *ℤ pos (product_inflow n fb j)) (path_inflow n a j k) (path_inflow n b j k)
-          (room j u) (path_inflow-equal n a b j k h) (p.at_least j k u product lk set);
+          compared_equal (limit_room n fa j u) (limit_room n fb j u) (path_inflow n a j k) (path_inflow n b j k)
+          (limit_room-equal n fa fb j u h.flows) (path_inflow-equal n a b j k h) (p.at_least j k u product lk set);
       products = λ q lt.
           ap (λ z. z * b.prop_base) (sym (h.path q lt)) ∙ ap (λ z. a.path q * z) (sym h.prop_base) ∙ p.products q lt
           ∙ ap (λ z. z * a.out (path_out n q)) (h.proportion (path_feed n q) (path_feed-below n q lt))
@@ -102,15 +106,16 @@ pub record AreEqualQualities (n : Net) (a b : QualityPoint) : Type 0 where
 
 mixed_inflow-equal : (n : Net) (a b : QualityPoint) (j k : ℕ) → AreEqualQualities n a b → k < n.qualities → mixed_inflow n a j k ≡ mixed_inflow n b j k
 mixed_inflow-equal n a b j k h lk =
-    ap (λ z. z +ℤ direct_mix n (quality_flows a) j k) (int_sum_at-same n.out_product j (λ o. a.mixed o k) (λ o. b.mixed o k) n.outs (λ o lt is. h.mixed o k lt lk))
-    ∙ ap (λ z. int_sum_at n.out_product j (λ o. b.mixed o k) n.outs +ℤ z) (direct_mix-equal n (quality_flows a) (quality_flows b) j k h.flows)
+    let kept = λ (q : QualityPoint) (o : ℕ). pos (n.retained (n.out_pool o) k) *ℤ q.mixed o k in
+    ap (λ z. z +ℤ direct_mix n (quality_flows a) j k)
+    (int_sum_at-same n.out_product j (kept a) (kept b) n.outs (λ o lt is. ap (λ z. pos (n.retained (n.out_pool o) k) *ℤ z) (h.mixed o k lt lk)))
+    ∙ ap (λ z. int_sum_at n.out_product j (kept b) n.outs +ℤ z) (direct_mix-equal n (quality_flows a) (quality_flows b) j k h.flows)
 
 pub point_of_p-equal : (n : Net) (a b : QualityPoint) → IsLimited n → AreEqualQualities n a b → IsPointOfP n a → IsPointOfP n b
 point_of_p-equal n a b lim h p =
     let fa = quality_flows a in
     let fb = quality_flows b in
     let base = positive-same a.base b.base h.flows.base p.base in
-    let room = λ (j : ℕ) (u : ℤ). ap (λ z. u *ℤ pos z) (product_inflow-equal n fa fb j h.flows) in
     record {
       base = base;
       qual_base = positive-same a.qual_base b.qual_base h.qual_base p.qual_base;
@@ -118,11 +123,11 @@ point_of_p-equal n a b lim h p =
       mixing = λ l k lt lk.
           sym (mix-equal n fa fb l k h.flows) ∙ p.mixing l k lt lk ∙ int_sum_at-same n.out_pool l (λ o. a.mixed o k) (λ o. b.mixed o k) n.outs (λ o lo is. h.mixed o k lo lk);
       at_most = λ j k u product lk set.
-          compared_equal (mixed_inflow n a j k) (mixed_inflow n b j k) (u *ℤ pos (product_inflow n fa j)) (u *ℤ pos (product_inflow n fb j))
-          (mixed_inflow-equal n a b j k h lk) (room j u) (p.at_most j k u product lk set);
+          compared_equal (mixed_inflow n a j k) (mixed_inflow n b j k) (limit_room n fa j u) (limit_room n fb j u)
+          (mixed_inflow-equal n a b j k h lk) (limit_room-equal n fa fb j u h.flows) (p.at_most j k u product lk set);
       at_least = λ j k u product lk set.
-          compared_equal (u *ℤ pos (product_inflow n fa j)) (u *ℤ pos (product_inflow n fb j)) (mixed_inflow n a j k) (mixed_inflow n b j k)
-          (room j u) (mixed_inflow-equal n a b j k h lk) (p.at_least j k u product lk set);
+          compared_equal (limit_room n fa j u) (limit_room n fb j u) (mixed_inflow n a j k) (mixed_inflow n b j k)
+          (limit_room-equal n fa fb j u h.flows) (mixed_inflow-equal n a b j k h lk) (p.at_least j k u product lk set);
       products = λ o k lt lk.
           ap (λ z. z *ℤ pos b.qual_base) (sym (h.mixed o k lt lk)) ∙ ap (λ z. a.mixed o k *ℤ pos z) (sym h.qual_base) ∙ p.products o k lt lk
           ∙ ap (λ z. z *ℤ pos (a.out o)) (h.quality (n.out_pool o) k (lim.out_pools o lt) lk)

@@ -3,20 +3,20 @@ use Rattle.std.proofs.Common.{◌≡◌, ℕ, ◌*◌, ◌<◌, ◌≤◌, ◌^�
 use Rattle.std.proofs.Math.Nat.{mul-le-mul}
 use Rattle.std.proofs.lemmas.Int.{ints}
 use Rattle.integers.specs.Sums.{int_sum_at, sum_at}
-use Rattle.integers.proofs.Ring.{linear, sorted, mul_comm_ℤ, mul-add, mul_left_comm_ℤ}
+use Rattle.integers.proofs.Ring.{linear, sorted, mul_comm_ℤ, mul-add}
 use Rattle.integers.proofs.Order.{le-cancel, abs-mul-le}
 use Rattle.integers.proofs.Means.{mean-low, mean-high}
 use Rattle.integers.proofs.AtKey.{int_sum_at-same, int_sum_at-mul, sum_at-mul, pos-sum_at, term-le-sum_at}
 use Rattle.integers.proofs.ByNode.{abs-int_sum_at}
 use Rattle.pool_model.specs.Network.{Net, IsLimited, IsWithin}
-use Rattle.pool_model.specs.Plan.{Written, weight, written_out, written_outflow, IsWritten, plan_of, Obeys, product_inflow, mix}
+use Rattle.pool_model.specs.Plan.{Written, weight, written_out, written_outflow, IsWritten, plan_of, Obeys, limit_room, mix, direct_mix}
 use Rattle.row_model.specs.Boxes.{qual, root_low, root_high}
 use Rattle.row_model.proofs.RootBox.{root_low-quality, root_high-quality}
-use Rattle.program_model.specs.Programs.{IsPointOfP, direct_mix, mixed_inflow}
+use Rattle.program_model.specs.Programs.{IsPointOfP, mixed_inflow}
 use Rattle.program_model.proofs.Means.{mean_inflow, by_means-blends}
 use Rattle.plan_core.specs.Weighed.{weighed}
 use Rattle.program_points.specs.Written.{written_qualities}
-use Rattle.program_points.proofs.WrittenQ.{has_qualities-written}
+use Rattle.program_points.proofs.WrittenQ.{has_qualities-written, retained_weighed}
 
 -- the quality that flows into a pool flows out of it
 mixing-written : (n : Net) (w : Written) (l k : ℕ) → mix n (plan_of n w) l k ≡ int_sum_at n.out_pool l (λ o. (written_qualities n w).mixed o k) n.outs
@@ -36,16 +36,21 @@ mixing-written n w l k =
     turned q r t = simp sorted refl
 
 -- what reaches a product by the weights is what mixed variables bring
-mean_inflow-mixed : (n : Net) (w : Written) (j k : ℕ) → mean_inflow n (plan_of n w) w.base (weighed n w) j k ≡ pos w.base *ℤ mixed_inflow n (written_qualities n w) j k
+mean_inflow-mixed : (n : Net) (w : Written) (j k : ℕ)
+    → mean_inflow n (plan_of n w) w.base (retained_weighed n w) j k ≡ pos w.base *ℤ mixed_inflow n (written_qualities n w) j k
 mean_inflow-mixed n w j k =
     let r = pos w.base in
-    let mixed = λ (o : ℕ). (written_qualities n w).mixed o k in
+    let retained = λ (o : ℕ). pos (n.retained (n.out_pool o) k) in
+    let mixed = λ (o : ℕ). retained o *ℤ (written_qualities n w).mixed o k in
     let d = direct_mix n (plan_of n w) j k in
     ap (λ z. z +ℤ r *ℤ d)
-    (int_sum_at-same n.out_product j (λ o. weighed n w (n.out_pool o) k *ℤ pos (w.base * written_out w o)) (λ o. r *ℤ mixed o) n.outs
-    (λ o lo is. mul_left_comm_ℤ (weighed n w (n.out_pool o) k) r (pos (written_out w o)))
+    (int_sum_at-same n.out_product j (λ o. retained_weighed n w (n.out_pool o) k *ℤ pos (w.base * written_out w o)) (λ o. r *ℤ mixed o) n.outs
+    (λ o lo is. turned (retained o) (weighed n w (n.out_pool o) k) r (pos (written_out w o)))
     ∙ int_sum_at-mul n.out_product j r mixed n.outs)
     ∙ sym (mul-add r (int_sum_at n.out_product j mixed n.outs) d)
+  where
+    turned : (t q r y : ℤ) → (t *ℤ q) *ℤ (r *ℤ y) ≡ r *ℤ (t *ℤ (q *ℤ y))
+    turned t q r y = simp sorted refl
 
 positive-ℤ : (m : ℕ) → 1 ≤ m → pos 0 <ℤ pos m
 positive-ℤ m h = omega (arith, linear)
@@ -53,17 +58,17 @@ positive-ℤ m h = omega (arith, linear)
 pub written-point_of_p : (n : Net) (w : Written) → IsLimited n → IsWritten n w → Obeys n (plan_of n w) → IsPointOfP n (written_qualities n w)
 written-point_of_p n w lim written o =
     let more = written.base.0 in
-    let means = by_means-blends n (plan_of n w) w.base (weighed n w) lim (omega (arith, more)) (has_qualities-written n w) o.blends in
+    let means = by_means-blends n (plan_of n w) w.base (retained_weighed n w) lim (omega (arith, more)) (has_qualities-written n w) o.blends in
     record {
       base = o.denominator;
       qual_base = omega (arith, more);
       carries = o.carries;
       mixing = λ l k lt lk. mixing-written n w l k;
       at_most = λ j k u product lk set.
-          le-cancel (pos w.base) (mixed_inflow n (written_qualities n w) j k) (u *ℤ pos (product_inflow n (plan_of n w) j)) (positive-ℤ w.base more)
+          le-cancel (pos w.base) (mixed_inflow n (written_qualities n w) j k) (limit_room n (plan_of n w) j u) (positive-ℤ w.base more)
           (rw (mean_inflow-mixed n w j k) at (means.at_most j k u product lk set));
       at_least = λ j k u product lk set.
-          le-cancel (pos w.base) (u *ℤ pos (product_inflow n (plan_of n w) j)) (mixed_inflow n (written_qualities n w) j k) (positive-ℤ w.base more)
+          le-cancel (pos w.base) (limit_room n (plan_of n w) j u) (mixed_inflow n (written_qualities n w) j k) (positive-ℤ w.base more)
           (rw (mean_inflow-mixed n w j k) at (means.at_least j k u product lk set));
       products = λ a k lt lk. turned (weighed n w (n.out_pool a) k) (pos (written_out w a)) (pos w.base);
       low = λ l k lt lk.

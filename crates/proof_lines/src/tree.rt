@@ -34,7 +34,7 @@ pub fn tree_bound<S: Shelf>(
     requires tree { IsOf (net_of net.now) tree.now }
     requires asks { (k : AKind) × IsReady (moment reader.old (S.told shelf.old)) (states.Proofs k) }
     // What the root's bound begins with is no larger than this, in picos.
-    ensures reach { unsigned_abs (reach_bound (net_of net.now)) ≤ 128 * 10 ^ 24 }
+    ensures reach { unsigned_abs (reach_bound (net_of net.now)) ≤ 256 * 10 ^ 24 }
     // Each line is in its place, each proof in order in its box, and this is the bound that they show; or they are refused.
     // Promise: The proofs on a tree are taken only where each line is in its place and each proof in order in its box, and then with the
     //   bound that they show; else the first line in no place, and where there is none the first node whose proof is not in order, is

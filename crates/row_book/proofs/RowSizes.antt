@@ -1,26 +1,26 @@
--- Every coefficient of every row is at most 10^14 in size.
+-- Every coefficient of every row is at most 2 * 10^14 in size.
 use Rattle.std.proofs.Common.{◌≡◌, ℕ, ◌+◌, ◌*◌, ◌/◌, ◌%◌, ◌^◌, ◌<◌, ◌≤◌, Bool, true, false}
-use Rattle.std.proofs.Common.{◌==◌, if◌then◌else◌, ◌++◌, length, get_or, Option, Some, ℤ, pos, neg_ℤ, ◌-ℤ◌, unsigned_abs, arith}
+use Rattle.std.proofs.Common.{◌==◌, if◌then◌else◌, ◌++◌, get_or, ℤ, pos, neg_ℤ, ◌-ℤ◌, unsigned_abs, arith}
 use Rattle.std.proofs.lemmas.Int.{ints}
-use Rattle.std.proofs.lemmas.List.Elements.{All-get_or}
-use Rattle.pool_model.specs.Network.{Net, IsLimited, IsWithin}
+use Rattle.pool_model.specs.Network.{Net, IsLimited}
+use Rattle.pool_model.specs.Starting.{straight, way_quality}
 use Rattle.row_model.specs.Boxes.{Box, coords, IsProper, prop_number, qual_number, flow_number}
 use Rattle.row_model.specs.Variables.{PerVariable, path_count, path_feed, path_out, variables, by_number}
 use Rattle.row_model.specs.Envelopes.{Ends, Side, side}
-use Rattle.pool_model.specs.Limits.{Limit, limits, no_limit, most_limits, least_limits}
-use Rattle.pool_model.proofs.Limits.{IsSet, limits-set}
+use Rattle.pool_model.specs.Limits.{Limit, no_limit, most_limits, least_limits}
 use Rattle.row_model.specs.Catalogue.{Row, when, rows, row_at, catalogue, network_families, p_families, q_families, pq_families, source_row, balance_row, pool_row, maximum_row}
-use Rattle.row_model.specs.Catalogue.{minimum_row, mixing_row, mixed_most_row, mixed_least_row, quality_ends, quality_envelope_row, proportions_row}
+use Rattle.row_model.specs.Catalogue.{minimum_row, limit_parts, path_quality, mixing_row, mixed_most_row, mixed_least_row, quality_ends, quality_envelope_row, proportions_row}
 use Rattle.row_model.specs.Catalogue.{feed_row, path_most_row, path_least_row, proportion_ends, proportion_envelope_row, out_row, share_row}
 use Rattle.integers.proofs.Grids.{grid-below, grid-row, grid-column}
 use Rattle.row_model.proofs.Numbering.{HoldsByKind, by_number-each}
 use Rattle.row_model.proofs.PathSums.{path_feed-below, path_out-below}
 use Rattle.row_book.proofs.Families.{HoldsOfEach, each_row, each-append}
-use Rattle.row_book.proofs.NearEnds.{within, AreNear, quality-few, ends-near}
+use Rattle.formulations.proofs.InParts.{IsFewLimit, limit-few, retained-few, limit_parts-few, direct_quality-few, path_quality-few}
+use Rattle.row_book.proofs.NearEnds.{AreNear, quality-few, ends-near}
 
--- at most 10^14 in size
+-- at most 2 * 10^14 in size
 abbrev pub IsSmall : ℤ → Type 0
-IsSmall z = unsigned_abs z ≤ 10 ^ 14
+IsSmall z = unsigned_abs z ≤ 2 * 10 ^ 14
 
 nothing : IsSmall (pos 0)
 nothing = omega arith
@@ -38,13 +38,13 @@ small_if false c h = nothing
 small_when : (i k : ℕ) (c : ℤ) → IsSmall c → IsSmall (when i k c)
 small_when i k c h = small_if (i == k) c h
 
-widen : (z : ℤ) → unsigned_abs z ≤ 10 ^ 12 → IsSmall z
+widen : (z : ℤ) → unsigned_abs z ≤ 10 ^ 14 → IsSmall z
 widen z h = omega arith
 
-turned : (z : ℤ) → unsigned_abs z ≤ 10 ^ 12 → IsSmall (neg_ℤ z)
+turned : (z : ℤ) → unsigned_abs z ≤ 10 ^ 14 → IsSmall (neg_ℤ z)
 turned z h = omega (arith, ints)
 
-apart : (a b : ℤ) → unsigned_abs a ≤ 10 ^ 12 → unsigned_abs b ≤ 10 ^ 12 → IsSmall (a -ℤ b)
+apart : (a b : ℤ) → unsigned_abs a ≤ 10 ^ 14 → unsigned_abs b ≤ 10 ^ 14 → IsSmall (a -ℤ b)
 apart a b h k = omega (arith, ints)
 
 -- ---- sides of envelopes
@@ -60,23 +60,16 @@ side_if false s t h k = k
 
 side-small : (number : ℕ) (scale : ℤ) (e : Ends) → unsigned_abs scale ≤ 10 ^ 12 → AreNear e.a_low e.a_high → AreNear e.b_low e.b_high → IsSmallSide (side number scale e)
 side-small number scale e h a b =
-    side_if (number == 1) _ _ record { w = widen scale h; a = turned e.b_low b.low; b = turned e.a_low a.low }
-    (side_if (number == 2) _ _ record { w = widen scale h; a = turned e.b_high b.high; b = turned e.a_high a.high }
-    (side_if (number == 3) _ _ record { w = turned scale h; a = widen e.b_low b.low; b = widen e.a_high a.high }
-    record { w = turned scale h; a = widen e.b_high b.high; b = widen e.a_low a.low }))
+    side_if (number == 1) _ _ record { w = near scale h; a = less e.b_low b.low; b = less e.a_low a.low }
+    (side_if (number == 2) _ _ record { w = near scale h; a = less e.b_high b.high; b = less e.a_high a.high }
+    (side_if (number == 3) _ _ record { w = less scale h; a = near e.b_low b.low; b = near e.a_high a.high }
+    record { w = less scale h; a = near e.b_high b.high; b = near e.a_low a.low }))
+  where
+    near : (z : ℤ) → unsigned_abs z ≤ 10 ^ 12 → IsSmall z
+    near z h = omega arith
 
--- ---- limits
-
-pub record IsFewLimit (n : Net) (u : Limit) : Type 0 where
-  pub quality : u.quality < n.qualities
-  pub limit : unsigned_abs u.limit ≤ 10 ^ 12
-
-limit-few : (n : Net) (limit : ℕ → ℕ → Option ℤ) → ((j k : ℕ) (u : ℤ) → j < n.products → k < n.qualities → limit j k ≡ Some u → IsWithin (10 ^ 11) u)
-    → (i : ℕ) → i < length (limits limit n.products n.qualities) → IsFewLimit n (get_or (limits limit n.products n.qualities) i no_limit)
-limit-few n limit each i lt =
-    let u = get_or (limits limit n.products n.qualities) i no_limit in
-    let is = All-get_or (IsSet limit n.products n.qualities) (limits limit n.products n.qualities) i no_limit lt (limits-set limit n.products n.qualities) in
-    record { quality = is.quality; limit = within (10 ^ 11) u.limit (omega arith) (each u.product u.quality u.limit is.product is.quality is.set) }
+    less : (z : ℤ) → unsigned_abs z ≤ 10 ^ 12 → IsSmall (neg_ℤ z)
+    less z h = turned z (omega arith)
 
 -- ---- rows, kind by kind
 
@@ -115,21 +108,30 @@ network-small n = (
   ),
 )
 
-direct-few : (n : Net) (e k : ℕ) → IsLimited n → e < n.directs → k < n.qualities → unsigned_abs (n.source_quality (n.direct_source e) k) ≤ 10 ^ 12
-direct-few n e k limited lt hk = within (10 ^ 11) (n.source_quality (n.direct_source e) k) (omega arith) (limited.source_qualities (n.direct_source e) k (limited.direct_sources e lt) hk)
+kept-small : (n : Net) (o k : ℕ) → IsLimited n → o < n.outs → k < n.qualities → unsigned_abs (pos (n.retained (n.out_pool o) k)) ≤ 10 ^ 14
+kept-small n o k limited lt lk = omega (arith, retained-few n limited (n.out_pool o) k (limited.out_pools o lt) lk)
 
 mixed_most-small : (n : Net) (u : Limit) → IsLimited n → IsFewLimit n u → IsSmallRow n (mixed_most_row n u)
-mixed_most-small n u limited few = by_kind n (mixed_most_row n u).coefs (λ e h. nothing) (λ o h. small_when (n.out_product o) u.product u.limit (widen u.limit few.limit))
-    (λ e h. small_when (n.direct_product e) u.product (u.limit -ℤ n.source_quality (n.direct_source e) u.quality)
-    (apart u.limit (n.source_quality (n.direct_source e) u.quality) few.limit (direct-few n e u.quality limited h few.quality)))
+mixed_most-small n u limited few =
+    let limit = limit_parts n u in
+    let small = limit_parts-few n limited u few.limit in
+    by_kind n (mixed_most_row n u).coefs (λ e h. nothing) (λ o h. small_when (n.out_product o) u.product limit (widen limit small))
+    (λ e h. small_when (n.direct_product e) u.product (limit -ℤ way_quality n (straight e) u.quality)
+    (apart limit (way_quality n (straight e) u.quality) small (direct_quality-few n limited e u.quality h few.quality)))
     (λ q h. nothing) (λ e h. nothing) (λ l k a b. nothing)
-    (λ o k a b. small_when k u.quality (when (n.out_product o) u.product (neg_ℤ (pos 1))) (small_when (n.out_product o) u.product (neg_ℤ (pos 1)) less_one))
+    (λ o k a b. let kept = pos (n.retained (n.out_pool o) u.quality) in
+    small_when k u.quality (when (n.out_product o) u.product (neg_ℤ kept)) (small_when (n.out_product o) u.product (neg_ℤ kept) (turned kept (kept-small n o u.quality limited a few.quality))))
 
 mixed_least-small : (n : Net) (u : Limit) → IsLimited n → IsFewLimit n u → IsSmallRow n (mixed_least_row n u)
-mixed_least-small n u limited few = by_kind n (mixed_least_row n u).coefs (λ e h. nothing) (λ o h. small_when (n.out_product o) u.product (neg_ℤ u.limit) (turned u.limit few.limit))
-    (λ e h. small_when (n.direct_product e) u.product (n.source_quality (n.direct_source e) u.quality -ℤ u.limit)
-    (apart (n.source_quality (n.direct_source e) u.quality) u.limit (direct-few n e u.quality limited h few.quality) few.limit))
-    (λ q h. nothing) (λ e h. nothing) (λ l k a b. nothing) (λ o k a b. small_when k u.quality (when (n.out_product o) u.product (pos 1)) (small_when (n.out_product o) u.product (pos 1) one))
+mixed_least-small n u limited few =
+    let limit = limit_parts n u in
+    let small = limit_parts-few n limited u few.limit in
+    by_kind n (mixed_least_row n u).coefs (λ e h. nothing) (λ o h. small_when (n.out_product o) u.product (neg_ℤ limit) (turned limit small))
+    (λ e h. small_when (n.direct_product e) u.product (way_quality n (straight e) u.quality -ℤ limit)
+    (apart (way_quality n (straight e) u.quality) limit (direct_quality-few n limited e u.quality h few.quality) small))
+    (λ q h. nothing) (λ e h. nothing) (λ l k a b. nothing)
+    (λ o k a b. let kept = pos (n.retained (n.out_pool o) u.quality) in
+    small_when k u.quality (when (n.out_product o) u.product kept) (small_when (n.out_product o) u.product kept (widen kept (kept-small n o u.quality limited a few.quality))))
 
 quality_envelope-small : (n : Net) (b : Box) (o k number : ℕ) → IsLimited n → IsProper n b → o < n.outs → k < n.qualities → IsSmallRow n (quality_envelope_row n b o k number)
 quality_envelope-small n b o k number limited proper ho hk =
@@ -144,7 +146,7 @@ p-small : (n : Net) (b : Box) → IsLimited n → IsProper n b → HoldsOfEach (
 p-small n b limited proper = (
   λ i lt. by_kind n (mixing_row n (i / n.qualities) (i % n.qualities)).coefs
       (λ e h. small_when (n.feed_pool e) (i / n.qualities) (n.source_quality (n.feed_source e) (i % n.qualities))
-      (widen (n.source_quality (n.feed_source e) (i % n.qualities)) (quality-few n e (i % n.qualities) limited h (grid-column n.pools n.qualities i lt))))
+      (from_few (n.source_quality (n.feed_source e) (i % n.qualities)) (quality-few n e (i % n.qualities) limited h (grid-column n.pools n.qualities i lt))))
       (λ o h. nothing) (λ e h. nothing) (λ q h. nothing) (λ e h. nothing) (λ l k a c. nothing)
       (λ o k a c. small_when k (i % n.qualities) (when (n.out_pool o) (i / n.qualities) (neg_ℤ (pos 1))) (small_when (n.out_pool o) (i / n.qualities) (neg_ℤ (pos 1)) less_one)),
   (
@@ -160,26 +162,32 @@ p-small n b limited proper = (
   ),
 )
   where
+    from_few : (z : ℤ) → unsigned_abs z ≤ 10 ^ 12 → IsSmall z
+    from_few z h = omega arith
+
     quarter : (i m : ℕ) → i < m * 4 → i / 4 < m
     quarter i m h = grid-row m 4 i h
 
-path-few : (n : Net) (q k : ℕ) → IsLimited n → q < path_count n → k < n.qualities → unsigned_abs (n.source_quality (n.feed_source (path_feed n q)) k) ≤ 10 ^ 12
-path-few n q k limited lt hk = quality-few n (path_feed n q) k limited (path_feed-below n q lt) hk
-
 path_most-small : (n : Net) (u : Limit) → IsLimited n → IsFewLimit n u → IsSmallRow n (path_most_row n u)
-path_most-small n u limited few = by_kind n (path_most_row n u).coefs (λ e h. nothing) (λ o h. small_when (n.out_product o) u.product u.limit (widen u.limit few.limit))
-    (λ e h. small_when (n.direct_product e) u.product (u.limit -ℤ n.source_quality (n.direct_source e) u.quality)
-    (apart u.limit (n.source_quality (n.direct_source e) u.quality) few.limit (direct-few n e u.quality limited h few.quality)))
-    (λ q h. small_when (n.out_product (path_out n q)) u.product (neg_ℤ (n.source_quality (n.feed_source (path_feed n q)) u.quality))
-    (turned (n.source_quality (n.feed_source (path_feed n q)) u.quality) (path-few n q u.quality limited h few.quality)))
+path_most-small n u limited few =
+    let limit = limit_parts n u in
+    let small = limit_parts-few n limited u few.limit in
+    by_kind n (path_most_row n u).coefs (λ e h. nothing) (λ o h. small_when (n.out_product o) u.product limit (widen limit small))
+    (λ e h. small_when (n.direct_product e) u.product (limit -ℤ way_quality n (straight e) u.quality)
+    (apart limit (way_quality n (straight e) u.quality) small (direct_quality-few n limited e u.quality h few.quality)))
+    (λ q h. small_when (n.out_product (path_out n q)) u.product (neg_ℤ (path_quality n q u.quality))
+    (turned (path_quality n q u.quality) (path_quality-few n limited q u.quality h few.quality)))
     (λ e h. nothing) (λ l k a b. nothing) (λ o k a b. nothing)
 
 path_least-small : (n : Net) (u : Limit) → IsLimited n → IsFewLimit n u → IsSmallRow n (path_least_row n u)
-path_least-small n u limited few = by_kind n (path_least_row n u).coefs (λ e h. nothing) (λ o h. small_when (n.out_product o) u.product (neg_ℤ u.limit) (turned u.limit few.limit))
-    (λ e h. small_when (n.direct_product e) u.product (n.source_quality (n.direct_source e) u.quality -ℤ u.limit)
-    (apart (n.source_quality (n.direct_source e) u.quality) u.limit (direct-few n e u.quality limited h few.quality) few.limit))
-    (λ q h. small_when (n.out_product (path_out n q)) u.product (n.source_quality (n.feed_source (path_feed n q)) u.quality)
-    (widen (n.source_quality (n.feed_source (path_feed n q)) u.quality) (path-few n q u.quality limited h few.quality)))
+path_least-small n u limited few =
+    let limit = limit_parts n u in
+    let small = limit_parts-few n limited u few.limit in
+    by_kind n (path_least_row n u).coefs (λ e h. nothing) (λ o h. small_when (n.out_product o) u.product (neg_ℤ limit) (turned limit small))
+    (λ e h. small_when (n.direct_product e) u.product (way_quality n (straight e) u.quality -ℤ limit)
+    (apart (way_quality n (straight e) u.quality) limit (direct_quality-few n limited e u.quality h few.quality) small))
+    (λ q h. small_when (n.out_product (path_out n q)) u.product (path_quality n q u.quality)
+    (widen (path_quality n q u.quality) (path_quality-few n limited q u.quality h few.quality)))
     (λ e h. nothing) (λ l k a b. nothing) (λ o k a b. nothing)
 
 proportion_envelope-small : (n : Net) (b : Box) (p number : ℕ) → IsLimited n → IsProper n b → p < path_count n → IsSmallRow n (proportion_envelope_row n b p number)
@@ -219,7 +227,7 @@ further-small n limited = (
       (λ q h. small_when (path_out n q) o (pos 1) one) (λ e h. nothing) (λ p k a c. nothing) (λ f k a c. nothing),
   (
     λ e lt. by_kind n (share_row n e).coefs (λ f h. nothing) (λ o h. nothing) (λ f h. nothing) (λ q h. small_when (path_feed n q) e (neg_ℤ (pos 1048576)) (omega arith))
-        (λ f h. small_when f e (pos (n.pool_max (n.feed_pool e))) (limited.pool_maxima (n.feed_pool e) (limited.feed_pools e lt))) (λ p k a c. nothing) (λ o k a c. nothing),
+        (λ f h. small_when f e (pos (n.pool_max (n.feed_pool e))) (widen (pos (n.pool_max (n.feed_pool e))) (limited.pool_maxima (n.feed_pool e) (limited.feed_pools e lt)))) (λ p k a c. nothing) (λ o k a c. nothing),
     tt,
   ),
 )

@@ -10,7 +10,7 @@ use Rattle.integers.specs.Sums.{int_sum_by, int_sum_below, sum_below}
 use Rattle.integers.proofs.ByIndex.{int_sum_below-same}
 use Rattle.integers.proofs.AtKey.{sum_below-same}
 use Rattle.integers.proofs.Grids.{grid-below, grid-row, grid-column}
-use Rattle.pool_model.specs.Network.{Net, IsLimited}
+use Rattle.pool_model.specs.Network.{Net, IsLimited, capped}
 use Rattle.row_model.specs.Boxes.{Box, Agree, IsProper, root, coords, prop_number, qual_number, flow_number, grain}
 use Rattle.row_model.specs.Variables.{none, variables, by_number, path_count, path_feed, path_out, least_product, greatest_product, lows, highs, costs}
 use Rattle.row_model.specs.Envelopes.{Ends, side}
@@ -76,7 +76,7 @@ same-highs n b c lim a = record {
   x = λ e h. refl;
   y = λ o h. (same-flow n b c o a h).high;
   z = λ e h. refl;
-  w = λ q h. ap (λ (z : ℤ). int_min (pos (n.source_max (n.feed_source (path_feed n q)))) z) (same-flow n b c (path_out n q) a (path_out-below n q h)).high;
+  w = λ q h. ap (λ (z : ℤ). int_min (pos (capped (n.feed_max (path_feed n q)) (n.source_max (n.feed_source (path_feed n q))))) z) (same-flow n b c (path_out n q) a (path_out-below n q h)).high;
   proportion = λ e h. (same-prop n b c e a h).high;
   quality = λ l k h j. (same-qual n b c l k a h j).high;
   mixed = λ o k h j. four greatest_product b c (qual_number n (n.out_pool o) k) (flow_number n o) (same-qual n b c (n.out_pool o) k a (lim.out_pools o h) j) (same-flow n b c o a h);

@@ -8,6 +8,7 @@ pub mod VariableEnds
 pub mod PointCost
 pub mod RowSums
 pub mod NetworkRows
+pub mod Brought
 pub mod EnvelopeLaw
 pub mod QRows
 pub mod PqRows

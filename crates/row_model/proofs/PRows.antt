@@ -6,47 +6,62 @@ use Rattle.integers.proofs.Ring.{additive, linear, sorted, neg-mul, mul_assoc_�
 use Rattle.integers.proofs.AtKey.{same_or_other, int_sum_at-same, int_sum_at-mul, pos-sum_at, product_but_is}
 use Rattle.integers.proofs.ByNode.{int_sum_at-nothing}
 use Rattle.pool_model.specs.Network.{Net, IsLimited}
-use Rattle.pool_model.specs.Plan.{Plan, Carries, Blends, outflow, factor, mix, quality_inflow, quality_room}
+use Rattle.pool_model.specs.Plan.{Plan, Carries, Blends, outflow, factor, mix, treated, quality_inflow, quality_room}
+use Rattle.pool_model.specs.Starting.{straight, way_quality}
 use Rattle.row_model.specs.Boxes.{Box, LiesIn, place, qual}
 use Rattle.row_model.specs.Envelopes.{side}
 use Rattle.row_model.specs.Variables.{path_count}
 use Rattle.pool_model.specs.Limits.{Limit}
-use Rattle.row_model.specs.Catalogue.{when, mixing_row, mixed_most_row, mixed_least_row, quality_ends, quality_envelope_row}
+use Rattle.row_model.specs.Catalogue.{when, limit_parts, mixing_row, mixed_most_row, mixed_least_row, quality_ends, quality_envelope_row}
 use Rattle.row_model.specs.Lift.{lift, others, value_at, HoldsAt}
-use Rattle.row_model.proofs.RowSums.{no_sum, no_sums, key_sum, one_sum, one_sums, pair_sum, scaled_at, same_at, room_at, excess_at, room_of_both}
+use Rattle.row_model.proofs.RowSums.{no_sum, no_sums, key_sum, one_sum, one_sums, pair_sum, scaled_at, same_at, opposite_at, room_at, excess_at, room_of_both}
+use Rattle.row_model.proofs.Brought.{directs-bring, pools-bring}
 use Rattle.row_model.proofs.Shares.{no_feed, quality-out}
 use Rattle.row_model.proofs.Numbering.{lies-qual, lies-flow}
 use Rattle.row_model.proofs.EnvelopeLaw.{lifted_side-holds}
 
 -- ---- limits
 
--- the mixed variables of one quality on a product's outs, with a coefficient c each, are what reaches it through the pools
-mixed-sum : (n : Net) (p : Plan) (j k : ℕ) (c : ℤ) → k < n.qualities
-    → int_sum_below (λ o. int_sum_below (λ h. when h k (when (n.out_product o) j c) *ℤ (lift n p).mixed o h) n.qualities) n.outs
-    ≡ c *ℤ int_sum_at n.out_product j (λ o. others n p (n.out_pool o) *ℤ mix n p (n.out_pool o) k *ℤ pos (p.out o)) n.outs
-mixed-sum n p j k c lk =
+-- what pools retain of the mixed variables of one quality on a product's outs is what reaches it through the pools
+mixed-sum : (n : Net) (p : Plan) (j k : ℕ) → k < n.qualities
+    → int_sum_below (λ o. int_sum_below (λ h. when h k (when (n.out_product o) j (pos (n.retained (n.out_pool o) k))) *ℤ (lift n p).mixed o h) n.qualities) n.outs
+    ≡ int_sum_at n.out_product j (λ o. others n p (n.out_pool o) *ℤ treated n p (n.out_pool o) k *ℤ pos (p.out o)) n.outs
+mixed-sum n p j k lk =
     let v = lift n p in
-    one_sums k (λ o. when (n.out_product o) j c) v.mixed n.outs n.qualities lk
-    ∙ same_at n.out_product j c (λ o. v.mixed o k) n.outs
-    ∙ ap (λ z. c *ℤ z) (int_sum_at-same n.out_product j (λ o. v.mixed o k) (λ o. others n p (n.out_pool o) *ℤ mix n p (n.out_pool o) k *ℤ pos (p.out o)) n.outs
-    (λ o lo is. sym (mul_assoc_ℤ (others n p (n.out_pool o)) (mix n p (n.out_pool o) k) (pos (p.out o)))))
+    let retained = λ (o : ℕ). pos (n.retained (n.out_pool o) k) in
+    one_sums k (λ o. when (n.out_product o) j (retained o)) v.mixed n.outs n.qualities lk
+    ∙ key_sum n.out_product j retained (λ o. v.mixed o k) n.outs
+    ∙ pools-bring n p j k
+
+-- the same with opposite coefficients
+mixed_sum-opposite : (n : Net) (p : Plan) (j k : ℕ) → k < n.qualities
+    → int_sum_below (λ o. int_sum_below (λ h. when h k (when (n.out_product o) j (neg_ℤ (pos (n.retained (n.out_pool o) k)))) *ℤ (lift n p).mixed o h) n.qualities) n.outs
+    ≡ neg_ℤ (int_sum_at n.out_product j (λ o. others n p (n.out_pool o) *ℤ treated n p (n.out_pool o) k *ℤ pos (p.out o)) n.outs)
+mixed_sum-opposite n p j k lk =
+    let v = lift n p in
+    let retained = λ (o : ℕ). pos (n.retained (n.out_pool o) k) in
+    one_sums k (λ o. when (n.out_product o) j (neg_ℤ (retained o))) v.mixed n.outs n.qualities lk
+    ∙ opposite_at n.out_product j retained (λ o. v.mixed o k) n.outs
+    ∙ ap neg_ℤ (pools-bring n p j k)
 
 mixed_most_row-value : (n : Net) (p : Plan) (u : Limit) → u.quality < n.qualities
     → value_at n p (mixed_most_row n u) ≡ quality_room n p u.product u.limit -ℤ quality_inflow n p u.product u.quality
 mixed_most_row-value n p u lk =
     let m = pos (product_below (factor n p) n.pools) in
     let v = lift n p in
+    let limit = limit_parts n u in
     omega (
       arith,
-      linear,
+      additive,
       no_sum v.x n.feeds,
       no_sum v.w (path_count n),
       no_sum v.proportion n.feeds,
       no_sums v.quality n.pools n.qualities,
-      scaled_at n.out_product u.product u.limit m p.out n.outs,
-      room_at n.direct_product u.product u.limit m (λ e. n.source_quality (n.direct_source e) u.quality) p.direct n.directs,
-      mixed-sum n p u.product u.quality (neg_ℤ (pos 1)) lk,
-      room_of_both m u.limit (pos (sum_at n.out_product u.product p.out n.outs)) (pos (sum_at n.direct_product u.product p.direct n.directs)),
+      scaled_at n.out_product u.product limit m p.out n.outs,
+      room_at n.direct_product u.product limit m (λ e. way_quality n (straight e) u.quality) p.direct n.directs,
+      ap (λ z. m *ℤ z) (directs-bring n p u.product u.quality),
+      mixed_sum-opposite n p u.product u.quality lk,
+      room_of_both m limit (pos (sum_at n.out_product u.product p.out n.outs)) (pos (sum_at n.direct_product u.product p.direct n.directs)),
     )
 
 pub mixed_most_row-holds : (n : Net) (p : Plan) (u : Limit) → Blends n p → u.product < n.products → u.quality < n.qualities → n.most u.product u.quality ≡ Some u.limit
@@ -59,18 +74,20 @@ mixed_least_row-value : (n : Net) (p : Plan) (u : Limit) → u.quality < n.quali
 mixed_least_row-value n p u lk =
     let m = pos (product_below (factor n p) n.pools) in
     let v = lift n p in
+    let limit = limit_parts n u in
     omega (
       arith,
-      linear,
+      additive,
       no_sum v.x n.feeds,
       no_sum v.w (path_count n),
       no_sum v.proportion n.feeds,
       no_sums v.quality n.pools n.qualities,
-      scaled_at n.out_product u.product (neg_ℤ u.limit) m p.out n.outs,
-      neg-mul u.limit (m *ℤ pos (sum_at n.out_product u.product p.out n.outs)),
-      excess_at n.direct_product u.product u.limit m (λ e. n.source_quality (n.direct_source e) u.quality) p.direct n.directs,
-      mixed-sum n p u.product u.quality (pos 1) lk,
-      room_of_both m u.limit (pos (sum_at n.out_product u.product p.out n.outs)) (pos (sum_at n.direct_product u.product p.direct n.directs)),
+      scaled_at n.out_product u.product (neg_ℤ limit) m p.out n.outs,
+      neg-mul limit (m *ℤ pos (sum_at n.out_product u.product p.out n.outs)),
+      excess_at n.direct_product u.product limit m (λ e. way_quality n (straight e) u.quality) p.direct n.directs,
+      ap (λ z. m *ℤ z) (directs-bring n p u.product u.quality),
+      mixed-sum n p u.product u.quality lk,
+      room_of_both m limit (pos (sum_at n.out_product u.product p.out n.outs)) (pos (sum_at n.direct_product u.product p.direct n.directs)),
     )
 
 pub mixed_least_row-holds : (n : Net) (p : Plan) (u : Limit) → Blends n p → u.product < n.products → u.quality < n.qualities → n.least u.product u.quality ≡ Some u.limit

@@ -4,14 +4,16 @@ use Rattle.integers.specs.Sums.{product_below, product_but, int_sum_below, int_s
 use Rattle.integers.proofs.Ring.{additive, linear, sorted, neg-mul}
 use Rattle.integers.proofs.AtKey.{int_sum_at-same, int_sum_at-mul, pos-sum_at, product_but_is}
 use Rattle.pool_model.specs.Network.{Net, IsLimited}
-use Rattle.pool_model.specs.Plan.{Plan, Carries, Blends, outflow, pool_inflow, factor, mix, quality_inflow, quality_room}
+use Rattle.pool_model.specs.Plan.{Plan, Carries, Blends, outflow, pool_inflow, factor, mix, treated, quality_inflow, quality_room}
+use Rattle.pool_model.specs.Starting.{straight, way_quality}
 use Rattle.row_model.specs.Boxes.{Box, LiesIn, grain, share, place, prop}
 use Rattle.row_model.specs.Envelopes.{side}
 use Rattle.row_model.specs.Variables.{path_count, path_feed, path_out}
 use Rattle.pool_model.specs.Limits.{Limit}
-use Rattle.row_model.specs.Catalogue.{when, proportions_row, feed_row, path_most_row, path_least_row, proportion_ends, proportion_envelope_row}
+use Rattle.row_model.specs.Catalogue.{when, limit_parts, path_quality, proportions_row, feed_row, path_most_row, path_least_row, proportion_ends, proportion_envelope_row}
 use Rattle.row_model.specs.Lift.{lift, lift_base, others, value_at, HoldsAt}
 use Rattle.row_model.proofs.RowSums.{no_sum, no_sums, key_sum, one_sum, scaled_at, same_at, opposite_at, room_at, excess_at, room_of_both}
+use Rattle.row_model.proofs.Brought.{directs-bring}
 use Rattle.row_model.proofs.PathSums.{HasFeedPools, path_feed-below, path_out-below, path-joined, paths_at_feed, paths_at_out, paths_at_key}
 use Rattle.row_model.proofs.Shares.{feed-le, share-sum, share-out}
 use Rattle.row_model.proofs.Numbering.{lies-prop, lies-flow}
@@ -118,31 +120,33 @@ feed_row-holds n p e lim c lt =
 -- ---- limits
 
 -- the quality that flows along paths to a product is what reaches it through the pools
-path_quality-sum : (n : Net) (p : Plan) (j k : ℕ) → HasFeedPools n
-    → int_sum_at (λ q. n.out_product (path_out n q)) j (λ q. n.source_quality (n.feed_source (path_feed n q)) k *ℤ (lift n p).w q) (path_count n)
-    ≡ int_sum_at n.out_product j (λ o. others n p (n.out_pool o) *ℤ mix n p (n.out_pool o) k *ℤ pos (p.out o)) n.outs
+pub path_quality-sum : (n : Net) (p : Plan) (j k : ℕ) → HasFeedPools n
+    → int_sum_at (λ q. n.out_product (path_out n q)) j (λ q. path_quality n q k *ℤ (lift n p).w q) (path_count n)
+    ≡ int_sum_at n.out_product j (λ o. others n p (n.out_pool o) *ℤ treated n p (n.out_pool o) k *ℤ pos (p.out o)) n.outs
 path_quality-sum n p j k h =
     let quality = λ (e : ℕ). n.source_quality (n.feed_source e) k in
-    let of_pair = λ (e o : ℕ). quality e *ℤ (others n p (n.out_pool o) *ℤ (pos (p.feed e) *ℤ pos (p.out o))) in
+    let retained = λ (o : ℕ). pos (n.retained (n.out_pool o) k) in
+    let of_pair = λ (e o : ℕ). (retained o *ℤ quality e) *ℤ (others n p (n.out_pool o) *ℤ (pos (p.feed e) *ℤ pos (p.out o))) in
     paths_at_key n of_pair n.out_product j h
-    ∙ int_sum_at-same n.out_product j (λ o. int_sum_at n.feed_pool (n.out_pool o) (λ e. of_pair e o) n.feeds) (λ o. others n p (n.out_pool o) *ℤ mix n p (n.out_pool o) k *ℤ pos (p.out o)) n.outs
+    ∙ int_sum_at-same n.out_product j (λ o. int_sum_at n.feed_pool (n.out_pool o) (λ e. of_pair e o) n.feeds) (λ o. others n p (n.out_pool o) *ℤ treated n p (n.out_pool o) k *ℤ pos (p.out o)) n.outs
     (λ o lo is.
-    int_sum_at-same n.feed_pool (n.out_pool o) (λ e. of_pair e o) (λ e. (others n p (n.out_pool o) *ℤ pos (p.out o)) *ℤ (quality e *ℤ pos (p.feed e))) n.feeds
-    (λ e le at. regroup (quality e) (others n p (n.out_pool o)) (pos (p.feed e)) (pos (p.out o)))
-    ∙ int_sum_at-mul n.feed_pool (n.out_pool o) (others n p (n.out_pool o) *ℤ pos (p.out o)) (λ e. quality e *ℤ pos (p.feed e)) n.feeds
-    ∙ last (others n p (n.out_pool o)) (pos (p.out o)) (mix n p (n.out_pool o) k))
+    int_sum_at-same n.feed_pool (n.out_pool o) (λ e. of_pair e o) (λ e. (retained o *ℤ others n p (n.out_pool o) *ℤ pos (p.out o)) *ℤ (quality e *ℤ pos (p.feed e))) n.feeds
+    (λ e le at. regroup (retained o) (quality e) (others n p (n.out_pool o)) (pos (p.feed e)) (pos (p.out o)))
+    ∙ int_sum_at-mul n.feed_pool (n.out_pool o) (retained o *ℤ others n p (n.out_pool o) *ℤ pos (p.out o)) (λ e. quality e *ℤ pos (p.feed e)) n.feeds
+    ∙ last (retained o) (others n p (n.out_pool o)) (pos (p.out o)) (mix n p (n.out_pool o) k))
   where
-    regroup : (q b x y : ℤ) → q *ℤ (b *ℤ (x *ℤ y)) ≡ (b *ℤ y) *ℤ (q *ℤ x)
-    regroup q b x y = simp sorted refl
+    regroup : (r q b x y : ℤ) → (r *ℤ q) *ℤ (b *ℤ (x *ℤ y)) ≡ (r *ℤ b *ℤ y) *ℤ (q *ℤ x)
+    regroup r q b x y = simp sorted refl
 
-    last : (b y m : ℤ) → (b *ℤ y) *ℤ m ≡ b *ℤ m *ℤ y
-    last b y m = simp sorted refl
+    last : (r b y m : ℤ) → (r *ℤ b *ℤ y) *ℤ m ≡ b *ℤ (r *ℤ m) *ℤ y
+    last r b y m = simp sorted refl
 
 path_most_row-value : (n : Net) (p : Plan) (u : Limit) → HasFeedPools n
     → value_at n p (path_most_row n u) ≡ quality_room n p u.product u.limit -ℤ quality_inflow n p u.product u.quality
 path_most_row-value n p u h =
     let m = pos (product_below (factor n p) n.pools) in
     let v = lift n p in
+    let limit = limit_parts n u in
     omega (
       arith,
       additive,
@@ -150,11 +154,12 @@ path_most_row-value n p u h =
       no_sum v.proportion n.feeds,
       no_sums v.quality n.pools n.qualities,
       no_sums v.mixed n.outs n.qualities,
-      scaled_at n.out_product u.product u.limit m p.out n.outs,
-      room_at n.direct_product u.product u.limit m (λ e. n.source_quality (n.direct_source e) u.quality) p.direct n.directs,
-      opposite_at (λ q. n.out_product (path_out n q)) u.product (λ q. n.source_quality (n.feed_source (path_feed n q)) u.quality) v.w (path_count n),
+      scaled_at n.out_product u.product limit m p.out n.outs,
+      room_at n.direct_product u.product limit m (λ e. way_quality n (straight e) u.quality) p.direct n.directs,
+      ap (λ z. m *ℤ z) (directs-bring n p u.product u.quality),
+      opposite_at (λ q. n.out_product (path_out n q)) u.product (λ q. path_quality n q u.quality) v.w (path_count n),
       path_quality-sum n p u.product u.quality h,
-      room_of_both m u.limit (pos (sum_at n.out_product u.product p.out n.outs)) (pos (sum_at n.direct_product u.product p.direct n.directs)),
+      room_of_both m limit (pos (sum_at n.out_product u.product p.out n.outs)) (pos (sum_at n.direct_product u.product p.direct n.directs)),
     )
 
 pub path_most_row-holds : (n : Net) (p : Plan) (u : Limit) → IsLimited n → Blends n p → u.product < n.products → u.quality < n.qualities → n.most u.product u.quality ≡ Some u.limit
@@ -167,6 +172,7 @@ path_least_row-value : (n : Net) (p : Plan) (u : Limit) → HasFeedPools n
 path_least_row-value n p u h =
     let m = pos (product_below (factor n p) n.pools) in
     let v = lift n p in
+    let limit = limit_parts n u in
     omega (
       arith,
       additive,
@@ -174,12 +180,13 @@ path_least_row-value n p u h =
       no_sum v.proportion n.feeds,
       no_sums v.quality n.pools n.qualities,
       no_sums v.mixed n.outs n.qualities,
-      scaled_at n.out_product u.product (neg_ℤ u.limit) m p.out n.outs,
-      neg-mul u.limit (m *ℤ pos (sum_at n.out_product u.product p.out n.outs)),
-      excess_at n.direct_product u.product u.limit m (λ e. n.source_quality (n.direct_source e) u.quality) p.direct n.directs,
-      key_sum (λ q. n.out_product (path_out n q)) u.product (λ q. n.source_quality (n.feed_source (path_feed n q)) u.quality) v.w (path_count n),
+      scaled_at n.out_product u.product (neg_ℤ limit) m p.out n.outs,
+      neg-mul limit (m *ℤ pos (sum_at n.out_product u.product p.out n.outs)),
+      excess_at n.direct_product u.product limit m (λ e. way_quality n (straight e) u.quality) p.direct n.directs,
+      ap (λ z. m *ℤ z) (directs-bring n p u.product u.quality),
+      key_sum (λ q. n.out_product (path_out n q)) u.product (λ q. path_quality n q u.quality) v.w (path_count n),
       path_quality-sum n p u.product u.quality h,
-      room_of_both m u.limit (pos (sum_at n.out_product u.product p.out n.outs)) (pos (sum_at n.direct_product u.product p.direct n.directs)),
+      room_of_both m limit (pos (sum_at n.out_product u.product p.out n.outs)) (pos (sum_at n.direct_product u.product p.direct n.directs)),
     )
 
 pub path_least_row-holds : (n : Net) (p : Plan) (u : Limit) → IsLimited n → Blends n p → u.product < n.products → u.quality < n.qualities → n.least u.product u.quality ≡ Some u.limit

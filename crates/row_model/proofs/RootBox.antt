@@ -5,12 +5,13 @@ use Rattle.std.proofs.lemmas.Int.{clamps}
 use Rattle.integers.proofs.Ring.{additive}
 use Rattle.integers.proofs.Order.{le-mul}
 use Rattle.integers.proofs.AtKey.{same_or_other, chosen, term-le-sum_at}
-use Rattle.pool_model.specs.Network.{Net, IsLimited}
+use Rattle.pool_model.specs.Network.{Net, IsLimited, capped}
 use Rattle.pool_model.specs.Plan.{Plan, Carries, Obeys, factor}
 use Rattle.pool_model.specs.Starting.{lesser, least_below}
 use Rattle.row_model.specs.Boxes.{qual, coords, coord_at, grain, greater, greatest_below, fed_quality, root_low, root_high, root, IsProper, share, place, place_base, LiesIn}
 use Rattle.integers.proofs.Order.{le-mul_min}
 use Rattle.integers.proofs.Means.{mean-low, mean-high}
+use Rattle.pool_model.proofs.Capped.{le-mul_capped}
 use Rattle.row_model.proofs.Shares.{share-le, share-sum, out-le}
 use Rattle.row_model.proofs.Numbering.{at_coord}
 
@@ -106,11 +107,13 @@ quality-high n p l k lim c hl =
     (mean-high n.feed_pool l (root_high n (qual l k)) (λ e. n.source_quality (n.feed_source e) k) (share n p) n.feeds (λ e he same. root_high-quality n l k e he same))
 
 pub flow-high : (n : Net) (p : Plan) (o : ℕ) → IsLimited n → Carries n p → o < n.outs
-    → p.out o ≤ p.base * min (n.pool_max (n.out_pool o)) (n.product_max (n.out_product o))
+    → p.out o ≤ p.base * capped (n.out_max o) (min (n.pool_max (n.out_pool o)) (n.product_max (n.out_product o)))
 flow-high n p o lim c h =
-    le-mul_min (p.out o) p.base (n.pool_max (n.out_pool o)) (n.product_max (n.out_product o))
+    le-mul_capped (n.out_max o) (p.out o) p.base (min (n.pool_max (n.out_pool o)) (n.product_max (n.out_product o)))
+    (le-mul_min (p.out o) p.base (n.pool_max (n.out_pool o)) (n.product_max (n.out_product o))
     (omega (arith, out-le n p o h, c.pools (n.out_pool o) (lim.out_pools o h)))
-    (omega (arith, term-le-sum_at n.out_product (n.out_product o) p.out n.outs o h refl, c.at_most (n.out_product o) (lim.out_products o h)))
+    (omega (arith, term-le-sum_at n.out_product (n.out_product o) p.out n.outs o h refl, c.at_most (n.out_product o) (lim.out_products o h))))
+    (λ m is. c.arcs.outs o m h is)
 
 place-low : (n : Net) (p : Plan) (c : ℕ) → IsLimited n → Carries n p → c < coords n → (root_low n (coord_at n c) *ℤ pos (place_base n p (coord_at n c))) ≤ℤ place n p (coord_at n c)
 place-low n p c lim car h =

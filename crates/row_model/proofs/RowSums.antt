@@ -1,10 +1,11 @@
 -- Sums of coefficients times variables, where most coefficients are 0.
-use Rattle.std.proofs.Common.{◌≡◌, ℕ, ◌<◌, inl, inr, ◌==◌, if◌then◌else◌, ℤ, pos, neg_ℤ, ◌+ℤ◌, ◌-ℤ◌, ◌*ℤ◌, arith, refl, sym, ap, ◌∙◌}
+use Rattle.std.proofs.Common.{◌≡◌, ℕ, zero, suc, ◌*◌, ◌<◌, ◌≤◌, inl, inr, unsigned_abs, ◌==◌, if◌then◌else◌, ℤ, pos, neg_ℤ, ◌+ℤ◌, ◌-ℤ◌, ◌*ℤ◌, arith, refl, sym, ap, ◌∙◌}
 use Rattle.std.proofs.Math.IntN.{zero-*ℤ}
-use Rattle.integers.specs.Sums.{int_sum_below, int_sum_at, sum_at}
+use Rattle.std.proofs.Math.Nat.{mul-le-mul_right}
+use Rattle.integers.specs.Sums.{int_sum_below, int_sum_at, sum_at, sum_below}
 use Rattle.integers.proofs.Ring.{additive, linear, sorted, mul_assoc_ℤ, neg-mul}
 use Rattle.integers.proofs.ByIndex.{int_sum_below-same, int_sum_below-zero}
-use Rattle.integers.proofs.AtKey.{same_or_other, chosen, passed, int_sum_at-same, int_sum_at-mul, int_sum_at-add, pos-sum_at}
+use Rattle.integers.proofs.AtKey.{same_or_other, chosen, passed, int_sum_at-same, int_sum_at-mul, int_sum_at-add, pos-sum_at, sum_below-le, sum_below-mul}
 use Rattle.integers.proofs.ByNode.{int_sum_below-one}
 use Rattle.row_model.specs.Catalogue.{when}
 
@@ -105,3 +106,51 @@ excess_at key k u m quality f n =
 -- the room below a quality u of two flows together
 pub room_of_both : (m u y z : ℤ) → m *ℤ (u *ℤ (y +ℤ z)) ≡ u *ℤ (m *ℤ y) +ℤ m *ℤ (u *ℤ z)
 room_of_both m u y z = simp sorted (omega (arith, additive))
+
+-- ---- how much coefficients at a key weigh
+
+size_when : (i k : ℕ) (c : ℤ) (x most : ℕ) → unsigned_abs c ≤ most → unsigned_abs (when i k c) * x ≤ most * (if i == k then x else 0)
+size_when i k c x most h = elim (same_or_other i k) [
+  | inl e ↦ omega (arith, mul-le-mul_right x h, ap (λ z. unsigned_abs z * x) (chosen i k c (pos 0) e), ap (λ z. most * z) (chosen i k x 0 e))
+  | inr d ↦ omega (arith, ap (λ z. unsigned_abs z * x) (passed i k c (pos 0) d), ap (λ z. most * z) (passed i k x 0 d))
+]
+
+-- times numbers that are there, no more than the greatest coefficient times the numbers at the key
+pub weight_at : (key : ℕ → ℕ) (k : ℕ) (c : ℕ → ℤ) (x : ℕ → ℕ) (most n : ℕ) → ((i : ℕ) → i < n → unsigned_abs (c i) ≤ most)
+    → sum_below (λ i. unsigned_abs (when (key i) k (c i)) * x i) n ≤ most * sum_at key k x n
+weight_at key k c x most n h =
+    omega (
+      arith,
+      sum_below-le (λ i. unsigned_abs (when (key i) k (c i)) * x i) (λ i. most * (if key i == k then x i else 0)) n (λ i lt. size_when (key i) k (c i) (x i) most (h i lt)),
+      sum_below-mul most (λ i. if key i == k then x i else 0) n,
+    )
+
+-- the same for coefficients at one second index
+pub weights_at : (key : ℕ → ℕ) (j k : ℕ) (c : ℕ → ℤ) (x : ℕ → ℕ → ℕ) (most m n : ℕ) → k < n → ((i : ℕ) → i < m → unsigned_abs (c i) ≤ most)
+    → sum_below (λ i. sum_below (λ h. unsigned_abs (when h k (when (key i) j (c i))) * x i h) n) m ≤ most * sum_at key j (λ i. x i k) m
+weights_at key j k c x most m n lt h =
+    omega (
+      arith,
+      sum_below-le (λ i. sum_below (λ l. unsigned_abs (when l k (when (key i) j (c i))) * x i l) n) (λ i. unsigned_abs (when (key i) j (c i)) * x i k) m
+          (λ i li. one_weight k (when (key i) j (c i)) (x i) n lt),
+      weight_at key j c (λ i. x i k) most m h,
+    )
+  where
+    none_below : (x : ℕ → ℕ) (k n : ℕ) → n ≤ k → sum_at (λ l. l) k x n ≡ 0
+    none_below x k zero h = refl
+    none_below x k (suc n) h = omega (arith, none_below x k n (omega arith), passed n k (x n) 0 (omega arith))
+
+    sum_at-own : (x : ℕ → ℕ) (k n : ℕ) → k < n → sum_at (λ l. l) k x n ≡ x k
+    sum_at-own x k zero h = absurd (omega arith)
+    sum_at-own x k (suc n) h = elim (same_or_other n k) [
+      | inl e ↦ omega (arith, none_below x k n (omega arith), chosen n k (x n) 0 e, ap x e)
+      | inr d ↦ omega (arith, sum_at-own x k n (omega arith), passed n k (x n) 0 d)
+    ]
+
+    one_weight : (k : ℕ) (c : ℤ) (x : ℕ → ℕ) (n : ℕ) → k < n → sum_below (λ l. unsigned_abs (when l k c) * x l) n ≤ unsigned_abs c * x k
+    one_weight k c x n lt =
+        omega (
+          arith,
+          weight_at (λ l. l) k (λ l. c) x (unsigned_abs c) n (λ i li. omega arith),
+          ap (λ z. unsigned_abs c * z) (sum_at-own x k n lt),
+        )

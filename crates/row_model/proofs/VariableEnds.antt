@@ -1,17 +1,17 @@
 -- At the point of a plan that obeys and lies in a box, each variable lies between its ends.
 use Rattle.std.proofs.Common.{◌≡◌, ℕ, ◌*◌, ◌<◌, ◌≤◌, min, max, ℤ, pos, ◌*ℤ◌, ◌≤ℤ◌, arith, refl, sym, ap}
 use Rattle.std.proofs.Math.Nat.{mul-le-mul_left}
-use Rattle.std.specs.Int.{int_min}
 use Rattle.integers.specs.Sums.{product_below, product_but}
 use Rattle.integers.proofs.Ring.{additive, sorted}
 use Rattle.integers.proofs.Order.{le-mul, four_products-over}
 use Rattle.integers.proofs.AtKey.{product_but_is, term-le-sum_at}
-use Rattle.pool_model.specs.Network.{Net, IsLimited}
+use Rattle.pool_model.specs.Network.{Net, IsLimited, capped}
 use Rattle.pool_model.specs.Plan.{Plan, Carries, Obeys, outflow, factor, mix}
 use Rattle.row_model.specs.Boxes.{Box, prop, qual, prop_number, qual_number, flow_number, place, LiesIn}
 use Rattle.row_model.specs.Variables.{path_count, path_feed, path_out, variables, by_number, lows, highs}
 use Rattle.row_model.specs.Lift.{lift_base, lift}
 use Rattle.integers.proofs.Order.{le-mul_min, le-mul_int_min, four_products-over_high}
+use Rattle.pool_model.proofs.Capped.{le-mul_capped}
 use Rattle.row_model.proofs.Shares.{feed-le, out-le, quality-out}
 use Rattle.row_model.proofs.Numbering.{lies-prop, lies-qual, lies-flow, HoldsByKind, by_number-each}
 use Rattle.row_model.proofs.PathSums.{path_feed-below, path_out-below, path-joined}
@@ -98,25 +98,34 @@ feed-source_max : (n : Net) (p : Plan) (e : ℕ) → IsLimited n → Carries n p
 feed-source_max n p e lim c h = omega (arith, term-le-sum_at n.feed_source (n.feed_source e) p.feed n.feeds e h refl, c.sources (n.feed_source e) (lim.feed_sources e h))
 
 feed-high : (n : Net) (p : Plan) (e : ℕ) → IsLimited n → Carries n p → e < n.feeds
-    → p.feed e ≤ p.base * min (n.source_max (n.feed_source e)) (n.pool_max (n.feed_pool e))
+    → p.feed e ≤ p.base * capped (n.feed_max e) (min (n.source_max (n.feed_source e)) (n.pool_max (n.feed_pool e)))
 feed-high n p e lim c h =
-    le-mul_min (p.feed e) p.base (n.source_max (n.feed_source e)) (n.pool_max (n.feed_pool e))
+    le-mul_capped (n.feed_max e) (p.feed e) p.base (min (n.source_max (n.feed_source e)) (n.pool_max (n.feed_pool e)))
+    (le-mul_min (p.feed e) p.base (n.source_max (n.feed_source e)) (n.pool_max (n.feed_pool e))
     (feed-source_max n p e lim c h)
-    (omega (arith, feed-le n p e lim c h, c.pools (n.feed_pool e) (lim.feed_pools e h)))
+    (omega (arith, feed-le n p e lim c h, c.pools (n.feed_pool e) (lim.feed_pools e h))))
+    (λ m is. c.arcs.feeds e m h is)
 
 direct-high : (n : Net) (p : Plan) (e : ℕ) → IsLimited n → Carries n p → e < n.directs
-    → p.direct e ≤ p.base * min (n.source_max (n.direct_source e)) (n.product_max (n.direct_product e))
+    → p.direct e ≤ p.base * capped (n.direct_max e) (min (n.source_max (n.direct_source e)) (n.product_max (n.direct_product e)))
 direct-high n p e lim c h =
-    le-mul_min (p.direct e) p.base (n.source_max (n.direct_source e)) (n.product_max (n.direct_product e))
+    le-mul_capped (n.direct_max e) (p.direct e) p.base (min (n.source_max (n.direct_source e)) (n.product_max (n.direct_product e)))
+    (le-mul_min (p.direct e) p.base (n.source_max (n.direct_source e)) (n.product_max (n.direct_product e))
     (omega (arith, term-le-sum_at n.direct_source (n.direct_source e) p.direct n.directs e h refl, c.sources (n.direct_source e) (lim.direct_sources e h)))
-    (omega (arith, term-le-sum_at n.direct_product (n.direct_product e) p.direct n.directs e h refl, c.at_most (n.direct_product e) (lim.direct_products e h)))
+    (omega (arith, term-le-sum_at n.direct_product (n.direct_product e) p.direct n.directs e h refl, c.at_most (n.direct_product e) (lim.direct_products e h))))
+    (λ m is. c.arcs.directs e m h is)
+
+-- what a feed's source and the feed itself can carry
+feed-along : (n : Net) (p : Plan) (e : ℕ) → IsLimited n → Carries n p → e < n.feeds
+    → p.feed e ≤ p.base * capped (n.feed_max e) (n.source_max (n.feed_source e))
+feed-along n p e lim c h = le-mul_capped (n.feed_max e) (p.feed e) p.base (n.source_max (n.feed_source e)) (feed-source_max n p e lim c h) (λ m is. c.arcs.feeds e m h is)
 
 -- ---- flows along paths: at most the feed's, and at most the out's
 along-le : (others x y t all : ℕ) → others * max t 1 ≡ all → y ≤ t → others * (x * y) ≤ all * x
 along-le others x y t all whole h = omega (arith, mul-le-mul_left (others * x) (let wide : y ≤ max t 1 = omega arith in wide), ap (λ z. z * x) whole)
 
 path-high : (n : Net) (p : Plan) (b : Box) (q : ℕ) → IsLimited n → Carries n p → LiesIn n p b → q < path_count n
-    → IsHigh (lift_base n p) (int_min (pos (n.source_max (n.feed_source (path_feed n q)))) (b.high (flow_number n (path_out n q)))) ((lift n p).w q)
+    → IsHigh (lift_base n p) ((highs n b).w q) ((lift n p).w q)
 path-high n p b q lim c h lt =
     let e = path_feed n q in
     let o = path_out n q in
@@ -129,8 +138,9 @@ path-high n p b q lim c h lt =
     let whole : but * max (outflow n p l) 1 ≡ all = product_but_is l (factor n p) n.pools (lim.out_pools o lo) in
     let by_feed = along-le but (p.feed e) (p.out o) (outflow n p l) all whole (out-le n p o lo) in
     let by_out = along-le but (p.out o) (p.feed e) (outflow n p l) all whole (omega (arith, feed-le n p e lim c le)) in
-    le-mul_int_min ((lift n p).w q) (pos (lift_base n p)) (pos (n.source_max (n.feed_source e))) (b.high (flow_number n o))
-    (omega (arith, additive, by_feed, scaled-most all (p.feed e) p.base (n.source_max (n.feed_source e)) (feed-source_max n p e lim c le)))
+    let brought = capped (n.feed_max e) (n.source_max (n.feed_source e)) in
+    le-mul_int_min ((lift n p).w q) (pos (lift_base n p)) (pos brought) (b.high (flow_number n o))
+    (omega (arith, additive, by_feed, scaled-most all (p.feed e) p.base brought (feed-along n p e lim c le)))
     (omega (arith, additive, by_out, scaled-high all p.base (b.high (flow_number n o)) (pos (p.out o)) (lies-flow n p b o h lo).high))
 
 -- ---- an out's mixed variables
@@ -185,9 +195,9 @@ highs-hold n p b lim ob h =
     let but = λ (l : ℕ). product_but l (factor n p) n.pools in
     let whole = λ (l : ℕ) (lt : l < n.pools). product_but_is l (factor n p) n.pools lt in
     record {
-      x = λ e le. scaled-most all (p.feed e) p.base (min (n.source_max (n.feed_source e)) (n.pool_max (n.feed_pool e))) (feed-high n p e lim ob.carries le);
+      x = λ e le. scaled-most all (p.feed e) p.base (capped (n.feed_max e) (min (n.source_max (n.feed_source e)) (n.pool_max (n.feed_pool e)))) (feed-high n p e lim ob.carries le);
       y = λ o lo. scaled-high all p.base (b.high (flow_number n o)) (pos (p.out o)) (lies-flow n p b o h lo).high;
-      z = λ e le. scaled-most all (p.direct e) p.base (min (n.source_max (n.direct_source e)) (n.product_max (n.direct_product e))) (direct-high n p e lim ob.carries le);
+      z = λ e le. scaled-most all (p.direct e) p.base (capped (n.direct_max e) (min (n.source_max (n.direct_source e)) (n.product_max (n.direct_product e)))) (direct-high n p e lim ob.carries le);
       w = λ q lq. path-high n p b q lim ob.carries h lq;
       proportion = λ e le. pooled-high p.base (but (n.feed_pool e)) (factor n p (n.feed_pool e)) all (b.high (prop_number n e)) (place n p (prop e))
           (whole (n.feed_pool e) (lim.feed_pools e le)) (lies-prop n p b e h le).high;

@@ -2,7 +2,7 @@
 use Rattle.std.specs.Prelude.{◌≡◌, ℕ, zero, suc, ◌+◌, ◌-◌, ◌*◌, ◌/◌, ◌%◌, ◌<◌, min, nat_lt, ◌==◌, if◌then◌else◌, Option, None, Some, unwrap_or, ℤ, pos, ◌*ℤ◌, ◌≤ℤ◌}
 use Rattle.std.specs.Int.{int_max}
 use Rattle.integers.specs.Sums.{int_sum_at}
-use Rattle.pool_model.specs.Network.{Net}
+use Rattle.pool_model.specs.Network.{Net, capped}
 use Rattle.pool_model.specs.Plan.{Plan, outflow, factor}
 use Rattle.pool_model.specs.Starting.{first_weight, least_below}
 
@@ -68,7 +68,7 @@ root_low n (flow o) = pos 0
 abbrev pub root_high : Net → Coord → ℤ
 root_high n (prop e) = pos grain
 root_high n (qual l k) = unwrap_or (greatest_below (fed_quality n l k) n.feeds) (pos 0)
-root_high n (flow o) = pos (min (n.pool_max (n.out_pool o)) (n.product_max (n.out_product o)))
+root_high n (flow o) = pos (capped (n.out_max o) (min (n.pool_max (n.out_pool o)) (n.product_max (n.out_product o))))
 
 -- the box of all plans that obey
 abbrev pub root : Net → Box

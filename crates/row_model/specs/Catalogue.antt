@@ -1,8 +1,9 @@
 -- The catalogue: every row of the programs P (Haverly 1978), Q (Ben-Tal et al. 1994) and PQ (Tawarmalani and Sahinidis
 -- 2002), numbered by family.
-use Rattle.std.specs.Prelude.{ℕ, ◌+◌, ◌-◌, ◌*◌, ◌/◌, ◌%◌, nat_lt, List, [], ◌∷◌, ◌++◌, length, get_or, ◌==◌, if◌then◌else◌, ℤ, pos, neg_ℤ, ◌-ℤ◌}
+use Rattle.std.specs.Prelude.{ℕ, ◌+◌, ◌-◌, ◌*◌, ◌/◌, ◌%◌, nat_lt, List, [], ◌∷◌, ◌++◌, length, get_or, ◌==◌, if◌then◌else◌, ℤ, pos, neg_ℤ, ◌-ℤ◌, ◌*ℤ◌}
 use Rattle.pool_model.specs.Network.{Net}
 use Rattle.pool_model.specs.Limits.{Limit, most_limits, least_limits, no_limit}
+use Rattle.pool_model.specs.Starting.{through, straight, way_quality}
 use Rattle.row_model.specs.Boxes.{Box, root, grain, prop_number, qual_number, flow_number}
 use Rattle.row_model.specs.Variables.{PerVariable, none, path_count, path_feed, path_out}
 use Rattle.row_model.specs.Envelopes.{Ends, side}
@@ -84,14 +85,22 @@ mixing_row n l k = record {
   constant = pos 0;
 }
 
--- a product's mean of a quality is at most its limit, by mixed variables
+-- a limit in parts of the scale
+abbrev pub limit_parts : Net → Limit → ℤ
+limit_parts n u = pos n.scale *ℤ u.limit
+
+-- what a path of a number brings of a quality, in parts of the scale
+abbrev pub path_quality : Net → ℕ → ℕ → ℤ
+path_quality n p k = way_quality n (through (path_feed n p) (path_out n p)) k
+
+-- a product's mean of a quality is at most its limit, by mixed variables: pools retain a part of them
 abbrev pub mixed_most_row : Net → Limit → Row
 mixed_most_row n u = record {
   kind = at_least;
   coefs = record none {
-    y = λ o. when (n.out_product o) u.product u.limit;
-    z = λ e. when (n.direct_product e) u.product (u.limit -ℤ n.source_quality (n.direct_source e) u.quality);
-    mixed = λ o h. when h u.quality (when (n.out_product o) u.product (neg_ℤ (pos 1)));
+    y = λ o. when (n.out_product o) u.product (limit_parts n u);
+    z = λ e. when (n.direct_product e) u.product (limit_parts n u -ℤ way_quality n (straight e) u.quality);
+    mixed = λ o h. when h u.quality (when (n.out_product o) u.product (neg_ℤ (pos (n.retained (n.out_pool o) u.quality))));
   };
   constant = pos 0;
 }
@@ -101,9 +110,9 @@ abbrev pub mixed_least_row : Net → Limit → Row
 mixed_least_row n u = record {
   kind = at_least;
   coefs = record none {
-    y = λ o. when (n.out_product o) u.product (neg_ℤ u.limit);
-    z = λ e. when (n.direct_product e) u.product (n.source_quality (n.direct_source e) u.quality -ℤ u.limit);
-    mixed = λ o h. when h u.quality (when (n.out_product o) u.product (pos 1));
+    y = λ o. when (n.out_product o) u.product (neg_ℤ (limit_parts n u));
+    z = λ e. when (n.direct_product e) u.product (way_quality n (straight e) u.quality -ℤ limit_parts n u);
+    mixed = λ o h. when h u.quality (when (n.out_product o) u.product (pos (n.retained (n.out_pool o) u.quality)));
   };
   constant = pos 0;
 }
@@ -154,9 +163,9 @@ abbrev pub path_most_row : Net → Limit → Row
 path_most_row n u = record {
   kind = at_least;
   coefs = record none {
-    y = λ o. when (n.out_product o) u.product u.limit;
-    z = λ e. when (n.direct_product e) u.product (u.limit -ℤ n.source_quality (n.direct_source e) u.quality);
-    w = λ p. when (n.out_product (path_out n p)) u.product (neg_ℤ (n.source_quality (n.feed_source (path_feed n p)) u.quality));
+    y = λ o. when (n.out_product o) u.product (limit_parts n u);
+    z = λ e. when (n.direct_product e) u.product (limit_parts n u -ℤ way_quality n (straight e) u.quality);
+    w = λ p. when (n.out_product (path_out n p)) u.product (neg_ℤ (path_quality n p u.quality));
   };
   constant = pos 0;
 }
@@ -166,9 +175,9 @@ abbrev pub path_least_row : Net → Limit → Row
 path_least_row n u = record {
   kind = at_least;
   coefs = record none {
-    y = λ o. when (n.out_product o) u.product (neg_ℤ u.limit);
-    z = λ e. when (n.direct_product e) u.product (n.source_quality (n.direct_source e) u.quality -ℤ u.limit);
-    w = λ p. when (n.out_product (path_out n p)) u.product (n.source_quality (n.feed_source (path_feed n p)) u.quality);
+    y = λ o. when (n.out_product o) u.product (neg_ℤ (limit_parts n u));
+    z = λ e. when (n.direct_product e) u.product (way_quality n (straight e) u.quality -ℤ limit_parts n u);
+    w = λ p. when (n.out_product (path_out n p)) u.product (path_quality n p u.quality);
   };
   constant = pos 0;
 }

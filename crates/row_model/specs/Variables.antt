@@ -1,8 +1,8 @@
 -- The variables of the programs: flows, flows along paths, proportions, qualities, and qualities times flows.
-use Rattle.std.specs.Prelude.{ℕ, ◌+◌, ◌*◌, ◌/◌, ◌%◌, min, length, ℤ, pos, neg_ℤ, ◌+ℤ◌, ◌-ℤ◌, ◌*ℤ◌}
+use Rattle.std.specs.Prelude.{ℕ, ◌+◌, ◌*◌, ◌/◌, ◌%◌, min, length, ℤ, pos, ◌+ℤ◌, ◌-ℤ◌, ◌*ℤ◌}
 use Rattle.std.specs.Int.{int_min, int_max}
 use Rattle.integers.specs.Sums.{int_sum_below, piece}
-use Rattle.pool_model.specs.Network.{Net}
+use Rattle.pool_model.specs.Network.{Net, capped, feed_delivered, direct_delivered}
 use Rattle.pool_model.specs.Paths.{paths_of, path_at}
 use Rattle.row_model.specs.Boxes.{Box, prop_number, qual_number, flow_number}
 
@@ -83,22 +83,22 @@ lows n b = record {
   mixed = λ o k. least_product (b.low (qual_number n (n.out_pool o) k)) (b.high (qual_number n (n.out_pool o) k)) (b.low (flow_number n o)) (b.high (flow_number n o));
 }
 
--- the greatest that each variable may be in a box
+-- the greatest that each variable may be in a box: flows keep within the maxima of arcs too
 abbrev pub highs : Net → Box → PerVariable
 highs n b = record {
-  x = λ e. pos (min (n.source_max (n.feed_source e)) (n.pool_max (n.feed_pool e)));
+  x = λ e. pos (capped (n.feed_max e) (min (n.source_max (n.feed_source e)) (n.pool_max (n.feed_pool e))));
   y = λ o. b.high (flow_number n o);
-  z = λ e. pos (min (n.source_max (n.direct_source e)) (n.product_max (n.direct_product e)));
-  w = λ p. int_min (pos (n.source_max (n.feed_source (path_feed n p)))) (b.high (flow_number n (path_out n p)));
+  z = λ e. pos (capped (n.direct_max e) (min (n.source_max (n.direct_source e)) (n.product_max (n.direct_product e))));
+  w = λ p. int_min (pos (capped (n.feed_max (path_feed n p)) (n.source_max (n.feed_source (path_feed n p))))) (b.high (flow_number n (path_out n p)));
   proportion = λ e. b.high (prop_number n e);
   quality = λ l k. b.high (qual_number n l k);
   mixed = λ o k. greatest_product (b.low (qual_number n (n.out_pool o) k)) (b.high (qual_number n (n.out_pool o) k)) (b.low (flow_number n o)) (b.high (flow_number n o));
 }
 
--- what a unit of each variable costs, in picos a millionth
+-- what a unit of each variable costs, in picos a millionth: at its source and along its arc, less what it brings
 abbrev pub costs : Net → PerVariable
 costs n = record none {
-  x = λ e. n.source_cost (n.feed_source e);
-  y = λ o. neg_ℤ (n.price (n.out_product o));
-  z = λ e. n.source_cost (n.direct_source e) -ℤ n.price (n.direct_product e);
+  x = λ e. feed_delivered n e;
+  y = λ o. n.out_cost o -ℤ n.price (n.out_product o);
+  z = λ e. direct_delivered n e -ℤ n.price (n.direct_product e);
 }

@@ -4,10 +4,10 @@ ghost use Rattle.std.specs.Prelude.{◌≡◌, ◌≢◌, ◌⊎◌, ◌<◌, �
 ghost use Rattle.integers.specs.Sums.{int_sum_below, product_below, sum_at};
 ghost use Rattle.pool_model.specs.Network.{IsLimited, Net};
 ghost use Rattle.pool_model.specs.Plan.{Carries, Obeys, Plan, cost_of, factor, outflow};
-ghost use Rattle.pool_model.specs.Worked.{haverly, net_in, one_source, two_feeds};
+ghost use Rattle.pool_model.specs.Worked.{cleaned, desulfured, haverly, net_in, one_source, piped, two_feeds};
 ghost use Rattle.row_model.specs.Boxes.{Box, IsProper, LiesIn, coords, left_of, right_of, root, share};
 ghost use Rattle.row_model.specs.Variables.{PerVariable, by_number, costs, dot, highs, lows, variables};
-ghost use Rattle.row_model.specs.Catalogue.{row_at, rows};
+ghost use Rattle.row_model.specs.Catalogue.{mixed_least_row, mixed_most_row, path_least_row, path_most_row, row_at, rows};
 ghost use Rattle.row_model.specs.Envelopes.{second_side};
 ghost use Rattle.row_model.specs.Trees.{node_bound, tree_bound};
 ghost use Rattle.row_model.specs.WorkedTree.{small_tree};
@@ -90,6 +90,27 @@ pub fn worked_multipliers()
         number n b record { scale = 0; parts = record { row = 11; mult = pos 1 } ∷ [] } ≡ pos 262144 }
     ensures second_side { second_side (pos 1048576) record { a_low = pos 0; a_high = pos 1048576; b_low = pos 0; b_high = pos 100000000 }
         ≡ record { of_w = pos 1048576; of_a = neg_ℤ (pos 100000000); of_b = neg_ℤ (pos 1048576); constant = pos 104857600000000 } }
+{}
+
+/// Worked networks with arcs that cost and hold and pools that remove: costs and ends of variables, rows of limits, and the proof
+/// whose multiplier is the least that a unit costs at the pool.
+pub fn worked_treatment()
+    ensures feed_cost { (costs (net_in (desulfured (pos 500)))).x 0 ≡ pos 6500000 }
+    ensures out_cost { (costs (net_in piped)).y 0 ≡ neg_ℤ (pos 6) }
+    ensures direct_cost { (costs (net_in piped)).z 0 ≡ neg_ℤ (pos 1) }
+    ensures feed_end { let n = net_in (desulfured (pos 500)) in (highs n (root n)).x 0 ≡ pos 80000000 }
+    ensures path_end { let n = net_in (desulfured (pos 500)) in (highs n (root n)).w 0 ≡ pos 80000000 }
+    ensures out_end { let n = net_in piped in (highs n (root n)).y 0 ≡ pos 30 }
+    ensures direct_end { let n = net_in piped in (highs n (root n)).z 0 ≡ pos 7 }
+
+    ensures limit_parts { let r = path_most_row (net_in cleaned) record { product = 0; quality = 0; limit = pos 20 } in r.coefs.y 0 ≡ pos 20000 }
+    ensures path_parts { let r = path_most_row (net_in cleaned) record { product = 0; quality = 0; limit = pos 20 } in r.coefs.w 0 ≡ neg_ℤ (pos 15000) }
+    ensures direct_parts { let r = path_least_row (net_in cleaned) record { product = 0; quality = 0; limit = pos 15 } in r.coefs.z 0 ≡ pos 10000 }
+    ensures mixed_parts { let r = mixed_most_row (net_in cleaned) record { product = 0; quality = 0; limit = pos 20 } in r.coefs.mixed 0 0 ≡ neg_ℤ (pos 500) }
+    ensures mixed_direct { let r = mixed_least_row (net_in cleaned) record { product = 0; quality = 0; limit = pos 15 } in r.coefs.z 0 ≡ pos 10000 }
+
+    ensures priced { let n = net_in (desulfured (pos 500)) in
+        shown_by n (root n) record { scale = 1; parts = record { row = 1; mult = pos 6500000 } ∷ [] } ≡ bound (neg_ℤ (pos 250000000000000)) }
 {}
 
 /// The worked tree: the bounds of its nodes, and its own.

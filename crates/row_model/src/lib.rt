@@ -17,7 +17,8 @@
 //! Proofs above may cite the lemmas behind them, in `proofs/`: `RootBox` and `Halves`; `Numbering` and `PathSums` (coordinates,
 //! variables and paths by number); `Agreement` (what a proof shows rests on the ends of its box alone) and `Duality`; `TreeLaw`,
 //! `TreeBound` and `EntryLaw`. Beside them: `PRows` and `QRows` (the rows of P and of Q hold at the point of each plan that obeys),
-//! `RowSums` (sums of coefficients times variables, where most coefficients are 0) and `Shares` (a feed's share of its pool).
+//! `RowSums` (sums of coefficients times variables, where most coefficients are 0), `Brought` (what reaches a product of a quality, in
+//! parts of the scale) and `Shares` (a feed's share of its pool).
 #![tactic(auto)]
 
 mod laws;
@@ -26,7 +27,7 @@ mod tree_laws;
 
 pub use laws::{
     cost_law, ends_law, halves_law, multiplier_law, numbering_law, proof_law, root_law, shares_law,
-    worked_counts, worked_multipliers, worked_tree,
+    worked_counts, worked_multipliers, worked_treatment, worked_tree,
 };
 pub use row_laws::{envelope_law, row_law};
 pub use tree_laws::{entry_law, tree_law};

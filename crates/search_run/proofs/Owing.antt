@@ -55,8 +55,8 @@ module _ (n : Net) (limited : IsLimited n) (w : Written) (c : Cost) (costs : IsC
   pub base-above : 0 < c.base
   base-above = subst (λ (m : ℕ). 0 < m) (sym costs.base) costs.obeys.denominator
 
-  pub num-fits : unsigned_abs c.num ≤ 2 ^ 123
-  num-fits = subst (λ (z : ℤ). unsigned_abs z ≤ 2 ^ 123) (sym costs.num) (cost-fits n w limited costs.written costs.obeys)
+  pub num-fits : unsigned_abs c.num ≤ 2 ^ 124
+  num-fits = subst (λ (z : ℤ). unsigned_abs z ≤ 2 ^ 124) (sym costs.num) (cost-fits n w limited costs.written costs.obeys)
 
   pub target-is : (gap : ℤ) → rounded_up c.num c.base -ℤ gap ≡ target_of n gap w
   target-is gap = ap (λ (z : ℤ). rounded_up z c.base -ℤ gap) costs.num ∙ ap (λ (m : ℕ). rounded_up (cost_of n (plan_of n w)) m -ℤ gap) costs.base

@@ -1,19 +1,16 @@
 -- The target of a plan: how great its cost is, and that no better start has a lesser one.
-use Rattle.std.proofs.Common.{◌≡◌, ℕ, zero, suc, ◌*◌, ◌+◌, ◌^◌, ◌<◌, ◌≤◌, Some, ℤ, pos, neg_ℤ, ◌-ℤ◌, ◌*ℤ◌, ◌≤ℤ◌, ◌<ℤ◌, unsigned_abs, arith, sym, subst, ◌∙◌}
+use Rattle.std.proofs.Common.{◌≡◌, ℕ, ◌*◌, ◌^◌, ◌<◌, ◌≤◌, Some, ℤ, pos, neg_ℤ, ◌-ℤ◌, ◌*ℤ◌, ◌≤ℤ◌, ◌<ℤ◌, unsigned_abs, arith, sym, subst, ◌∙◌}
 use Rattle.std.proofs.lemmas.Int.{ints}
-use Rattle.std.proofs.Math.Nat.{mul-le-mul_left, mul-le-mul_right}
-use Rattle.integers.specs.Sums.{int_sum_below, sum_below}
 use Rattle.integers.proofs.Ring.{additive, linear, mul_comm_ℤ, neg-mul}
-use Rattle.integers.proofs.Order.{le-cancel, lt-cancel, abs-mul-le}
-use Rattle.integers.proofs.AtKey.{abs-int_sum_below_to, sum_below-mul}
+use Rattle.integers.proofs.Order.{le-cancel, lt-cancel}
 use Rattle.pool_model.specs.Network.{Net, IsLimited}
-use Rattle.pool_model.specs.Plan.{Plan, Written, IsWritten, Obeys, plan_of, cost_of, source_outflow, product_inflow}
+use Rattle.pool_model.specs.Plan.{Plan, Written, IsWritten, Obeys, plan_of, cost_of}
 use Rattle.pool_model.specs.Starting.{IsCheapestStart}
+use Rattle.pool_model.proofs.Sizes.{written-most, cost-most}
 use Rattle.row_model.specs.Boxes.{Box}
 use Rattle.row_model.specs.Entries.{Searched, IsCheaper}
 use Rattle.row_model.specs.Multipliers.{Shown, bound, no_plan, shown_by}
 use Rattle.box_space.specs.declared.coordinates.Form.{Form}
-use Rattle.plan_core.proofs.Supply.{room_of, abs-within}
 use Rattle.text_pieces.specs.Rounding.{rounded_up}
 use Rattle.text_pieces.proofs.Floors.{ceiling-ge, ceiling-gt}
 use Rattle.dual_rounding.specs.Answers.{IsAtMost}
@@ -25,52 +22,16 @@ use Rattle.search_run.proofs.Covering.{cheapest-starts, start-over-one, written-
 
 -- ---- how great a cost is
 
--- money for each unit of flows is at most so much
-term-most : (z : ℤ) (m : ℕ) → unsigned_abs z ≤ 10 ^ 12 → unsigned_abs (z *ℤ pos m) ≤ 10 ^ 12 * m
-term-most z m h = abs-mul-le z (pos m) (10 ^ 12) m h (omega arith)
-
-sum-most : (q : ℕ → ℤ) (g : ℕ → ℕ) (n : ℕ) → ((i : ℕ) → i < n → unsigned_abs (q i) ≤ 10 ^ 12) → unsigned_abs (int_sum_below (λ i. q i *ℤ pos (g i)) n) ≤ 10 ^ 12 * sum_below g n
-sum-most q g n h =
-    omega (arith, abs-int_sum_below_to (λ i. q i *ℤ pos (g i)) (λ i. 10 ^ 12 * g i) n (λ i lt. term-most (q i) (g i) (h i lt)), sum_below-mul (10 ^ 12) g n)
-
--- a sum of numbers that are at most a number
-sum-few : (g : ℕ → ℕ) (m n : ℕ) → ((i : ℕ) → i < n → g i ≤ m) → sum_below g n ≤ n * m
-sum-few g m zero h = omega arith
-sum-few g m (suc n) h = omega (arith, sum-few g m n (λ i lt. h i (omega arith)), h n (omega arith))
-
-apart : (a b : ℤ) (x y : ℕ) → unsigned_abs a ≤ x → unsigned_abs b ≤ y → unsigned_abs (a -ℤ b) ≤ x + y
-apart a b x y h k = omega (arith, ints)
-
 module _ (n : Net) (w : Written) (limited : IsLimited n) (written : IsWritten n w) (obeys : Obeys n (plan_of n w)) where
   abbrev p : Plan
   p = plan_of n w
 
-  abbrev purchases : ℤ
-  purchases = int_sum_below (λ i. n.source_cost i *ℤ pos (source_outflow n p i)) n.sources
-
-  abbrev revenue : ℤ
-  revenue = int_sum_below (λ j. n.price j *ℤ pos (product_inflow n p j)) n.products
-
-  spent : unsigned_abs purchases ≤ 10 ^ 12 * sum_below (source_outflow n p) n.sources
-  spent = sum-most n.source_cost (source_outflow n p) n.sources (λ i lt. abs-within (10 ^ 12) (n.source_cost i) (limited.source_costs i lt))
-
-  earned : unsigned_abs revenue ≤ 10 ^ 12 * sum_below (product_inflow n p) n.products
-  earned = sum-most n.price (product_inflow n p) n.products (λ j lt. abs-within (10 ^ 12) (n.price j) (limited.prices j lt))
-
-  pub cost-fits : unsigned_abs (cost_of n p) ≤ 2 ^ 123
-  cost-fits =
-      let room = room_of n w limited record { base = written.base; flow_base = written.flow_base; weights = written.weights; outflows = written.outflows; direct = written.direct }
-      (λ l broken. broken.1 (written.weight_sums l broken.0)) (λ j broken. absurd (omega (arith, obeys.carries.at_most j broken.0, broken.1))) in
-      omega (arith, apart purchases revenue (10 ^ 12 * sum_below (source_outflow n p) n.sources) (10 ^ 12 * sum_below (product_inflow n p) n.products) spent earned, room.supply, room.demand)
+  pub cost-fits : unsigned_abs (cost_of n p) ≤ 2 ^ 124
+  cost-fits = omega (arith, written-most n w limited written obeys)
 
   -- a cost for each unit of the denominator
   cost-near : unsigned_abs (cost_of n p) ≤ 10 ^ 28 * p.base
-  cost-near =
-      let out = sum-few (source_outflow n p) (p.base * 10 ^ 14) n.sources (λ i lt. omega (arith, obeys.carries.sources i lt, mul-le-mul_left p.base (limited.source_maxima i lt))) in
-      let into = sum-few (product_inflow n p) (p.base * 10 ^ 12) n.products (λ j lt. omega (arith, obeys.carries.at_most j lt, mul-le-mul_left p.base (limited.product_maxima j lt))) in
-      let most = mul-le-mul_right (p.base * 10 ^ 14) limited.sources in
-      let more = mul-le-mul_right (p.base * 10 ^ 12) limited.products in
-      omega (arith, apart purchases revenue (10 ^ 12 * sum_below (source_outflow n p) n.sources) (10 ^ 12 * sum_below (product_inflow n p) n.products) spent earned, out, into, most, more)
+  cost-near = omega (arith, cost-most n p limited obeys.carries)
 
   pub target-above : (gap : ℤ) → gap ≤ℤ pos (10 ^ 24) → neg_ℤ (pos (2 ^ 120)) <ℤ target_of n gap w
   target-above gap h = low (rounded_up (cost_of n p) p.base) gap h

@@ -1,5 +1,6 @@
 -- A way, without where it lies in memory, and the ways of the starting plans by number.
-use Rattle.std.specs.Prelude.{◌≡◌, ℕ, ◌-◌, ◌<◌, Option, Some, None, length}
+use Rattle.std.specs.Prelude.{◌≡◌, ℕ, ◌-◌, ◌<◌, Option, Some, None, length, ℤ}
+use Rattle.std.specs.Int.{int_min}
 use Rattle.pool_model.specs.Network.{Net}
 use Rattle.pool_model.specs.Paths.{paths_of, path_at}
 use Rattle.pool_model.specs.Starting as model
@@ -21,3 +22,8 @@ shown_way n (Direct e) = model.straight e
 abbrev pub IsStartWay : Net → ℕ → Option Way → Type 0
 IsStartWay n number None = number ≡ 0
 IsStartWay n number (Some way) = IsInRange n way × (0 < number) × (way_at n (number - 1) ≡ shown_way n way)
+
+-- the lesser of an amount and a maximum, if there is one
+abbrev pub capped : Option ℤ → ℤ → ℤ
+capped None amount = amount
+capped (Some most) amount = int_min most amount

@@ -19,7 +19,7 @@ pub struct Choice {
 pub fn cheapest(net: &Network) -> Option<Choice>
     // Promise: Of the numbers whose starting plans obey, the first of those that cost least is found; none only where none obeys
     ensures least { IsFirstLeast (StartObeys (net_of net.now)) (start_cost_of (net_of net.now)) (starts (net_of net.now)) result }
-    ensures size { IfSome result (λ best. unsigned_abs best.cost ≤ 2 * 10 ^ 24) }
+    ensures size { IfSome result (λ best. unsigned_abs best.cost ≤ 4 * 10 ^ 24) }
     ensures limited { IsLimited (net_of net.now) }
 {
     let [_, _, _, _, _, _, directs] = net.counts();

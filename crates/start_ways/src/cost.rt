@@ -1,9 +1,9 @@
 //! What a starting plan costs, where it obeys.
 
-ghost use Rattle.std.specs.Prelude.{◌≡◌, ◌<◌, ◌≤◌, ◌*◌, ◌^◌, ◌↔◌, pos, ◌-ℤ◌, ◌*ℤ◌, IfSome, IfNone, IsTrue, if◌then◌else◌, ◌==◌, unsigned_abs};
+ghost use Rattle.std.specs.Prelude.{◌≡◌, ◌<◌, ◌≤◌, ◌*◌, ◌^◌, ◌↔◌, pos, ◌+ℤ◌, ◌-ℤ◌, ◌*ℤ◌, IfSome, IfNone, IsTrue, if◌then◌else◌, ◌==◌, unsigned_abs};
 ghost use Rattle.pool_model.specs.Network.{net_of, IsLimited};
 ghost use Rattle.pool_model.specs.Plan.{Obeys, cost_of, plan_of};
-ghost use Rattle.pool_model.specs.Starting.{MeetsMinima, StartObeys, simple_plan, start_cost as start_cost_of, starts};
+ghost use Rattle.pool_model.specs.Starting.{MeetsMinima, StartObeys, simple_plan, start_cost as start_cost_of, starts, way_carriage};
 ghost use Rattle.start_ways.specs.Ways.{shown_way, IsInRange};
 
 use crate::way::{Way, ends, start_way, way_flow};
@@ -14,7 +14,7 @@ pub(crate) fn start_cost(net: &Network, number: u32) -> Option<i128>
     requires { number < starts (net_of net.now) }
     ensures obeys { IfSome result (λ _. StartObeys (net_of net.now) number) }
     ensures cost { IfSome result (λ c. c ≡ start_cost_of (net_of net.now) number) }
-    ensures size { IfSome result (λ c. unsigned_abs c ≤ 2 * 10 ^ 24) }
+    ensures size { IfSome result (λ c. unsigned_abs c ≤ 4 * 10 ^ 24) }
     ensures breaks { IfNone result (¬ StartObeys (net_of net.now) number) }
 {
     match start_way(net, number) {
@@ -29,13 +29,13 @@ fn way_cost(net: &Network, way: Way) -> Option<i128>
     requires { IsInRange (net_of net.now) way }
     ensures obeys { IfSome result (λ _. Obeys (net_of net.now) (plan_of (net_of net.now) (simple_plan (net_of net.now) (shown_way (net_of net.now) way)))) }
     ensures cost { IfSome result (λ c. c ≡ cost_of (net_of net.now) (plan_of (net_of net.now) (simple_plan (net_of net.now) (shown_way (net_of net.now) way)))) }
-    ensures size { IfSome result (λ c. unsigned_abs c ≤ 2 * 10 ^ 24) }
+    ensures size { IfSome result (λ c. unsigned_abs c ≤ 4 * 10 ^ 24) }
     ensures breaks { IfNone result (¬ Obeys (net_of net.now) (plan_of (net_of net.now) (simple_plan (net_of net.now) (shown_way (net_of net.now) way)))) }
 {
     let (source, product) = ends(net, way);
     let flow = way_flow(net, way);
     if meets_minima(net, product, flow) {
-        Some(earned(margin(net, source, product), flow))
+        Some(earned(margin(net, way, source, product), flow))
     } else {
         None
     }
@@ -62,22 +62,39 @@ fn taken(product: u32, flow: u64, other: u32) -> u64
     if product == other { flow } else { 0 }
 }
 
-/// What a unit costs more at the source than it brings at the product, in millionths of money.
-fn margin(net: &Network, source: u32, product: u32) -> i128
+/// What a unit costs more at the source and along the way than it brings at the product, in millionths of money.
+fn margin(net: &Network, way: Way, source: u32, product: u32) -> i128
+    requires way { IsInRange (net_of net.now) way }
     requires source { source < (net_of net.now).sources }
     requires product { product < (net_of net.now).products }
-    ensures value { result ≡ (net_of net.now).source_cost source -ℤ (net_of net.now).price product }
+    ensures value { let n = net_of net.now in result ≡ n.source_cost source +ℤ way_carriage n (shown_way n way) -ℤ n.price product }
+    ensures size { unsigned_abs result ≤ 4 * 10 ^ 12 }
+{
+    let price = net.product_price(product);
+    i128::from(net.source_cost(source)) + i128::from(carriage(net, way)) - i128::from(price)
+}
+
+/// What a unit along the arcs of a way costs, in millionths of money.
+fn carriage(net: &Network, way: Way) -> i64
+    requires { IsInRange (net_of net.now) way }
+    ensures value { result ≡ way_carriage (net_of net.now) (shown_way (net_of net.now) way) }
     ensures size { unsigned_abs result ≤ 2 * 10 ^ 12 }
 {
-    i128::from(net.source_cost(source)) - i128::from(net.product_price(product))
+    match way {
+        Way::Through(path) => {
+            let (feed, out) = net.path(path);
+            net.feed_cost(feed) + net.out_cost(out)
+        }
+        Way::Direct(direct) => net.direct_cost(direct),
+    }
 }
 
 /// A margin for each unit of a flow.
 fn earned(margin: i128, flow: u64) -> i128
-    requires margin { unsigned_abs margin ≤ 2 * 10 ^ 12 }
+    requires margin { unsigned_abs margin ≤ 4 * 10 ^ 12 }
     requires flow { flow ≤ 10 ^ 12 }
     ensures value { result ≡ margin *ℤ pos flow }
-    ensures size { unsigned_abs result ≤ 2 * 10 ^ 24 }
+    ensures size { unsigned_abs result ≤ 4 * 10 ^ 24 }
 {
     margin * i128::from(flow)
 }

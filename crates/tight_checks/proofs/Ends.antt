@@ -2,7 +2,7 @@
 use Rattle.std.proofs.Common.{◌≡◌, ℕ, ◌<◌, ℤ, pos, arith, refl, ap, ◌∙◌}
 use Rattle.std.specs.Int.{int_min}
 use Rattle.integers.proofs.Grids.{grid-below}
-use Rattle.pool_model.specs.Network.{Net, IsLimited}
+use Rattle.pool_model.specs.Network.{Net, IsLimited, capped}
 use Rattle.row_model.specs.Boxes.{Box, Agree, coords, prop_number, qual_number, flow_number}
 use Rattle.row_model.specs.Variables.{variables, by_number, path_feed, path_out, least_product, greatest_product, lows, highs}
 use Rattle.row_model.proofs.Numbering.{by_number-each}
@@ -40,7 +40,7 @@ module _ (n : Net) (b c : Box) (limited : IsLimited n) (a : Agree n b c) where
     x = λ e lt. refl;
     y = λ o lt. a.high (flow_number n o) (flow_there o lt);
     z = λ e lt. refl;
-    w = λ q lt. ap (λ z. int_min (pos (n.source_max (n.feed_source (path_feed n q)))) z) (a.high (flow_number n (path_out n q)) (flow_there (path_out n q) (path_out-below n q lt)));
+    w = λ q lt. ap (λ z. int_min (pos (capped (n.feed_max (path_feed n q)) (n.source_max (n.feed_source (path_feed n q))))) z) (a.high (flow_number n (path_out n q)) (flow_there (path_out n q) (path_out-below n q lt)));
     proportion = λ e lt. a.high (prop_number n e) (prop_there e lt);
     quality = λ l k lt lk. a.high (qual_number n l k) (qual_there l k lt lk);
     mixed = λ o k lt lk. products greatest_product (qual_number n (n.out_pool o) k) (flow_number n o) (qual_there (n.out_pool o) k (limited.out_pools o lt) lk) (flow_there o lt);

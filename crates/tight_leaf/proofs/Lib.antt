@@ -6,6 +6,8 @@ pub mod Parts
 pub mod EndFactors
 pub mod PlanValues
 pub mod RowCaps
+pub mod KindSums
+pub mod LimitWeights
 pub mod Rewriting
 pub mod Stops
 pub mod BoxPoints

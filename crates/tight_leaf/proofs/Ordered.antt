@@ -3,7 +3,7 @@ use Rattle.std.proofs.Common.{ℕ, ◌<◌, ℤ, pos, ◌*ℤ◌, ◌≤ℤ◌, 
 use Rattle.std.specs.Int.{int_min, int_max}
 use Rattle.std.proofs.lemmas.Int.{ints, clamps}
 use Rattle.integers.proofs.Grids.{grid-below}
-use Rattle.pool_model.specs.Network.{Net}
+use Rattle.pool_model.specs.Network.{Net, capped}
 use Rattle.row_model.specs.Boxes.{Box, Coord, IsProper, coords, flow_number, prop_number, qual_number, root_low}
 use Rattle.row_model.specs.Variables.{by_number, greatest_product, highs, least_product, lows, path_feed, path_out, variables}
 use Rattle.row_model.proofs.Numbering.{HoldsByKind, by_number-each, coord_at-flow}
@@ -37,7 +37,7 @@ module _ (n : Net) (b : Box) (proper : IsProper n b) where
         x = λ e h. omega (arith, ints);
         y = λ o h. proper.in_order (flow_number n o) (omega (arith, h));
         z = λ e h. omega (arith, ints);
-        w = λ q h. path-ordered (n.source_max (n.feed_source (path_feed n q))) (b.high (flow_number n (path_out n q))) (flow-high (path_out n q) (path_out-below n q h));
+        w = λ q h. path-ordered (capped (n.feed_max (path_feed n q)) (n.source_max (n.feed_source (path_feed n q)))) (b.high (flow_number n (path_out n q))) (flow-high (path_out n q) (path_out-below n q h));
         proportion = λ e h. proper.in_order (prop_number n e) (omega (arith, h));
         quality = λ l k h j. proper.in_order (qual_number n l k) (omega (arith, grid-below n.pools n.qualities l k h j));
         mixed = λ o k h j. products-ordered (b.low (qual_number n (n.out_pool o) k)) (b.high (qual_number n (n.out_pool o) k)) (b.low (flow_number n o)) (b.high (flow_number n o));

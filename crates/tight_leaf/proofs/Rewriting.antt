@@ -1,5 +1,5 @@
 -- The linear program of a box, written again for the run: it is narrow, it has the box's rows, ends and costs, and the run can start.
-use Rattle.std.proofs.Common.{◌≡◌, ◌≢◌, ℕ, zero, suc, ◌+◌, ◌*◌, ◌^◌, ◌<◌, ◌≤◌, max, ◌∙◌, inl, inr, Bool, false, ◌==◌, if◌then◌else◌, List, [], ◌∷◌, ◌++◌, length, get_or, map, All, ℤ, pos, neg_ℤ, ◌-ℤ◌, unsigned_abs, sym, ap, subst, refl, arith}
+use Rattle.std.proofs.Common.{◌≡◌, ◌≢◌, ℕ, zero, suc, ◌+◌, ◌*◌, ◌^◌, ◌<◌, ◌≤◌, max, ◌∙◌, inl, inr, Bool, false, ◌==◌, if◌then◌else◌, List, [], ◌∷◌, ◌++◌, length, get_or, map, All, ℤ, pos, ◌+ℤ◌, ◌-ℤ◌, unsigned_abs, sym, ap, subst, refl, arith}
 use Rattle.std.proofs.lemmas.Int.{ints}
 use Rattle.std.proofs.lemmas.List.{get_or-map, length-map}
 use Rattle.std.proofs.lemmas.List.Elements.{All-weaker}
@@ -131,25 +131,26 @@ terms-written cs f n e =
 
 -- ---- a linear program of a box is narrow
 
-costs-small : (n : Net) → IsLimited n → HoldsByKind n (λ x y. unsigned_abs x ≤ 2 * 10 ^ 12) (costs n) (costs n)
+costs-small : (n : Net) → IsLimited n → HoldsByKind n (λ x y. unsigned_abs x ≤ 3 * 10 ^ 12) (costs n) (costs n)
 costs-small n limited = record {
-  x = λ e h. one (n.source_cost (n.feed_source e)) (limited.source_costs (n.feed_source e) (limited.feed_sources e h));
-  y = λ o h. turned (n.price (n.out_product o)) (limited.prices (n.out_product o) (limited.out_products o h));
-  z = λ e h. less (n.source_cost (n.direct_source e)) (n.price (n.direct_product e)) (limited.source_costs (n.direct_source e) (limited.direct_sources e h)) (limited.prices (n.direct_product e) (limited.direct_products e h));
+  x = λ e h. bought (n.source_cost (n.feed_source e)) (n.feed_cost e) (limited.source_costs (n.feed_source e) (limited.feed_sources e h)) (limited.feed_costs e h);
+  y = λ o h. sold (n.out_cost o) (n.price (n.out_product o)) (limited.out_costs o h) (limited.prices (n.out_product o) (limited.out_products o h));
+  z = λ e h. passed_on (n.source_cost (n.direct_source e)) (n.direct_cost e) (n.price (n.direct_product e)) (limited.source_costs (n.direct_source e) (limited.direct_sources e h))
+      (limited.direct_costs e h) (limited.prices (n.direct_product e) (limited.direct_products e h));
   w = λ q h. omega arith;
   proportion = λ e h. omega arith;
   quality = λ l k h j. omega arith;
   mixed = λ o k h j. omega arith;
 }
   where
-    one : (z : ℤ) → IsWithin (10 ^ 12) z → unsigned_abs z ≤ 2 * 10 ^ 12
-    one z (low, high) = omega (arith, ints)
+    bought : (a b : ℤ) → IsWithin (10 ^ 12) a → IsWithin (10 ^ 12) b → unsigned_abs (a +ℤ b) ≤ 3 * 10 ^ 12
+    bought a b (al, ah) (bl, bh) = omega (arith, ints)
 
-    turned : (z : ℤ) → IsWithin (10 ^ 12) z → unsigned_abs (neg_ℤ z) ≤ 2 * 10 ^ 12
-    turned z (low, high) = omega (arith, ints)
+    sold : (a b : ℤ) → IsWithin (10 ^ 12) a → IsWithin (10 ^ 12) b → unsigned_abs (a -ℤ b) ≤ 3 * 10 ^ 12
+    sold a b (al, ah) (bl, bh) = omega (arith, ints)
 
-    less : (a b : ℤ) → IsWithin (10 ^ 12) a → IsWithin (10 ^ 12) b → unsigned_abs (a -ℤ b) ≤ 2 * 10 ^ 12
-    less a b (al, ah) (bl, bh) = omega (arith, ints)
+    passed_on : (a b c : ℤ) → IsWithin (10 ^ 12) a → IsWithin (10 ^ 12) b → IsWithin (10 ^ 12) c → unsigned_abs (a +ℤ b -ℤ c) ≤ 3 * 10 ^ 12
+    passed_on a b c (al, ah) (bl, bh) (cl, ch) = omega (arith, ints)
 
 short-list : (xs : List ℤ) (f : ℕ → ℤ) (n : ℕ) → xs ≡ tabulate f n → ((i : ℕ) → i < n → unsigned_abs (f i) ≤ 10 ^ 24) → All IsShort xs
 short-list xs f n e h = subst (λ (l : List ℤ). All IsShort l) (sym e) (All-tabulate IsShort f n (λ i lt. let le = h i lt in omega (arith, le)))
@@ -170,7 +171,7 @@ module _ (n : Net) (form : Form) (b : Box) (lp : Lp) (limited : IsLimited n) (pr
     low = short-list lp.low.items (by_number n (lows n b)) (variables n) is.over.low (λ i lt. (end-capped n b limited proper i lt).0);
     high = short-list lp.high.items (by_number n (highs n b)) (variables n) is.over.high (λ i lt. (end-capped n b limited proper i lt).1);
     cost = short-list lp.cost.items (by_number n (costs n)) (variables n) is.over.costs
-        (λ i lt. let le = by_number-each n (λ x y. unsigned_abs x ≤ 2 * 10 ^ 12) (costs n) (costs n) (costs-small n limited) i lt in omega (arith, le));
+        (λ i lt. let le = by_number-each n (λ x y. unsigned_abs x ≤ 3 * 10 ^ 12) (costs n) (costs n) (costs-small n limited) i lt in omega (arith, le));
     coefs = All-weaker (IsRowIn n b) (λ (r : LpRow). All (λ (t : Term). IsShort t.coef) r.terms.items)
         (λ r h. short-terms r.terms.items (coef_at n b r.id) (variables n) h.written.terms h.written.small) lp.rows.items is.over.rows;
   }
@@ -258,7 +259,7 @@ module _ (n : Net) (form : Form) (b : Box) (lp : Lp) (program : BoundedProgram) 
 
   -- ---- the run can start
 
-  term-size : (id v : ℕ) → id < rows n → v < variables n → unsigned_abs (coef_at n b id v) * max (unsigned_abs (by_number n (lows n b) v)) (unsigned_abs (by_number n (highs n b) v)) ≤ 10 ^ 26
+  term-size : (id v : ℕ) → id < rows n → v < variables n → unsigned_abs (coef_at n b id v) * max (unsigned_abs (by_number n (lows n b) v)) (unsigned_abs (by_number n (highs n b) v)) ≤ 2 * 10 ^ 28
   unfolding coef_at
   term-size id v lt hv = term-capped n b limited proper id v lt hv
 
@@ -278,11 +279,11 @@ module _ (n : Net) (form : Form) (b : Box) (lp : Lp) (program : BoundedProgram) 
         let id = row_number n form r in
         let known : id < rows n = subst (λ (i : ℕ). i < rows n) t.1.id t.1.is_row.known in
         let constant : unsigned_abs (p.constant r) ≤ 10 ^ 24 = subst (λ (z : ℤ). unsigned_abs z ≤ 10 ^ 24) (sym (box-program.constant r lt)) (constant-size id known) in
-        let sum : sum_below (λ v. unsigned_abs (p.coef r v) * end_size p v) p.variables ≤ sum_below (λ v. 10 ^ 26) p.variables =
-        sum_below-le (λ v. unsigned_abs (p.coef r v) * end_size p v) (λ v. 10 ^ 26) p.variables
+        let sum : sum_below (λ v. unsigned_abs (p.coef r v) * end_size p v) p.variables ≤ sum_below (λ v. 2 * 10 ^ 28) p.variables =
+        sum_below-le (λ v. unsigned_abs (p.coef r v) * end_size p v) (λ v. 2 * 10 ^ 28) p.variables
         (λ v hv.
         let vn : v < variables n = omega (arith, count-variables, hv) in
-        subst (λ (k : ℕ). k ≤ 10 ^ 26)
+        subst (λ (k : ℕ). k ≤ 2 * 10 ^ 28)
         (ap (λ (z : ℤ). unsigned_abs z * max (unsigned_abs (by_number n (lows n b) v)) (unsigned_abs (by_number n (highs n b) v))) (sym (coef-is r v lt hv))
         ∙ ap (λ (z : ℤ). unsigned_abs (p.coef r v) * max (unsigned_abs z) (unsigned_abs (by_number n (highs n b) v))) (sym (box-program.low v hv))
         ∙ ap (λ (z : ℤ). unsigned_abs (p.coef r v) * max (unsigned_abs (p.low v)) (unsigned_abs z)) (sym (box-program.high v hv)))
@@ -295,5 +296,5 @@ module _ (n : Net) (form : Form) (b : Box) (lp : Lp) (program : BoundedProgram) 
       same-sum k zero = omega arith
       same-sum k (suc m) = omega (arith, same-sum k m)
 
-      total : (c s m : ℕ) → c ≤ 10 ^ 24 → m ≤ 4096 → s ≤ sum_below (λ v. 10 ^ 26) m → c + s < 2 ^ 127
-      total c s m hc hm hs = omega (arith, same-sum (10 ^ 26) m)
+      total : (c s m : ℕ) → c ≤ 10 ^ 24 → m ≤ 4096 → s ≤ sum_below (λ v. 2 * 10 ^ 28) m → c + s < 2 ^ 127
+      total c s m hc hm hs = omega (arith, same-sum (2 * 10 ^ 28) m)

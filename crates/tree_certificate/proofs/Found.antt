@@ -98,18 +98,18 @@ claim_same n w z num g b costs over between = rw between (rw costs (rw over refl
 
 -- ---- sizes
 
--- a bound times a base has 124 bits: it is no greater than the cost, and no lower than the reach bound allows
-product_small : (z num : ℤ) (b : ℕ) → neg_ℤ (pos (128 * 10 ^ 24)) ≤ℤ z → b ≤ 65536 * 1048576 → (z *ℤ pos b) ≤ℤ num → unsigned_abs num ≤ 2 ^ 123 → unsigned_abs (z *ℤ pos b) ≤ 2 ^ 123
+-- a bound times a base has 125 bits: it is no greater than the cost, and no lower than the reach bound allows
+product_small : (z num : ℤ) (b : ℕ) → neg_ℤ (pos (256 * 10 ^ 24)) ≤ℤ z → b ≤ 65536 * 1048576 → (z *ℤ pos b) ≤ℤ num → unsigned_abs num ≤ 2 ^ 124 → unsigned_abs (z *ℤ pos b) ≤ 2 ^ 124
 product_small (pos k) num b low few above size = omega (arith, ints, above, size)
 product_small (negsuc k) num b low few above size =
-    let small : suc k ≤ 128 * 10 ^ 24 = omega (arith, ints, low) in
-    let product : suc k * b ≤ 128 * 10 ^ 24 * (65536 * 1048576) = mul-le-mul small few in
+    let small : suc k ≤ 256 * 10 ^ 24 = omega (arith, ints, low) in
+    let product : suc k * b ≤ 256 * 10 ^ 24 * (65536 * 1048576) = mul-le-mul small few in
     rw unsigned_abs-mul (omega (arith, product))
 
-pub product_fits : (z num : ℤ) (b : ℕ) → neg_ℤ (pos (128 * 10 ^ 24)) ≤ℤ z → b ≤ 65536 * 1048576 → (z *ℤ pos b) ≤ℤ num → unsigned_abs num ≤ 2 ^ 123 → FitsSigned w128 (z *ℤ pos b)
+pub product_fits : (z num : ℤ) (b : ℕ) → neg_ℤ (pos (256 * 10 ^ 24)) ≤ℤ z → b ≤ 65536 * 1048576 → (z *ℤ pos b) ≤ℤ num → unsigned_abs num ≤ 2 ^ 124 → FitsSigned w128 (z *ℤ pos b)
 product_fits z num b low few above size = omega (arith, ints, product_small z num b low few above size)
 
-pub gap_fits : (z num : ℤ) (b : ℕ) → neg_ℤ (pos (128 * 10 ^ 24)) ≤ℤ z → b ≤ 65536 * 1048576 → (z *ℤ pos b) ≤ℤ num → unsigned_abs num ≤ 2 ^ 123 → FitsSigned w128 (num -ℤ z *ℤ pos b)
+pub gap_fits : (z num : ℤ) (b : ℕ) → neg_ℤ (pos (256 * 10 ^ 24)) ≤ℤ z → b ≤ 65536 * 1048576 → (z *ℤ pos b) ≤ℤ num → unsigned_abs num ≤ 2 ^ 124 → FitsSigned w128 (num -ℤ z *ℤ pos b)
 gap_fits z num b low few above size = omega (arith, ints, product_small z num b low few above size, size)
 
 -- the same of numbers that are read
@@ -118,22 +118,22 @@ read_product z y b fits e few =
     let base : FitsSigned w128 (pos b) = omega (arith, ints, few) in
     rw (to_z-of_z w128 z fits) (rw e (rw (to_z-of_z w128 (pos b) base) refl))
 
-pub read_product_fits : (z num y : ℤ) (b : ℕ) → FitsSigned w128 z → y ≡ pos b → neg_ℤ (pos (128 * 10 ^ 24)) ≤ℤ z → b ≤ 65536 * 1048576 → (z *ℤ pos b) ≤ℤ num → unsigned_abs num ≤ 2 ^ 123
+pub read_product_fits : (z num y : ℤ) (b : ℕ) → FitsSigned w128 z → y ≡ pos b → neg_ℤ (pos (256 * 10 ^ 24)) ≤ℤ z → b ≤ 65536 * 1048576 → (z *ℤ pos b) ≤ℤ num → unsigned_abs num ≤ 2 ^ 124
     → FitsSigned w128 (to_z w128 (of_z w128 z) *ℤ to_z w128 (of_z w128 y))
 read_product_fits z num y b fits e low few above size = rw (read_product z y b fits e few) (product_fits z num b low few above size)
 
-read_gap : (z num y : ℤ) (b : ℕ) → FitsSigned w128 num → FitsSigned w128 z → y ≡ pos b → neg_ℤ (pos (128 * 10 ^ 24)) ≤ℤ z → b ≤ 65536 * 1048576 → (z *ℤ pos b) ≤ℤ num → unsigned_abs num ≤ 2 ^ 123
+read_gap : (z num y : ℤ) (b : ℕ) → FitsSigned w128 num → FitsSigned w128 z → y ≡ pos b → neg_ℤ (pos (256 * 10 ^ 24)) ≤ℤ z → b ≤ 65536 * 1048576 → (z *ℤ pos b) ≤ℤ num → unsigned_abs num ≤ 2 ^ 124
     → to_z w128 (of_z w128 num) -ℤ to_z w128 (of_z w128 (to_z w128 (of_z w128 z) *ℤ to_z w128 (of_z w128 y))) ≡ num -ℤ z *ℤ pos b
 read_gap z num y b wide fits e low few above size =
     rw (read_product z y b fits e few) (rw (to_z-of_z w128 num wide) (rw (to_z-of_z w128 (z *ℤ pos b) (product_fits z num b low few above size)) refl))
 
-pub read_gap_fits : (z num y : ℤ) (b : ℕ) → FitsSigned w128 num → FitsSigned w128 z → y ≡ pos b → neg_ℤ (pos (128 * 10 ^ 24)) ≤ℤ z →
-    b ≤ 65536 * 1048576 → (z *ℤ pos b) ≤ℤ num → unsigned_abs num ≤ 2 ^ 123
+pub read_gap_fits : (z num y : ℤ) (b : ℕ) → FitsSigned w128 num → FitsSigned w128 z → y ≡ pos b → neg_ℤ (pos (256 * 10 ^ 24)) ≤ℤ z →
+    b ≤ 65536 * 1048576 → (z *ℤ pos b) ≤ℤ num → unsigned_abs num ≤ 2 ^ 124
     → FitsSigned w128 (to_z w128 (of_z w128 num) -ℤ to_z w128 (of_z w128 (to_z w128 (of_z w128 z) *ℤ to_z w128 (of_z w128 y))))
 read_gap_fits z num y b wide fits e low few above size = rw (read_gap z num y b wide fits e low few above size) (gap_fits z num b low few above size)
 
-pub read_gap_is : (z num y : ℤ) (b : ℕ) → FitsSigned w128 num → FitsSigned w128 z → y ≡ pos b → neg_ℤ (pos (128 * 10 ^ 24)) ≤ℤ z →
-    b ≤ 65536 * 1048576 → (z *ℤ pos b) ≤ℤ num → unsigned_abs num ≤ 2 ^ 123
+pub read_gap_is : (z num y : ℤ) (b : ℕ) → FitsSigned w128 num → FitsSigned w128 z → y ≡ pos b → neg_ℤ (pos (256 * 10 ^ 24)) ≤ℤ z →
+    b ≤ 65536 * 1048576 → (z *ℤ pos b) ≤ℤ num → unsigned_abs num ≤ 2 ^ 124
     → to_z w128 (of_z w128 (to_z w128 (of_z w128 num) -ℤ to_z w128 (of_z w128 (to_z w128 (of_z w128 z) *ℤ to_z w128 (of_z w128 y))))) ≡ num -ℤ z *ℤ pos b
 read_gap_is z num y b wide fits e low few above size =
     rw (read_gap z num y b wide fits e low few above size) (to_z-of_z w128 (num -ℤ z *ℤ pos b) (gap_fits z num b low few above size))
@@ -155,8 +155,8 @@ small_base n w c cost = subst (λ (b : ℕ). b ≤ 65536 * 1048576) (sym cost.ba
 low_of : (r z : ℤ) (m : ℕ) → unsigned_abs r ≤ m → r ≤ℤ z → neg_ℤ (pos m) ≤ℤ z
 low_of r z m h k = omega (arith, ints, h, k)
 
-pub tree_low : (n : Net) (tree : Tree) (b : Option ℤ) → unsigned_abs (reach_bound n) ≤ 128 * 10 ^ 24 → b ≡ tree_bound n tree → ForSome b (λ z. neg_ℤ (pos (128 * 10 ^ 24)) ≤ℤ z)
-tree_low n tree b reach is z e = low_of (reach_bound n) z (128 * 10 ^ 24) reach (subst (AtLeast (reach_bound n)) (sym is ∙ e) (tree-above n tree))
+pub tree_low : (n : Net) (tree : Tree) (b : Option ℤ) → unsigned_abs (reach_bound n) ≤ 256 * 10 ^ 24 → b ≡ tree_bound n tree → ForSome b (λ z. neg_ℤ (pos (256 * 10 ^ 24)) ≤ℤ z)
+tree_low n tree b reach is z e = low_of (reach_bound n) z (256 * 10 ^ 24) reach (subst (AtLeast (reach_bound n)) (sym is ∙ e) (tree-above n tree))
 
 -- a bound that holds, where there is one
 pub held_bound : (n : Net) (o : Option ℤ) → MatchOption o (HasNoPlan n) (IsBound n) → ForSome o (IsBound n)

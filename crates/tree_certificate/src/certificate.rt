@@ -67,7 +67,7 @@ fn claim_of(net: &Network, best: Option<WrittenPlan>, bound: Option<i128>) -> Cl
     requires written { ForSome (option_map shown_plan best) (IsWritten (net_of net.now)) }
     requires obeys { ForSome (option_map shown_plan best) (λ w. Obeys (net_of net.now) (written_plan (net_of net.now) w)) }
     requires holds { ForSome bound (IsBound (net_of net.now)) }
-    requires low { ForSome bound (λ z. neg_ℤ (pos (128 * 10 ^ 24)) ≤ℤ z) }
+    requires low { ForSome bound (λ z. neg_ℤ (pos (256 * 10 ^ 24)) ≤ℤ z) }
     ensures { shown_claim result ≡ claim_by (net_of net.now) (option_map shown_plan best) bound }
 {
     match (best, bound) {
@@ -82,7 +82,7 @@ fn gap(net: &Network, plan: WrittenPlan, bound: i128) -> Claim
     requires written { IsWritten (net_of net.now) (shown_plan plan) }
     requires obeys { Obeys (net_of net.now) (written_plan (net_of net.now) (shown_plan plan)) }
     requires holds { IsBound (net_of net.now) bound }
-    requires low { neg_ℤ (pos (128 * 10 ^ 24)) ≤ℤ bound }
+    requires low { neg_ℤ (pos (256 * 10 ^ 24)) ≤ℤ bound }
     ensures { shown_claim result ≡ gap_of (net_of net.now) (shown_plan plan) bound }
 {
     let cost = cost_of(net, &plan);
@@ -100,16 +100,16 @@ fn cost_of(net: &Network, plan: &WrittenPlan) -> Cost
     requires written { IsWritten (net_of net.now) (shown_plan plan.now) }
     requires obeys { Obeys (net_of net.now) (written_plan (net_of net.now) (shown_plan plan.now)) }
     ensures cost { IsCostOf (net_of net.now) (shown_plan plan.now) result }
-    ensures size { unsigned_abs result.num ≤ 2 ^ 123 }
+    ensures size { unsigned_abs result.num ≤ 2 ^ 124 }
 {
     check_plan(net, plan).unwrap()
 }
 
 /// What lies between a bound and a cost above it, over the cost's base.
 fn gap_between(cost: Cost, bound: i128) -> i128
-    requires size { unsigned_abs cost.num ≤ 2 ^ 123 }
+    requires size { unsigned_abs cost.num ≤ 2 ^ 124 }
     requires few { cost.base ≤ 65536 * 1048576 }
-    requires low { neg_ℤ (pos (128 * 10 ^ 24)) ≤ℤ bound }
+    requires low { neg_ℤ (pos (256 * 10 ^ 24)) ≤ℤ bound }
     requires above { (bound *ℤ pos cost.base) ≤ℤ cost.num }
     ensures { result ≡ cost.num -ℤ bound *ℤ pos cost.base }
 {

@@ -15,7 +15,10 @@ mod literature;
 mod small;
 
 pub use literature::{BEN_TAL_4, HAVERLY_1, HAVERLY_2, HAVERLY_3};
-pub use small::{AS_TRIALS, CANONICAL_ONE_DIRECT, FAR_APART, ONE_DIRECT, TWO_FEEDS, TWO_POOLS};
+pub use small::{
+    AS_TRIALS, CANONICAL_DESULFURED, CANONICAL_ONE_DIRECT, DESULFURED, FAR_APART, ONE_DIRECT,
+    TWO_FEEDS, TWO_POOLS,
+};
 
 /// The network that the text is a file of.
 pub fn network(alloc: Global, text: &str) -> Result<Network, ReadNet>

@@ -10,6 +10,20 @@ pub const CANONICAL_ONE_DIRECT: &[u8] =
     b"{\"arcs\":[[\"A\",\"X\"]],\"pools\":[],\"products\":[{\"least\":{},\"max\":100,\"min\":0,\"most\":{\"sulfur\":3},\"name\":\"X\",\
     \"price\":9}],\"qualities\":[\"sulfur\"],\"sources\":[{\"cost\":6,\"max\":100,\"name\":\"A\",\"quality\":{\"sulfur\":3}}],\"version\":1}";
 
+/// Of version 2: source A feeds pool P, which removes half of the sulfur and sends to X. A unit along the feed costs 0.5, and it carries
+/// 80 at most.
+pub const DESULFURED: &str =
+    r#"{"version":2,"qualities":["sulfur"],"sources":[{"name":"A","cost":6,"max":100,"quality":{"sulfur":3}}],
+"pools":[{"name":"P","ratio":{"sulfur":500}}],"products":[{"name":"X","price":9,"max":100,"most":{"sulfur":"1.5"}}],
+"arcs":[{"from":"A","to":"P","cost":"0.5","max":80},["P","X"]]}"#;
+
+/// Its canonical text, by hand from the page on formats.
+pub const CANONICAL_DESULFURED: &[u8] =
+    b"{\"arcs\":[{\"cost\":\"0.5\",\"from\":\"A\",\"max\":80,\"to\":\"P\"},{\"cost\":0,\"from\":\"P\",\"to\":\"X\"}],\
+    \"pools\":[{\"max\":100,\"name\":\"P\",\"ratio\":{\"sulfur\":500}}],\"products\":[{\"least\":{},\"max\":100,\"min\":0,\
+    \"most\":{\"sulfur\":\"1.5\"},\"name\":\"X\",\"price\":9}],\"qualities\":[\"sulfur\"],\
+    \"sources\":[{\"cost\":6,\"max\":100,\"name\":\"A\",\"quality\":{\"sulfur\":3}}],\"version\":2}";
+
 /// Sources A and B feed pool P, which sends at most 100 to X, of any quality.
 pub const TWO_FEEDS: &str =
     r#"{"version":1,"qualities":["sulfur"],"sources":[{"name":"A","cost":6,"quality":{"sulfur":3}},

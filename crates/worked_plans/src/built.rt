@@ -7,12 +7,14 @@ ghost use Rattle.network_parts.specs.Parts.{rows_of};
 use blend_network::Network;
 use edge_io::Memory;
 use network_checks::build_network;
-use network_parts::{Parts, ProductRow, SourceRow};
+use network_parts::{ArcRow, Parts, ProductRow, SourceRow};
 use network_text::write_canonical;
 use plan_core::{Way, simple_plan};
 use std::alloc::{AllocError, Global};
 use std::test::Fail;
-use worked_networks::{HAVERLY_1, network};
+use worked_networks::{
+    CANONICAL_DESULFURED, CANONICAL_ONE_DIRECT, DESULFURED, HAVERLY_1, ONE_DIRECT, network,
+};
 
 /// A source of cost 1 without a maximum.
 fn source(alloc: Global, name: &str) -> Result<SourceRow, AllocError>
@@ -41,9 +43,14 @@ fn product(alloc: Global, name: &str, units: u8) -> Result<ProductRow, AllocErro
     })
 }
 
-/// The two ends of an arc.
-fn arc(alloc: Global, from: &str, to: &str) -> Result<(String, String), AllocError> {
-    Ok((String::from_str(alloc, from)?, String::from_str(alloc, to)?))
+/// An arc between two ends, which costs nothing and has no maximum.
+fn arc(alloc: Global, from: &str, to: &str) -> Result<ArcRow, AllocError> {
+    Ok(ArcRow {
+        from: String::from_str(alloc, from)?,
+        to: String::from_str(alloc, to)?,
+        cost: 0,
+        max: None,
+    })
 }
 
 /// Source A sends to the products X and Y, which take 30 and 20. There are no qualities.
@@ -77,6 +84,33 @@ fn a_network_is_built_of_its_rows(rt: HostRuntime) -> Result<(), Fail> {
         \"max\":50,\"name\":\"A\",\"quality\":{}}],\"version\":1}";
     let text = built(rt.alloc())?;
     assert_eq!(rt; text.as_slice(), expected.as_bytes());
+    Ok(())
+}
+
+/// The canonical text of the network of a file.
+fn canonical(alloc: Global, file: &str) -> Result<Vec<u8>, Fail> {
+    let net = network(alloc, file)?;
+    Ok(write_canonical(alloc, &net)?)
+}
+
+/// A text has version 1 where that can say the network, also where the file has version 2, says ratios of 1000, costs of 0 and no maxima.
+#[test]
+fn a_text_has_the_first_version_that_says_it(rt: HostRuntime) -> Result<(), Fail> {
+    let alloc = rt.alloc();
+    let later = ONE_DIRECT.replace(alloc, "\"version\":1", "\"version\":2")?;
+    let object = later.replace(
+        alloc,
+        "[\"A\",\"X\"]",
+        "{\"to\":\"X\",\"from\":\"A\",\"cost\":\"0.0\"}",
+    )?;
+    for (file, text) in [
+        (ONE_DIRECT, CANONICAL_ONE_DIRECT),
+        (later.as_str(), CANONICAL_ONE_DIRECT),
+        (object.as_str(), CANONICAL_ONE_DIRECT),
+        (DESULFURED, CANONICAL_DESULFURED),
+    ] {
+        assert_eq!(rt; canonical(alloc, file)?.as_slice(), text, "of {file}");
+    }
     Ok(())
 }
 

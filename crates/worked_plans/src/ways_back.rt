@@ -1,5 +1,5 @@
-//! Plans of points of the exact programs, and why other points have none: of Haverly's network, and of one direct. The cases are a table
-//! of text, a case a line.
+//! Plans of points of the exact programs, and why other points have none: of Haverly's network, of one direct, and of a pool that removes
+//! half of the sulfur. The cases are a table of text, a case a line.
 
 use blend_network::Network;
 use form_plans::{p, pq, q};
@@ -8,7 +8,7 @@ use program_points::{PropPoint, QualPoint};
 use std::alloc::Global;
 use std::str::FromStr;
 use std::test::Fail;
-use worked_networks::{HAVERLY_1, ONE_DIRECT, network};
+use worked_networks::{DESULFURED, HAVERLY_1, ONE_DIRECT, network};
 
 /// A form, a network and a point, and its plan or why there is none. `p-again` asks for the plan of the point of the plan.
 ///
@@ -22,6 +22,9 @@ use worked_networks::{HAVERLY_1, ONE_DIRECT, network};
 /// that don't carry, a product that takes too much, sulfur that doesn't flow out, sulfur above its most. Behind them is one millionth of A
 /// in so much that parts are over 2^20, and over 2^21: the least base is within its limit, and above it. The points of one direct are so
 /// many parts of a millionth of A to X; the last has a quality, of which that network has none.
+///
+/// To the pool that removes half go 80 of A at the most: as much as the arc carries, and a part of a millionth more. What enters has 3 of
+/// sulfur and what leaves 1.5, as much as the product may have; a point of P has what enters.
 const POINTS: &str = "\
 pq haverly: 1 1, 0 1, 0 100000000, 0 100000000, 0 100000000, 0 0 0 100000000 = Ok(WrittenPlan { base: 1, flow_base: 1, weights: [0, 1], outflows: [0, 100000000], direct: [0, 100000000] })
 pq haverly: 6 4, 0 4, 0 9, 0 9, 0 3, 0 0 0 9 = Ok(WrittenPlan { base: 4, flow_base: 2, weights: [0, 4], outflows: [0, 3], direct: [0, 1] })
@@ -64,6 +67,14 @@ p direct: 65537 1, -, -, -, 1, - = Err(TooFine)
 p direct: 131074 1, -, -, -, 2, - = Err(TooFine)
 p direct: 65537 1, -, -, -, 6553700000001, - = Err(NotAPoint)
 p direct: 65536 1, 0, -, -, 1, - = Err(NotAPoint)
+pq desulfured: 1 1, 1, 80000000, 80000000, -, 80000000 = Ok(WrittenPlan { base: 1, flow_base: 1, weights: [1], outflows: [80000000], direct: [] })
+pq desulfured: 1 1, 1, 80000001, 80000001, -, 80000001 = Err(NotAPoint)
+q desulfured: 2 1, 1, 160000000, 160000000, -, 160000000 = Ok(WrittenPlan { base: 1, flow_base: 1, weights: [1], outflows: [80000000], direct: [] })
+q desulfured: 2 1, 1, 160000001, 160000001, -, 160000001 = Err(NotAPoint)
+p desulfured: 1 1, 3000000, 80000000, 80000000, -, 240000000000000 = Ok(WrittenPlan { base: 1, flow_base: 1, weights: [1], outflows: [80000000], direct: [] })
+p-again desulfured: 1 1, 3000000, 80000000, 80000000, -, 240000000000000 = Ok(WrittenPlan { base: 1, flow_base: 1, weights: [1], outflows: [80000000], direct: [] })
+p desulfured: 1 1, 3000000, 80000001, 80000001, -, 240000003000000 = Err(NotAPoint)
+p desulfured: 1 1, 1500000, 80000000, 80000000, -, 120000000000000 = Err(NotAPoint)
 ";
 
 /// Puts the numbers of a text into a list.
@@ -173,6 +184,8 @@ fn told_of(alloc: Global, asked: &str) -> Result<String, Fail> {
     let (form, name) = head.split_once(' ').ok_or("a network")?;
     let file = if name == "direct" {
         ONE_DIRECT
+    } else if name == "desulfured" {
+        DESULFURED
     } else {
         HAVERLY_1
     };

@@ -8,7 +8,7 @@ use linear_program::{Advice, Lp};
 use row_book::Shown;
 use std::alloc::{AllocError, Global};
 use std::test::Fail;
-use worked_networks::{ONE_DIRECT, TWO_FEEDS, network};
+use worked_networks::{DESULFURED, ONE_DIRECT, TWO_FEEDS, network};
 
 /// Advice of zeros alone, of the lengths of a program.
 fn zeros(alloc: Global, lp: &Lp) -> Result<Advice, AllocError> {
@@ -47,7 +47,8 @@ fn rounded(alloc: Global, net: &Network, known: i128) -> Result<String, Memory> 
     Ok(format!(in alloc; "{rows}- {}", shown(alloc, proof)?)?)
 }
 
-/// The bound of the root is -300 where only its costs are added up, and where the pool's balance is taken 6 times.
+/// The bound of the root is -300 where only its costs are added up, and where the pool's balance is taken 6 times. Where the feed's arc
+/// costs 0.5 and the balance is taken 6.5 times, it is -250.
 #[test]
 fn advice_of_zeros_gives_the_price_proof(rt: HostRuntime) -> Result<(), Fail> {
     for (text, known, told) in [
@@ -57,6 +58,12 @@ fn advice_of_zeros_gives_the_price_proof(rt: HostRuntime) -> Result<(), Fail> {
             TWO_FEEDS,
             -300_000_000_000_001,
             "- 1 [Part { row: 2, mult: 6000000 }]",
+        ),
+        (DESULFURED, -250_000_000_000_000, "- none"),
+        (
+            DESULFURED,
+            -250_000_000_000_001,
+            "- 1 [Part { row: 1, mult: 6500000 }]",
         ),
     ] {
         let net = network(rt.alloc(), text)?;

@@ -11,6 +11,8 @@ mod halves;
 #[cfg(test)]
 mod rows;
 #[cfg(test)]
+mod treatment;
+#[cfg(test)]
 mod values;
 #[cfg(test)]
 mod witnesses;

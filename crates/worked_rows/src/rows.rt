@@ -112,7 +112,7 @@ fn narrow(b: &mut BoxEnds, coord: usize, low: i64, high: i64)
 }
 
 /// The rows in the root box, a line each.
-fn root_rows(alloc: Global, net: &Network) -> Result<String, Memory> {
+pub(crate) fn root_rows(alloc: Global, net: &Network) -> Result<String, Memory> {
     let ends = root_box(alloc, net)?;
     rows_text(alloc, net, &ends.view())
 }

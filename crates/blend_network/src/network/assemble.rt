@@ -10,6 +10,7 @@ use super::Network;
 use super::index::index_of;
 use super::limits::{Limits, limits_from};
 use super::narrow::{pools_from, products_from, sources_from, stand_in};
+use super::treatment::scale_of;
 use crate::limits::LimitSide;
 use network_parts::{Arcs, Parts};
 use std::alloc::{AllocError, Global};
@@ -36,10 +37,12 @@ impl Network {
             most: limits_from(alloc, &products, LimitSide::Most)?,
             least: limits_from(alloc, &products, LimitSide::Least)?,
         };
+        let pools = pools_from(alloc, pools, stand_in)?;
         Ok(Network {
             qualities,
             sources: sources_from(alloc, sources, stand_in)?,
-            pools: pools_from(alloc, pools, stand_in)?,
+            scale: scale_of(&pools),
+            pools,
             products,
             feeds: arcs.feeds,
             outs: arcs.outs,

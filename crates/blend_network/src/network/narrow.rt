@@ -65,19 +65,21 @@ pub(super) fn pools_from(
 {
     let mut pools = Vec::new(alloc);
     for row in rows {
-        pools.push(pool_from(row, stand_in))?;
+        pools.push(pool_from(alloc, row, stand_in)?)?;
     }
     Ok(pools)
 }
 
-fn pool_from(row: PoolRow, stand_in: u64) -> Pool
+fn pool_from(alloc: Global, row: PoolRow, stand_in: u64) -> Result<Pool, AllocError>
     requires { IsPoolInRange (pool_row row) }
-    ensures { shown_pool result ≡ pool_of (pos stand_in) (pool_row row) }
+    ensures { IfOk result (λ p. shown_pool p ≡ pool_of (pos stand_in) (pool_row row)) }
 {
-    Pool {
+    let ratio = narrowed_ratios(alloc, &row.ratio)?;
+    Ok(Pool {
         name: row.name,
         max: supply(row.max, stand_in),
-    }
+        ratio,
+    })
 }
 
 pub(super) fn products_from(
@@ -128,6 +130,17 @@ fn narrowed(alloc: Global, numbers: &[i128]) -> Result<Vec<i64>, AllocError>
     let mut narrowed = Vec::with_capacity(alloc, numbers.len())?;
     for number in numbers {
         narrowed.push(*number as i64)?;
+    }
+    Ok(narrowed)
+}
+
+fn narrowed_ratios(alloc: Global, ratios: &[i128]) -> Result<Vec<u64>, AllocError>
+    requires { All (IsUpTo 1000) ratios.now }
+    ensures { IfOk result (λ v. v.items ≡ map unsigned_abs ratios.now) }
+{
+    let mut narrowed = Vec::with_capacity(alloc, ratios.len())?;
+    for ratio in ratios {
+        narrowed.push(*ratio as u64)?;
     }
     Ok(narrowed)
 }

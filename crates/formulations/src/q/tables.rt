@@ -1,6 +1,6 @@
 //! The rows that are the same in every box, as tables.
 
-ghost use Rattle.std.specs.Prelude.{◌≡◌, ◌+◌, ◌<◌, ◌≤◌, length};
+ghost use Rattle.std.specs.Prelude.{◌≡◌, ◌+◌, ◌<◌, ◌≤◌, ◌^◌, length, unsigned_abs};
 ghost use Rattle.pool_model.specs.Network.{Net, net_of};
 ghost use Rattle.pool_model.specs.Limits.{most_limits, least_limits};
 ghost use Rattle.row_model.specs.Boxes.{Box};
@@ -8,6 +8,7 @@ ghost use Rattle.row_model.specs.Catalogue.{q_families, row_in, proportions_row,
 ghost use Rattle.blend_network.specs.Views.{shown_limit};
 ghost use Rattle.box_space.specs.Tables.{row_of, IsTable};
 
+use crate::limits::in_parts;
 use blend_network::{Key, Limit, LimitSide, Network};
 use box_space::{Block, Factor, Rate, RowKind, RowTable, Terms};
 
@@ -41,9 +42,9 @@ pub(crate) fn table_at(net: &Network, n: u32) -> RowTable
     let n = n - counts.feeds;
     let most = net.count_limits(LimitSide::Most);
     if n < most {
-        return path_most(net.limit_at(LimitSide::Most, n));
+        return path_most(net, net.limit_at(LimitSide::Most, n));
     }
-    path_least(net.limit_at(LimitSide::Least, n - most))
+    path_least(net, net.limit_at(LimitSide::Least, n - most))
 }
 
 /// The proportions of a pool's feeds sum to 1.
@@ -79,17 +80,25 @@ fn feed(feed: u32) -> RowTable
 }
 
 /// A product's mean of a quality is at most its limit.
-fn path_most(u: Limit) -> RowTable
-    ensures row { (n : Net) → row_of n result ≡ path_most_row n (shown_limit u) }
-    ensures table { (n : Net) → u.product < n.products → u.quality < n.qualities → IsTable n result }
+fn path_most(net: &Network, u: Limit) -> RowTable
+    requires quality { u.quality < (net_of net.now).qualities }
+    requires product { u.product < (net_of net.now).products }
+    requires limit { unsigned_abs u.limit ≤ 10 ^ 11 }
+    ensures row { row_of (net_of net.now) result ≡ path_most_row (net_of net.now) (shown_limit u) }
+    ensures table { IsTable (net_of net.now) result }
 {
-    let limit = Factor::Same(u.limit.into());
-    let room = Factor::OfQuality(u.quality, Rate::Below(u.limit));
+    let limit = in_parts(net, u);
+    let room = Factor::OfQuality(u.quality, Rate::Below(limit));
     let brought = Factor::OfQuality(u.quality, Rate::Less);
     RowTable {
         kind: RowKind::AtLeast,
         terms: [
-            Terms::All(Block::Outs, Key::OutsInto, u.product, limit),
+            Terms::All(
+                Block::Outs,
+                Key::OutsInto,
+                u.product,
+                Factor::Same(limit.into()),
+            ),
             Terms::All(Block::Directs, Key::DirectsInto, u.product, room),
             Terms::All(Block::Paths, Key::PathsInto, u.product, brought),
         ],
@@ -98,17 +107,25 @@ fn path_most(u: Limit) -> RowTable
 }
 
 /// A product's mean of a quality is at least its limit.
-fn path_least(u: Limit) -> RowTable
-    ensures row { (n : Net) → row_of n result ≡ path_least_row n (shown_limit u) }
-    ensures table { (n : Net) → u.product < n.products → u.quality < n.qualities → IsTable n result }
+fn path_least(net: &Network, u: Limit) -> RowTable
+    requires quality { u.quality < (net_of net.now).qualities }
+    requires product { u.product < (net_of net.now).products }
+    requires limit { unsigned_abs u.limit ≤ 10 ^ 11 }
+    ensures row { row_of (net_of net.now) result ≡ path_least_row (net_of net.now) (shown_limit u) }
+    ensures table { IsTable (net_of net.now) result }
 {
-    let limit = Factor::Same(-i128::from(u.limit));
-    let room = Factor::OfQuality(u.quality, Rate::Above(u.limit));
+    let limit = in_parts(net, u);
+    let room = Factor::OfQuality(u.quality, Rate::Above(limit));
     let brought = Factor::OfQuality(u.quality, Rate::Plain);
     RowTable {
         kind: RowKind::AtLeast,
         terms: [
-            Terms::All(Block::Outs, Key::OutsInto, u.product, limit),
+            Terms::All(
+                Block::Outs,
+                Key::OutsInto,
+                u.product,
+                Factor::Same(-i128::from(limit)),
+            ),
             Terms::All(Block::Directs, Key::DirectsInto, u.product, room),
             Terms::All(Block::Paths, Key::PathsInto, u.product, brought),
         ],

@@ -1,6 +1,6 @@
 use Rattle.std.proofs.Common.{◌≡◌, length, string_bytes, arith}
 use Rattle.std.proofs.lemmas.List.{length-map}
-use Rattle.network_parts.specs.Parts.{rows_of, source_row, pool_row, product_row, arc_ends}
+use Rattle.network_parts.specs.Parts.{rows_of, source_row, pool_row, product_row, arc_row}
 use Rattle.network_parts.specs.declared.fault.Kind.TheVariants.{Source, Pool, Product, Quality, Arc}
 use Rattle.network_checks.proofs.Refusals.{handed, many, many_first, few_rows, few_next, before_source, before_pool, before_product, before_quality, before_arc}
 use Rattle.network_checks.proofs.checks.check_counts.Goals as goal
@@ -56,7 +56,7 @@ returns-in_err-check_count-5-clause-fault c =
     let products = few_rows r Product _ product_count c.in_ok-check_count-3.ensures.few in
     let quality_count : c.len-4.result ≡ length (rows_of c.args.parts.now).qualities = omega (arith, c.len-4.ensures, length-map c.args.parts.now.qualities.items string_bytes) in
     let qualities = few_rows r Quality _ quality_count c.in_ok-check_count-4.ensures.few in
-    let arc_count : c.len-5.result ≡ length (rows_of c.args.parts.now).arcs = omega (arith, c.len-5.ensures, length-map c.args.parts.now.arcs.items arc_ends) in
+    let arc_count : c.len-5.result ≡ length (rows_of c.args.parts.now).arcs = omega (arith, c.len-5.ensures, length-map c.args.parts.now.arcs.items arc_row) in
     handed r c.from_residual-in_err-check_count-5.result c.in_err-check_count-5.field-0.0 c.from_residual-in_err-check_count-5.ensures.1
     (many_first r Arc _ _ arc_count (before_arc r many sources pools products qualities) c.in_err-check_count-5.ensures.many)
 
@@ -71,6 +71,6 @@ returns-clause-clear c =
     let products = few_rows r Product _ product_count c.in_ok-check_count-3.ensures.few in
     let quality_count : c.len-4.result ≡ length (rows_of c.args.parts.now).qualities = omega (arith, c.len-4.ensures, length-map c.args.parts.now.qualities.items string_bytes) in
     let qualities = few_rows r Quality _ quality_count c.in_ok-check_count-4.ensures.few in
-    let arc_count : c.len-5.result ≡ length (rows_of c.args.parts.now).arcs = omega (arith, c.len-5.ensures, length-map c.args.parts.now.arcs.items arc_ends) in
+    let arc_count : c.len-5.result ≡ length (rows_of c.args.parts.now).arcs = omega (arith, c.len-5.ensures, length-map c.args.parts.now.arcs.items arc_row) in
     let arcs = few_rows r Arc _ arc_count c.in_ok-check_count-5.ensures.few in
     few_next r sources pools products qualities arcs

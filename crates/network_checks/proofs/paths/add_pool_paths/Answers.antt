@@ -1,4 +1,4 @@
-use Rattle.std.proofs.Common.{◌≡◌, map, length, get_or, sym, ap, ◌∙◌}
+use Rattle.std.proofs.Common.{◌≡◌, map, length, get_or, pos, None, sym, ap, ◌∙◌}
 use Rattle.std.proofs.lemmas.List.{length-map, get_or-map}
 use Rattle.pool_model.specs.Network.{Arc, no_arc}
 use Rattle.network_parts.specs.Views.{shown_arc, shown_path, joined_net, paths_behind}
@@ -14,7 +14,7 @@ loop-feed-preserved c = λ pools.
     let net = joined_net pools (map shown_arc c.args.feeds.now) (map shown_arc c.args.outs.now) in
     let old = map shown_path c.args.paths.now.items in
     let was = map shown_path c.loop-feed.paths.items in
-    let at = ap (λ (a : Arc). a.to) (get_or-map shown_arc c.args.feeds.now c.loop-feed.feed (record { from = 0; to = 0 }) no_arc c.loop-feed-test.true) in
+    let at = ap (λ (a : Arc). a.to) (get_or-map shown_arc c.args.feeds.now c.loop-feed.feed (record { from = 0; to = 0; cost = pos 0; max = None }) no_arc c.loop-feed-test.true) in
     elim c.if-feeds-feed.branch [
       | then-feeds-feed+in_ok-add_feed_paths w ↦
           let here : (get_or (map shown_arc c.args.feeds.now) c.loop-feed.feed no_arc).to ≡ c.args.pool = at ∙ w.if-feeds-feed.true in

@@ -1,5 +1,5 @@
 use Rattle.serde_json.specs.View.{view}
-use Rattle.network_parts.specs.Parts.{arc_ends}
+use Rattle.network_parts.specs.Parts.{arc_row}
 use Rattle.json_walk.specs.Walk.{place, rows}
 use Rattle.network_json.specs.Format.{arc}
 use Rattle.json_walk.specs.declared.fault.Section.TheVariants.{Arcs}
@@ -8,11 +8,11 @@ use Rattle.network_json.proofs.tables.arc_rows.Goals as goal
 
 pub returns-in_err-row : goal.returns-in_err-row
 unfolding rows
-returns-in_err-row c = row_stop (λ n. arc (place Arcs n)) view arc_ends c.args.values.now c.loop-i.i
+returns-in_err-row c = row_stop (λ n. arc c.args.version (place Arcs n)) view arc_row c.args.values.now c.loop-i.i
     c.index-values-i.result c.loop-i.arcs.items c.index-values-i.is c.loop-i-test.true c.loop-i.invariant _
     c.from_residual.result c.in_err-row.field-0.0 c.from_residual.ensures.1 (rw c.new.ensures at c.in_err-row.ensures)
 
 pub loop-i-preserved : goal.loop-i-preserved
-loop-i-preserved c = row_step (λ n. arc (place Arcs n)) view arc_ends c.args.values.now c.loop-i.i
+loop-i-preserved c = row_step (λ n. arc c.args.version (place Arcs n)) view arc_row c.args.values.now c.loop-i.i
     c.index-values-i.result c.loop-i.arcs.items c.index-values-i.is c.loop-i-test.true c.loop-i.invariant
     c.in_ok-row.row c.push.new.self.items c.in_ok-push.ensures.items (rw (← c.new.ensures) c.in_ok-row.ensures)

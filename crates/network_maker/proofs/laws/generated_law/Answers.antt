@@ -15,3 +15,7 @@ returns-clause-counts c seed = refl
 
 pub returns-clause-paths : goal.returns-clause-paths
 returns-clause-paths c = path_count
+
+pub returns-clause-plain : goal.returns-clause-plain
+unfolding generated
+returns-clause-plain c seed = refl

@@ -7,17 +7,17 @@ use Rattle.network_values.specs.Values.{arc_data}
 use Rattle.network_text.proofs.canonical.arcs_value.Given as goal
 
 abbrev pub invariant-feeds : goal.invariant-feeds
-invariant-feeds l = map view l.list.items ≡ map arc_data (map (canonical_arc (names_of l.net kind.Source) (names_of l.net kind.Pool)) (take l.n l.net.feeds))
+invariant-feeds l = map view l.list.items ≡ map (arc_data l.version) (map (canonical_arc (names_of l.net kind.Source) (names_of l.net kind.Pool)) (take l.n l.net.feeds))
 
 abbrev pub invariant-outs : goal.invariant-outs
 invariant-outs l =
-    map view l.list.items ≡ map arc_data (map (canonical_arc (names_of l.net kind.Source) (names_of l.net kind.Pool))
+    map view l.list.items ≡ map (arc_data l.version) (map (canonical_arc (names_of l.net kind.Source) (names_of l.net kind.Pool))
     l.net.feeds ++ map (canonical_arc (names_of l.net kind.Pool) (names_of l.net kind.Product))
     (take l.n l.net.outs))
 
 abbrev pub invariant-directs : goal.invariant-directs
 invariant-directs l =
     map view l.list.items
-    ≡ map arc_data (map (canonical_arc (names_of l.net kind.Source) (names_of l.net kind.Pool)) l.net.feeds ++ map
+    ≡ map (arc_data l.version) (map (canonical_arc (names_of l.net kind.Source) (names_of l.net kind.Pool)) l.net.feeds ++ map
     (canonical_arc (names_of l.net kind.Pool) (names_of l.net kind.Product)) l.net.outs ++ map
     (canonical_arc (names_of l.net kind.Source) (names_of l.net kind.Product)) (take l.n l.net.directs))

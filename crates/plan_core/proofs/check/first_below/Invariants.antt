@@ -4,4 +4,4 @@ use Rattle.plan_core.specs.Weighed.{IsBelow}
 use Rattle.plan_core.proofs.check.first_below.Given as goal
 
 abbrev pub invariant-loop-quality : goal.invariant-loop-quality
-invariant-loop-quality l = (k : ℕ) → k < l.quality → ¬ IsBelow ((net_of l.net).least l.product k) l.inflow (get_or (get_or l.sums k []) l.product (pos 0))
+invariant-loop-quality l = (k : ℕ) → k < l.quality → ¬ IsBelow (pos (net_of l.net).scale) ((net_of l.net).least l.product k) l.inflow (get_or (get_or l.sums k []) l.product (pos 0))

@@ -12,14 +12,14 @@ priced-total-requires-clause-flow c = omega (arith, term-le-sum_below (λ i. get
 pub overflow_add-total : goal.overflow_add-total
 overflow_add-total c =
     let n = net_of c.args.net.now in
-    total_fits n.source_cost (λ i. get_or c.args.outflows.now i 0) c.loop-source.source n.sources (to_z w128 c.loop-source.total-bits) c.priced-total.result (omega arith) c.requires
+    total_fits n.source_cost (λ i. get_or c.args.outflows.now i 0) c.loop-source.source n.sources (to_z w128 c.loop-source.total-bits) c.priced-total.result (omega arith) (omega (arith, c.requires))
     c.loop-source.invariant c.priced-total.ensures.size
 
 pub loop-source-preserved : goal.loop-source-preserved
 loop-source-preserved c =
     let n = net_of c.args.net.now in
     let fits : FitsSigned w64 c.source_cost.result = search rules in
-    total_more n.source_cost (λ i. get_or c.args.outflows.now i 0) c.loop-source.source n.sources (to_z w128 c.loop-source.total-bits) c.source_cost.result c.priced-total.result (omega arith) c.requires
+    total_more n.source_cost (λ i. get_or c.args.outflows.now i 0) c.loop-source.source n.sources (to_z w128 c.loop-source.total-bits) c.source_cost.result c.priced-total.result (omega arith) (omega (arith, c.requires))
     c.loop-source.invariant fits c.source_cost.ensures.value c.priced-total.ensures.value c.priced-total.ensures.size
 
 pub returns-clause-size : goal.returns-clause-size

@@ -12,14 +12,14 @@ priced-total-requires-clause-flow c = omega (arith, term-le-sum_below (λ i. get
 pub overflow_add-total : goal.overflow_add-total
 overflow_add-total c =
     let n = net_of c.args.net.now in
-    total_fits n.price (λ i. get_or c.args.inflows.now i 0) c.loop-product.product n.products (to_z w128 c.loop-product.total-bits) c.priced-total.result (omega arith) c.requires
+    total_fits n.price (λ i. get_or c.args.inflows.now i 0) c.loop-product.product n.products (to_z w128 c.loop-product.total-bits) c.priced-total.result (omega arith) (omega (arith, c.requires))
     c.loop-product.invariant c.priced-total.ensures.size
 
 pub loop-product-preserved : goal.loop-product-preserved
 loop-product-preserved c =
     let n = net_of c.args.net.now in
     let fits : FitsSigned w64 c.product_price.result = search rules in
-    total_more n.price (λ i. get_or c.args.inflows.now i 0) c.loop-product.product n.products (to_z w128 c.loop-product.total-bits) c.product_price.result c.priced-total.result (omega arith) c.requires
+    total_more n.price (λ i. get_or c.args.inflows.now i 0) c.loop-product.product n.products (to_z w128 c.loop-product.total-bits) c.product_price.result c.priced-total.result (omega arith) (omega (arith, c.requires))
     c.loop-product.invariant fits c.product_price.ensures.value c.priced-total.ensures.value c.priced-total.ensures.size
 
 pub returns-clause-size : goal.returns-clause-size

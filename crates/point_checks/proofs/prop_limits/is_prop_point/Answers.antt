@@ -8,13 +8,12 @@ use Rattle.point_checks.proofs.prop_limits.is_prop_point.Goals as goal
 pub returns-then-not-fits-clause-point : goal.returns-then-not-fits-clause-point
 returns-then-not-fits-clause-point c =
     let n = net_of c.args.net.now in
-    never (FitsProps c.args.point.now) (IsPropPoint n c.args.point.now) c.if-not-fits.ensures.1 (point-fits n c.args.point.now c.if-not-has_shape.ensures.limited)
+    never (FitsProps n c.args.point.now) (IsPropPoint n c.args.point.now) c.if-not-fits.ensures.1 (point-fits n c.args.point.now c.if-not-has_shape.ensures.limited)
 
 pub keep_limits-requires-clause-small : goal.keep_limits-requires-clause-small
 keep_limits-requires-clause-small c =
-    small-point (net_of c.args.net.now) c.args.point.now c.if-not-has_shape.ensures.limited (c.if-not-has_shape.ensures.shape.0 refl) (c.if-not-fits.ensures.0 refl)
-    (c.if-not-are_products.ensures.0 refl)
-    (c.if-not-flows_carry.ensures.0 refl)
+    small-point (net_of c.args.net.now) c.args.point.now c.if-not-has_shape.ensures.limited (c.if-not-has_shape.ensures.shape.0 refl)
+    (c.if-not-are_products.ensures.0 refl) (c.if-not-sum_to_one.ensures.0 refl) (c.if-not-flows_carry.ensures.0 refl)
 
 pub returns-clause-point : goal.returns-clause-point
 returns-clause-point c =

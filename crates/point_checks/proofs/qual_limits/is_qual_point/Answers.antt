@@ -1,6 +1,6 @@
 use Rattle.std.proofs.Common.{ℕ, ◌<◌, refl}
 use Rattle.pool_model.specs.Network.{net_of}
-use Rattle.point_checks.specs.Sizes.{FlowsFit}
+use Rattle.point_checks.specs.Flows.{FlowsFit}
 use Rattle.point_checks.proofs.Tests.{never, same-test}
 use Rattle.point_checks.specs.QualityTests.{IsQualPoint, KeepsQuality}
 use Rattle.point_checks.specs.QualSlices.{seen}
@@ -11,7 +11,7 @@ pub returns-then-not-fits-clause-point : goal.returns-then-not-fits-clause-point
 returns-then-not-fits-clause-point c =
     let n = net_of c.args.net.now in
     let s = c.args.point.now in
-    never (FlowsFit s.flows.base s.flows.feeds.now s.flows.outs.now s.flows.directs.now) (IsQualPoint n s) c.if-not-fits.ensures.1 (point-fits n s c.if-not-has_shape.ensures.limited)
+    never (FlowsFit n s.flows.base s.flows.feeds.now s.flows.outs.now s.flows.directs.now) (IsQualPoint n s) c.if-not-fits.ensures.1 (point-fits n s c.if-not-has_shape.ensures.limited)
 
 pub keep_qualities-requires-clause-small : goal.keep_qualities-requires-clause-small
 keep_qualities-requires-clause-small c =

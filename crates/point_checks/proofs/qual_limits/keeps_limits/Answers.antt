@@ -1,13 +1,22 @@
-use Rattle.std.proofs.Common.{◌≡◌, ◌+◌, ◌+ℤ◌, sym, ap, ◌∙◌}
+use Rattle.std.proofs.Common.{◌≡◌, ℕ, ◌+◌, pos, ◌+ℤ◌, ◌*ℤ◌, sym, ap, ◌∙◌}
 use Rattle.integers.specs.Sums.{int_sum_at, sum_at}
 use Rattle.pool_model.specs.Network.{net_of}
-use Rattle.pool_model.specs.Plan.{product_inflow}
+use Rattle.pool_model.specs.Plan.{direct_mix, product_inflow}
+use Rattle.row_model.proofs.Brought.{directs-bring}
 use Rattle.program_model.specs.Points.{quality_flows}
-use Rattle.program_model.specs.Programs.{direct_mix}
+use Rattle.point_checks.specs.Qualities.{flow_into}
+use Rattle.point_checks.specs.declared.carriers.Carrier.TheVariants.{Directs}
+use Rattle.point_checks.proofs.Parts.{direct-room, room-parts}
 use Rattle.point_checks.proofs.Tests.{same-test, meets-same, wide_sum}
 use Rattle.point_checks.specs.QualSlices.{seen}
 use Rattle.point_checks.specs.QualityTests.{KeepsLimits}
 use Rattle.point_checks.proofs.qual_limits.keeps_limits.Goals as goal
+
+pub quality_into-straight-requires-clause-small : goal.quality_into-straight-requires-clause-small
+quality_into-straight-requires-clause-small c =
+    let n = net_of c.args.net.now in
+    let p = quality_flows (seen n c.args.point.now) in
+    room-parts (flow_into n Directs c.args.product p.direct) (direct-room n p c.args.product (c.requires.small.inflow c.args.product c.requires.product))
 
 pub returns : goal.returns
 returns c =
@@ -15,15 +24,16 @@ returns c =
     let q = seen n c.args.point.now in
     let j = c.args.product in
     let k = c.args.quality in
-    let mixed = c.mixed_sum-mixed.result in
+    let mixed = c.quality_through-mixed.result in
     let straight = c.quality_into-straight.result in
+    let kept = λ (o : ℕ). pos (n.retained (n.out_pool o) k) *ℤ q.mixed o k in
     let pooled : c.sum_at_node-pooled.result ≡ sum_at n.out_product j q.out n.outs = c.sum_at_node-pooled.ensures.sum in
     let direct : c.sum_at_node-direct.result ≡ sum_at n.direct_product j q.direct n.directs = c.sum_at_node-direct.ensures.sum in
     let inflow : c.sum_at_node-pooled.result + c.sum_at_node-direct.result ≡ product_inflow n (quality_flows q) j =
     ap (λ z. z + c.sum_at_node-direct.result) pooled ∙ ap (λ z. sum_at n.out_product j q.out n.outs + z) direct in
-    let by_outs : mixed ≡ int_sum_at n.out_product j (λ o. q.mixed o k) n.outs = c.mixed_sum-mixed.ensures.value in
-    let by_directs : straight ≡ direct_mix n (quality_flows q) j k = c.quality_into-straight.ensures.value in
-    let brought = wide_sum mixed straight c.mixed_sum-mixed.ensures.small c.quality_into-straight.ensures.small
-    ∙ ap (λ z. z +ℤ straight) by_outs ∙ ap (λ z. int_sum_at n.out_product j (λ o. q.mixed o k) n.outs +ℤ z) by_directs in
+    let by_outs : mixed ≡ int_sum_at n.out_product j kept n.outs = c.quality_through-mixed.ensures.value in
+    let by_directs : straight ≡ direct_mix n (quality_flows q) j k = c.quality_into-straight.ensures.value ∙ directs-bring n (quality_flows q) j k in
+    let brought = wide_sum mixed straight c.quality_through-mixed.ensures.small c.quality_into-straight.ensures.small
+    ∙ ap (λ z. z +ℤ straight) by_outs ∙ ap (λ z. int_sum_at n.out_product j kept n.outs +ℤ z) by_directs in
     same-test _ (KeepsLimits n q j k) c.is_within_limits.result c.is_within_limits.ensures
     (meets-same n j k _ _ _ _ inflow brought) (meets-same n j k _ _ _ _ (sym inflow) (sym brought))

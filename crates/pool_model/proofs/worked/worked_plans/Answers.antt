@@ -15,3 +15,11 @@ returns-clause-shared_obey c = all_obey _ shared_obeying refl
 pub returns-clause-shared_break : goal.returns-clause-shared_break
 unfolding net_of
 returns-clause-shared_break c = all_break _ shared_breaking refl
+
+pub returns-clause-desulfured_over : goal.returns-clause-desulfured_over
+unfolding net_of
+returns-clause-desulfured_over c = breaks _ _ refl
+
+pub returns-clause-desulfured_less : goal.returns-clause-desulfured_less
+unfolding net_of
+returns-clause-desulfured_less c = breaks _ _ refl

@@ -1,4 +1,4 @@
-use Rattle.std.proofs.Common.{◌≡◌, FitsSigned, unsigned_abs, rules, ap, ◌∙◌}
+use Rattle.std.proofs.Common.{◌≡◌, ◌*◌, FitsSigned, unsigned_abs, rules, ap, ◌∙◌}
 use Rattle.std.proofs.lemmas.Int.{to_z-of_z}
 use mir.Syntax.{w128}
 use Rattle.pool_model.specs.Network.{net_of}
@@ -15,6 +15,6 @@ returns c =
     let fits_quality : FitsSigned w128 c.mean-quality.result.0 = search rules in
     let fits_inflow : FitsSigned w128 c.mean-quality.result.1 = search rules in
     let fits : FitsSigned w128 c.rounded_down.result = search rules in
-    let inflow : c.unsigned_abs.result ≡ product_inflow n plan c.args.product = (simp to_z-of_z at c.unsigned_abs.ensures.value) ∙ ap unsigned_abs is.inflow in
+    let inflow : c.unsigned_abs.result ≡ n.scale * product_inflow n plan c.args.product = (simp to_z-of_z at c.unsigned_abs.ensures.value) ∙ ap unsigned_abs is.inflow in
     to_z-of_z w128 c.rounded_down.result fits ∙ (simp to_z-of_z at c.rounded_down.ensures)
-    ∙ mean_is n plan c.args.product c.args.quality c.mean-quality.result.0 c.mean-quality.result.1 c.unsigned_abs.result is c.requires.inflow inflow
+    ∙ mean_is n plan c.args.product c.args.quality c.mean-quality.result.0 c.mean-quality.result.1 c.unsigned_abs.result is inflow

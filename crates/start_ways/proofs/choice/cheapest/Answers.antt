@@ -14,6 +14,6 @@ loop-number-preserved c =
     record {
       least = subst (IsFirstLeast (StartObeys n) (start_cost n) (k + 1)) (sym c.better-best.ensures)
           (least-better (StartObeys n) (start_cost n) k c.loop-number.best c.start_cost.result c.loop-number.invariant.least found.obeys found.cost found.breaks);
-      size = subst (λ o. IfSome o (λ best. unsigned_abs best.cost ≤ 2 * 10 ^ 24)) (sym c.better-best.ensures)
-          (small-better (λ z. unsigned_abs z ≤ 2 * 10 ^ 24) c.loop-number.best k c.start_cost.result c.loop-number.invariant.size found.size);
+      size = subst (λ o. IfSome o (λ best. unsigned_abs best.cost ≤ 4 * 10 ^ 24)) (sym c.better-best.ensures)
+          (small-better (λ z. unsigned_abs z ≤ 4 * 10 ^ 24) c.loop-number.best k c.start_cost.result c.loop-number.invariant.size found.size);
     }

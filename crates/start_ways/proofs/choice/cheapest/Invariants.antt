@@ -8,5 +8,5 @@ use Rattle.start_ways.proofs.choice.cheapest.Given as goal
 abbrev pub invariant-loop-number : goal.invariant-loop-number
 invariant-loop-number l = record {
   least : IsFirstLeast (StartObeys (net_of l.net)) (start_cost (net_of l.net)) l.number l.best;
-  size : IfSome l.best (λ best. unsigned_abs best.cost ≤ 2 * 10 ^ 24);
+  size : IfSome l.best (λ best. unsigned_abs best.cost ≤ 4 * 10 ^ 24);
 }

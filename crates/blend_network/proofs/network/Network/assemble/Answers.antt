@@ -8,9 +8,9 @@ use Rattle.pool_model.specs.Naming.{source_of, pool_of, product_of, stand_in, ne
 use Rattle.network_parts.specs.Parts.{rows_of, source_row, pool_row, product_row}
 use Rattle.network_parts.specs.Faults.{IsSourceInRange, IsPoolInRange, IsProductInRange, IsUpTo, no_source_row, no_pool_row, no_product_row}
 use Rattle.network_parts.specs.Views.{shown_path}
-use Rattle.blend_network.specs.Views.{shown_product}
+use Rattle.blend_network.specs.Views.{shown_pool, shown_product}
 use Rattle.blend_network.specs.Built.{IsBuilt}
-use Rattle.pool_model.specs.Network.{Network, net_of, IsLimited}
+use Rattle.pool_model.specs.Network.{Network, net_of, IsLimited, scale_of}
 use Rattle.network_parts.specs.Ready.{IsReady}
 use Rattle.network_parts.specs.declared.arcs.Arcs.{Arcs}
 use Rattle.blend_network.proofs.Built.{all_rows, same_network, limited, built}
@@ -92,10 +92,13 @@ invariant_of-result c =
     let r = rows_of c.args.parts in
     let stand : pos c.stand_in-stand_in.result ≡ stand_in (rows_of c.args.parts) = rw c.deref.ensures.value at c.stand_in-stand_in.ensures.sum in
     let within = rows_limited r c.args.arcs c.stand_in-stand_in.result c.requires.rectangular c.requires.checked stand c.stand_in-stand_in.ensures.size in
-    subst (λ (n : Network). IsBuilt n (map shown_path c.args.arcs.paths.items) c.in_ok-index.index.items record { most = c.in_ok-limits_from.field-0; least = c.in_ok-limits_from-2.field-0 })
+    let pools = c.in_ok-pools.ensures ∙ ap (λ st. map (pool_of st) r.pools) stand in
+    let scaled = c.scale_of.ensures ∙ ap (λ ps. scale_of (map shown_pool ps)) c.deref-4.ensures.value ∙ ap scale_of pools in
+    subst (λ (n : Network). IsBuilt n (map shown_path c.args.arcs.paths.items) c.in_ok-index.index.items record { most = c.in_ok-limits_from.field-0; least = c.in_ok-limits_from-2.field-0 }
+    c.scale_of.result)
     (sym (same_network _ (network_of r) refl
     (c.in_ok-sources_from.ensures ∙ ap (λ st. map (source_of st) r.sources) stand)
-    (c.in_ok-pools_from.ensures ∙ ap (λ st. map (pool_of st) r.pools) stand)
+    pools
     c.in_ok-products.ensures
     c.requires.checked.found.feeds
     c.requires.checked.found.outs
@@ -108,7 +111,7 @@ invariant_of-result c =
     (set_of r c.deref-3.result.now Least c.in_ok-limits_from-2.field-0.items (ap (map shown_product) c.deref-3.ensures.value ∙ c.in_ok-products.ensures)
     (c.in_ok-limits_from-2.ensures (length r.qualities)
     (products_wide r c.deref-3.result.now Least c.requires.rectangular
-    (ap (map shown_product) c.deref-3.ensures.value ∙ c.in_ok-products.ensures))))))
+    (ap (map shown_product) c.deref-3.ensures.value ∙ c.in_ok-products.ensures))))) c.scale_of.result scaled)
 
 pub returns : goal.returns
 returns c =
@@ -116,7 +119,7 @@ returns c =
     let stand : pos c.stand_in-stand_in.result ≡ stand_in (rows_of c.args.parts) = rw c.deref.ensures.value at c.stand_in-stand_in.ensures.sum in
     same_network _ (network_of r) refl
     (c.in_ok-sources_from.ensures ∙ ap (λ st. map (source_of st) r.sources) stand)
-    (c.in_ok-pools_from.ensures ∙ ap (λ st. map (pool_of st) r.pools) stand)
+    (c.in_ok-pools.ensures ∙ ap (λ st. map (pool_of st) r.pools) stand)
     c.in_ok-products.ensures
     c.requires.checked.found.feeds
     c.requires.checked.found.outs

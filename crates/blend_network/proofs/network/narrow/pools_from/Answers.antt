@@ -10,10 +10,12 @@ use Rattle.blend_network.proofs.network.narrow.pools_from.Goals as goal
 
 pub loop-row-preserved : goal.loop-row-preserved
 loop-row-preserved c = record {
-  made = made_more shown_pool (pool_of (pos c.args.stand_in)) pool_row c.loop-row.pools.items c.push.new.self.items
-      (into_iter_items c.loop-row.row-iterator) (into_iter_items c.next.new.self) c.pool_from.result c.in-Some.row
-      _ c.loop-row.invariant.made c.in-Some.ensures.steps.0 c.in_ok-push.ensures.items c.pool_from.ensures;
-  ranges = All-rest (λ s. IsPoolInRange (pool_row s)) c.in-Some.row (into_iter_items c.next.new.self) (into_iter_items c.loop-row.row-iterator) c.in-Some.ensures.steps.0 c.loop-row.invariant.ranges;
+  made = made_more shown_pool (pool_of (pos c.args.stand_in)) pool_row c.loop-row.pools.items
+      c.push.new.self.items (into_iter_items c.loop-row.row-iterator) (into_iter_items c.next.new.self)
+      c.in_ok-pool_from.field-0 c.in-Some.row
+      _ c.loop-row.invariant.made c.in-Some.ensures.steps.0 c.in_ok-push.ensures.items c.in_ok-pool_from.ensures;
+  ranges = All-rest (λ s. IsPoolInRange (pool_row s)) c.in-Some.row (into_iter_items c.next.new.self)
+      (into_iter_items c.loop-row.row-iterator) c.in-Some.ensures.steps.0 c.loop-row.invariant.ranges;
 }
 
 pub pool_from-requires : goal.pool_from-requires

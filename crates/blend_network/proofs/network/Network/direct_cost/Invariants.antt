@@ -1,7 +1,0 @@
-use Rattle.std.proofs.Common.{◌≡◌, ◌==◌, if◌then◌else◌, Some, None}
-use Rattle.pool_model.specs.Network.{net_of}
-use Rattle.pool_model.specs.Starting.{least_below}
-use Rattle.blend_network.proofs.network.Network.direct_cost.Given as goal
-
-abbrev pub invariant-loop-e : goal.invariant-loop-e
-invariant-loop-e l = l.least ≡ least_below (λ i. if (net_of l.self).direct_product i == l.product then Some ((net_of l.self).source_cost ((net_of l.self).direct_source i)) else None) l.e
