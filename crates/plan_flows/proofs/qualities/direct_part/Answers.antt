@@ -35,7 +35,7 @@ returns-clause-value c =
     c.direct-source.ensures.source c.source_quality.ensures.value c.from.ensures)
     c.in_parts-sent.ensures.value c.direct_flow.result c.weighted.result c.direct_flow.ensures.flow c.weighted.ensures.value in
     let fits : FitsSigned w128 c.weighted.result = search rules in
-    first_of (part.exact, to_z-of_z w128 c.weighted.result fits ∙ part.exact)
+    to_z-of_z w128 c.weighted.result fits ∙ part.exact
 
 pub returns-clause-size : goal.returns-clause-size
 returns-clause-size c =
@@ -47,4 +47,4 @@ returns-clause-size c =
     c.direct-source.ensures.source c.source_quality.ensures.value c.from.ensures)
     c.in_parts-sent.ensures.value c.direct_flow.result c.weighted.result c.direct_flow.ensures.flow c.weighted.ensures.value in
     let fits : FitsSigned w128 c.weighted.result = search rules in
-    first_of (part.size, simp to_z-of_z part.size)
+    omega (arith, ap unsigned_abs (to_z-of_z w128 c.weighted.result fits), part.size)

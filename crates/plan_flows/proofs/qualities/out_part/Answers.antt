@@ -24,7 +24,7 @@ returns-clause-value c =
     c.requires.limited c.requires.room c.requires.out c.requires.quality c.out-pool.ensures.pool c.retained.ensures.value c.pool_quality-mixed.ensures
     c.in_parts-leaving.ensures.value c.outflow.result c.from.result c.weighted.result c.from.ensures c.outflow.ensures c.weighted.ensures.value in
     let fits : FitsSigned w128 c.weighted.result = search rules in
-    first_of (part.exact, to_z-of_z w128 c.weighted.result fits ∙ part.exact)
+    to_z-of_z w128 c.weighted.result fits ∙ part.exact
 
 pub returns-clause-size : goal.returns-clause-size
 returns-clause-size c =
@@ -32,4 +32,4 @@ returns-clause-size c =
     c.requires.limited c.requires.room c.requires.out c.requires.quality c.out-pool.ensures.pool c.retained.ensures.value c.pool_quality-mixed.ensures
     c.in_parts-leaving.ensures.value c.outflow.result c.from.result c.weighted.result c.from.ensures c.outflow.ensures c.weighted.ensures.value in
     let fits : FitsSigned w128 c.weighted.result = search rules in
-    first_of (part.size, simp to_z-of_z part.size)
+    omega (arith, ap unsigned_abs (to_z-of_z w128 c.weighted.result fits), part.size)
