@@ -64,9 +64,9 @@ module _ (n : Net) (e o i l j : ℕ) (from : i ≡ n.feed_source e) (by : l ≡ 
   path_room-read source pool product lower nodes by_feed room feed_read out_read source_is pool_is product_is inner outer feed_is by_is out_is room_is =
       let amount = min (n.source_max (n.feed_source e)) (min (n.pool_max (n.out_pool o)) (n.product_max (n.out_product o))) in
       let lower_is : lower ≡ pos (min (n.pool_max l) (n.product_max j)) =
-          inner ∙ ap (λ z. int_min z product) pool_is ∙ ap (int_min (pos (n.pool_max l))) product_is ∙ lesser-read (n.pool_max l) (n.product_max j) in
+      inner ∙ ap (λ z. int_min z product) pool_is ∙ ap (int_min (pos (n.pool_max l))) product_is ∙ lesser-read (n.pool_max l) (n.product_max j) in
       let nodes_are : nodes ≡ pos amount =
-          outer ∙ ap (λ z. int_min z lower) source_is ∙ ap (int_min (pos (n.source_max i))) lower_is ∙ lesser-read (n.source_max i) (min (n.pool_max l) (n.product_max j)) ∙ ap pos path-nodes in
+      outer ∙ ap (λ z. int_min z lower) source_is ∙ ap (int_min (pos (n.source_max i))) lower_is ∙ lesser-read (n.source_max i) (min (n.pool_max l) (n.product_max j)) ∙ ap pos path-nodes in
       room_is ∙ capped-same (n.out_max o) (capped (n.feed_max e) amount) out_read by_feed out_is (by_is ∙ capped-same (n.feed_max e) amount feed_read nodes feed_is nodes_are)
 
   pub path_room-most : path_room n e o ≤ n.product_max j

@@ -36,12 +36,12 @@ returns-then-suits-clause-flow c =
     let feed : e ≡ at.feed = c.path-feed.ensures.feed in
     let out : o ≡ at.out = c.path-feed.ensures.out in
     let fits : suits n (way_quality n (through e o)) (n.out_product o) ≡ true =
-        ap (λ x. suits n (way_quality n (through x o)) (n.out_product o)) feed ∙ ap (λ x. suits n (way_quality n (through at.feed x)) (n.out_product o)) out
-        ∙ ap (suits n (way_quality n (through at.feed at.out))) (sym c.out-pool.ensures.product) ∙ sym c.suits.ensures ∙ c.if-suits.true in
+    ap (λ x. suits n (way_quality n (through x o)) (n.out_product o)) feed ∙ ap (λ x. suits n (way_quality n (through at.feed x)) (n.out_product o)) out
+    ∙ ap (suits n (way_quality n (through at.feed at.out))) (sym c.out-pool.ensures.product) ∙ sym c.suits.ensures ∙ c.if-suits.true in
     shown c ∙ sym (ap (λ b. if b then path_room n e o else 0) fits) ∙ ap (λ x. path_flow_of n x o) feed ∙ ap (path_flow_of n at.feed) out
 
 pub returns-then-suits-clause-size : goal.returns-then-suits-clause-size
 returns-then-suits-clause-size c =
     let most = path_room-most (net_of c.args.net.now) c.path-feed.result.0 c.path-feed.result.1 c.feed-source.result.0 c.out-pool.result.0 c.out-pool.result.1
-        c.feed-source.ensures.source c.out-pool.ensures.pool c.out-pool.ensures.product in
+    c.feed-source.ensures.source c.out-pool.ensures.pool c.out-pool.ensures.product in
     omega (arith, shown c, most, c.product_max.ensures.size)
