@@ -3,7 +3,7 @@ use Rattle.std.proofs.Common.{◌≡◌, ℕ, ◌+◌, ◌*◌, ◌<◌, ◌++�
 use Rattle.std.specs.Prelude.{codes}
 use Rattle.std.specs.Int.{int_min}
 use Rattle.integers.proofs.Grids.{grid-below}
-use Rattle.pool_model.specs.Network.{Net, IsLimited}
+use Rattle.pool_model.specs.Network.{Net, IsLimited, capped}
 use Rattle.row_model.specs.Boxes.{Box, Agree, root, coords, prop_number, qual_number, flow_number}
 use Rattle.row_model.specs.Variables.{variables, by_number, lows, highs, least_product, greatest_product, path_count, path_feed, path_out}
 use Rattle.row_model.specs.Catalogue.{Row}
@@ -72,7 +72,7 @@ highs-same n b c v lim a h = by_number-each n (λ x y. x ≡ y) (highs n b) (hig
   x = λ e lt. refl;
   y = λ o lt. a.high (flow_number n o) (flow-below n o lt);
   z = λ e lt. refl;
-  w = λ q lt. ap (λ z. int_min (pos (n.source_max (n.feed_source (path_feed n q)))) z) (a.high (flow_number n (path_out n q)) (flow-below n (path_out n q) (path_out-below n q lt)));
+  w = λ q lt. ap (int_min (pos (capped (n.feed_max (path_feed n q)) (n.source_max (n.feed_source (path_feed n q)))))) (a.high (flow_number n (path_out n q)) (flow-below n (path_out n q) (path_out-below n q lt)));
   proportion = λ e lt. a.high (prop_number n e) (prop-below n e lt);
   quality = λ l k lt lk. a.high (qual_number n l k) (qual-below n l k lt lk);
   mixed = λ o k lt lk.
