@@ -1,13 +1,13 @@
 use Rattle.std.proofs.Common.{length, map, option_map, sym, subst, ◌∙◌}
 use Rattle.std.proofs.lemmas.List.{length-map}
 use Rattle.pool_model.specs.Network.{net_of}
+use Rattle.pool_model.proofs.Sizes.{reach-most}
 use Rattle.plan_core.specs.Views.{shown_plan}
 use Rattle.box_space.specs.Views.{shown_proof, shown_split}
 use Rattle.box_tree.specs.Kept.{searched_of}
 use Rattle.cert_format.specs.Cert.{IsShaped}
 use Rattle.cert_format.specs.Valid.{IsValid}
 use Rattle.cert_format.specs.Views.{shown_claim, shown_node_proof}
-use Rattle.blend_network.proofs.Margins.{reach-small}
 use Rattle.row_book.proofs.RowCount.{few-rows}
 use Rattle.cert_lengths.proofs.ValidTexts.{short_enough}
 use Rattle.tree_certificate.proofs.Found.{found_cert, found_shaped, found_valid, held_bound, tree_low}
@@ -27,7 +27,7 @@ pub claim_of-requires-clause-low : goal.claim_of-requires-clause-low
 claim_of-requires-clause-low c =
     let n = net_of c.args.net.now in
     tree_low n (searched_of c.args.tree.kept).tree c.bound-bound.result
-    (reach-small n c.counts-shape.ensures.limited) (c.bound-bound.ensures.bound n c.requires)
+    (reach-most n c.counts-shape.ensures.limited) (c.bound-bound.ensures.bound n c.requires)
 
 pub cert_law-requires : goal.cert_law-requires
 cert_law-requires c =
