@@ -31,6 +31,7 @@ import pooling
 from journals import program
 
 checker = SourceFileLoader("second_checker", str(TOP / "tools" / "second_checker.py")).load_module()
+second_tight = SourceFileLoader("second_tight", str(TOP / "tools" / "second_tight.py")).load_module()
 EXAMPLES, SEED, CHANGED = TOP / "examples", 1954, 500
 FORMS = ("p", "q", "pq")
 WIDEST = 2**127 - 1
@@ -124,7 +125,7 @@ class Trial:
 
     def second(self, case, text):
         """What the second checker says of a tight text: the status, the line, and remarks."""
-        return checker.judge([str(case.net), str(case.cert), "--tight", str(self.file("said.tight", text))])
+        return second_tight.judge_tight([str(case.net), str(case.cert), str(self.file("said.tight", text))])
 
     def said(self, label, case, text):
         """What both checkers say of a tight text, where they say the same; what they say differs else."""

@@ -8,7 +8,7 @@ from dataclasses import dataclass
 
 import icicle
 import pooling
-import second_checker
+import second_tight
 import svg
 from icicle import plain
 
@@ -38,13 +38,13 @@ class Marks:
 
 def read_marks(net, certificate, files):
     """The marks of a tight text for the network and the certificate, all in files; what the second checker refuses ends it."""
-    status, line, *remarks = second_checker.judge([*files[:2], "--tight", files[2]])
+    status, line, *remarks = second_tight.judge_tight(files)
     if status == 20:
         raise pooling.Ends(20, f"{files[2]}: it can't be read")
     if status:
         raise pooling.Ends(status, f"{files[2]}: {line}", *remarks)
     with open(files[2], "rb") as file:
-        tight = second_checker.read_tight(file.read())
+        tight = second_tight.read_tight(file.read())
     tree, raised = pooling.Tree(pooling.Rows(net), certificate.splits), {}
     for mark in tight.marks:
         if mark.word == "raised":
@@ -126,7 +126,7 @@ class TreeDrawing(icicle.Icicle):
         y += LINE if counts else 0
         left_out = 2 * len(self.splits) + 1 - len(self.boxes)
         words = ["the certificate was checked by tools/pooling.py"]
-        words += ["the marks by tools/second_checker.py"] * bool(self.marks) + [f"{left_out} boxes are too narrow to be drawn"] * (left_out > 0)
+        words += ["the marks by tools/second_tight.py"] * bool(self.marks) + [f"{left_out} boxes are too narrow to be drawn"] * (left_out > 0)
         for line in (LEGEND, "; ".join(words)):
             self.say(MARGIN, y, line, 11, colour=svg.GRAY, most=WIDTH - 2 * MARGIN)
             y += LINE
