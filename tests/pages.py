@@ -100,16 +100,23 @@ def cited_lemmas(crate):
     return {(other, file) for other, file in cited if other != crate.name and (CRATES / other / "proofs" / f"{file}.antt").exists()}
 
 
+def lemmas_elsewhere():
+    """The files of lemmas that docs/ARCHITECTURE.md names for the page of their crate: the crate, and the file."""
+    return {(crate, file) for file, crate in re.findall(r"(?m)^- `proofs/(\w+)\.antt` of `(\w+)`:", (TOP / "docs" / "ARCHITECTURE.md").read_text())}
+
+
 def unnamed_lemmas():
-    """Files of lemmas that a crate cites and that their own crate's page does not name."""
+    """Files of lemmas that a crate cites and that neither their own crate's page nor docs/ARCHITECTURE.md names, or both, and what no crate cites."""
     crates = [path for path in sorted(CRATES.iterdir()) if (path / "src").is_dir()]
     citing = {}
     for crate in crates:
         for lemmas in cited_lemmas(crate):
             citing.setdefault(lemmas, []).append(crate.name)
+    elsewhere = lemmas_elsewhere()
     for other, file in sorted(citing):
-        if file not in named_lemmas(CRATES / other):
-            yield f"crates/{other}/src/lib.rt: the page does not name proofs/{file}.antt, which is cited in {', '.join(citing[other, file])}"
+        if (file in named_lemmas(CRATES / other)) == ((other, file) in elsewhere):
+            yield f"crates/{other}/src/lib.rt: proofs/{file}.antt is not named once, by the page or by docs/ARCHITECTURE.md; it is cited in {', '.join(citing[other, file])}"
+    yield from (f"docs/ARCHITECTURE.md: no crate cites proofs/{file}.antt of {other}" for other, file in sorted(elsewhere - set(citing)))
 
 
 def help_apart():
