@@ -71,6 +71,11 @@ impl Aim {
         }
     }
 
+    /// Whether a half of this bound shows already that its cut is worth no more than so much. Where there is no target, none does.
+    pub fn is_lost(&self, half: Option<i128>, most: i128) -> bool {
+        self.target.is_some() && self.worth([half, None]) <= most
+    }
+
     /// What is left to be done in a half of this bound, in fifths of a pico: nothing where it is closed, or where there is no target.
     pub fn rest_of(&self, half: Option<i128>) -> i128 {
         match self.target {

@@ -10,7 +10,8 @@ use Rattle.box_space.specs.declared.coordinates.Form.{Form}
 use Rattle.linear_program.specs.declared.multipliers.Proof as held
 use Rattle.box_space.proofs.Halving.{left-half, right-half}
 use Rattle.leaf_cuts.specs.Given.{IsGiven}
-use Rattle.leaf_cuts.specs.Halvings.{middle_at}
+use Rattle.leaf_cuts.specs.declared.halving.Halving.{Halving}
+use Rattle.leaf_cuts.specs.Halvings.{middle_at, IsHalvingOf}
 use Rattle.leaf_cuts.proofs.Middles.{middle-above, middle-below}
 
 -- the middle rests on the ends at the coordinate alone
@@ -19,6 +20,19 @@ middle-same n b e c is lt =
     ap (λ (z : ℤ). z +ℤ int_div ((shown_box_ends e).high c -ℤ (shown_box_ends e).low c) (pos 2)) (is.agree.low c lt)
     ∙ ap (λ (z : ℤ). b.low c +ℤ int_div ((shown_box_ends e).high c -ℤ z) (pos 2)) (is.agree.low c lt)
     ∙ ap (λ (z : ℤ). b.low c +ℤ int_div (z -ℤ b.low c) (pos 2)) (is.agree.high c lt)
+
+-- a cut is a halving of a box where what is proved of both halves is what it holds
+halving-of : (n : Net) (form : Form) (b : Box) (least : ℤ) (h : Halving) (coord : ℕ) (left right : Option held.Proof)
+    → h.coord ≡ coord → h.left ≡ left → h.right ≡ right
+    → IsGiven n form (left_of b coord (middle_at b coord)) (bound least) (option_map shown_proof left)
+    → IsGiven n form (right_of b coord (middle_at b coord)) (bound least) (option_map shown_proof right)
+    → IsHalvingOf n form b least h
+halving-of n form b least h coord left right at is_left is_right on_left on_right = record {
+  left = subst (λ (c : ℕ). IsGiven n form (left_of b c (middle_at b c)) (bound least) (option_map shown_proof h.left)) (sym at)
+      (subst (λ (o : Option held.Proof). IsGiven n form (left_of b coord (middle_at b coord)) (bound least) (option_map shown_proof o)) (sym is_left) on_left);
+  right = subst (λ (c : ℕ). IsGiven n form (right_of b c (middle_at b c)) (bound least) (option_map shown_proof h.right)) (sym at)
+      (subst (λ (o : Option held.Proof). IsGiven n form (right_of b coord (middle_at b coord)) (bound least) (option_map shown_proof o)) (sym is_right) on_right);
+}
 
 module _ (n : Net) (form : Form) (b : Box) (e left right : BoxEnds) (coord : ℕ) (cut least : ℤ) (is : AreEndsOf n b e) (known : coord < coords n)
     (wide : (get_or e.low.items coord (pos 0) +ℤ pos 2) ≤ℤ get_or e.high.items coord (pos 0)) (middle : cut ≡ middle_at (shown_box_ends e) coord) (halves : AreHalves e left right coord cut) where
@@ -43,3 +57,9 @@ module _ (n : Net) (form : Form) (b : Box) (e left right : BoxEnds) (coord : ℕ
       → IsGiven n form (right_of b coord (middle_at b coord)) (bound least) (option_map shown_proof o)
   right-given o h = subst (λ (z : ℤ). IsGiven n form (right_of b coord z) (bound least) (option_map shown_proof o)) middle_is
       (h (right_of b coord cut) (right-half n b e right coord cut is halves.right_low halves.right_high known above below))
+
+  pub halving-given : (h : Halving) (o p : Option held.Proof) → h.coord ≡ coord → h.left ≡ o → h.right ≡ p
+      → ((x : Box) → AreEndsOf n x left → IsGiven n form x (bound least) (option_map shown_proof o))
+      → ((x : Box) → AreEndsOf n x right → IsGiven n form x (bound least) (option_map shown_proof p))
+      → IsHalvingOf n form b least h
+  halving-given h o p at is_left is_right on_left on_right = halving-of n form b least h coord o p at is_left is_right (left-given o on_left) (right-given p on_right)

@@ -9,14 +9,19 @@ ghost use Rattle.box_space.specs.declared.coordinates.Form as forms;
 ghost use Rattle.leaf_cuts.specs.Benches.{IsBench};
 ghost use Rattle.leaf_cuts.specs.Halvings.{middle_at, IsHalvingOf};
 
-use crate::bench::Bench;
+use crate::bench::{Bench, Proved};
 use crate::ends::ends_at;
 use crate::leaf::Leaf;
+use crate::looking::Race;
 use crate::solved::SolvedCut;
 use blend_network::Network;
-use box_space::{BoxEnds, Proof, halves};
+use box_space::{Block, BoxEnds, Coord, Proof, coord_at, halves, variable_number};
 use edge_io::Memory;
-use std::alloc::Global;
+use lp_sparse::lookup::at;
+use std::alloc::{AllocError, Global};
+
+/// The bits behind the point in the numbers of an advice's point.
+const POINT_BITS: u32 = 32;
 
 /// A cut of a leaf in the middle of a coordinate, and what rounding gives for its halves.
 #[derive(Drop)]
@@ -52,19 +57,49 @@ impl Bench {
         let basis = leaf.advice.basis.as_slice();
         let left = self.prove(alloc, net, &below, basis, leaf.bound)?;
         let right = self.prove(alloc, net, &above, basis, leaf.bound)?;
-        let bounds = [left.bound, right.bound];
-        self.solved.push(SolvedCut {
-            coord,
-            bounds,
-            left: left.basis,
-            right: right.basis,
-        })?;
-        Ok(Halving {
-            coord,
-            left: left.proof,
-            right: right.proof,
-            bounds,
-        })
+        let halving = kept(&mut self.solved, coord, left, right)?;
+        Ok(halving)
+    }
+
+    /// The same, as long as the cut may lead: none where the half that is proved first shows that it is worth no more than what leads. That
+    /// is the half that holds the point of the leaf's program, since its bound rises the least as a rule.
+    pub(crate) fn halve_to_lead(
+        &mut self,
+        alloc: Global,
+        net: &Network,
+        leaf: &Leaf,
+        coord: u32,
+        race: &Race,
+    ) -> Result<Option<Halving>, Memory>
+        requires limited { IsLimited (net_of net.now) }
+        requires ends { AreEnds (net_of net.now) leaf.now.ends }
+        requires bench { IsBench (net_of net.now) self.old }
+        requires known { coord < coords (net_of net.now) }
+        requires wide { (get_or leaf.now.ends.low.items coord (pos 0) +ℤ pos 2) ≤ℤ get_or leaf.now.ends.high.items coord (pos 0) }
+        ensures bench { IsBench (net_of net.now) self.new }
+        ensures form { self.new.form ≡ self.old.form }
+        ensures halving { (b : Box) → AreEndsOf (net_of net.now) b leaf.now.ends
+            → IfOk result (λ o. IfSome o (IsHalvingOf (net_of net.now) self.old.form b leaf.now.bound)) }
+    {
+        let cut = middle(net, &leaf.ends, coord);
+        let (below, above) = halves(alloc, &leaf.ends, coord, cut)?;
+        let basis = leaf.advice.basis.as_slice();
+        if lies_below(net, leaf, coord, cut) {
+            let left = self.prove(alloc, net, &below, basis, leaf.bound)?;
+            if race.is_lost(left.bound) {
+                return Ok(None);
+            }
+            let right = self.prove(alloc, net, &above, basis, leaf.bound)?;
+            let halving = kept(&mut self.solved, coord, left, right)?;
+            return Ok(Some(halving));
+        }
+        let right = self.prove(alloc, net, &above, basis, leaf.bound)?;
+        if race.is_lost(right.bound) {
+            return Ok(None);
+        }
+        let left = self.prove(alloc, net, &below, basis, leaf.bound)?;
+        let halving = kept(&mut self.solved, coord, left, right)?;
+        Ok(Some(halving))
     }
 
     /// The cut of a leaf at a coordinate: one of those that are there, or a new one.
@@ -91,6 +126,32 @@ impl Bench {
             None => self.halve(alloc, net, leaf, coord),
         }
     }
+}
+
+/// The cut of a coordinate whose halves are proved; where their programs ended is added to what is solved.
+fn kept(
+    solved: &mut Vec<SolvedCut>,
+    coord: u32,
+    left: Proved,
+    right: Proved,
+) -> Result<Halving, AllocError>
+    ensures coord { IfOk result (λ h. h.coord ≡ coord) }
+    ensures left { IfOk result (λ h. h.left ≡ left.proof) }
+    ensures right { IfOk result (λ h. h.right ≡ right.proof) }
+{
+    let bounds = [left.bound, right.bound];
+    solved.push(SolvedCut {
+        coord,
+        bounds,
+        left: left.basis,
+        right: right.basis,
+    })?;
+    Ok(Halving {
+        coord,
+        left: left.proof,
+        right: right.proof,
+        bounds,
+    })
 }
 
 /// The middle of a box's ends at a coordinate, rounded down.
@@ -122,6 +183,19 @@ fn half(width: i64) -> i64
     ensures most { result ≤ℤ width }
 {
     width / 2
+}
+
+/// Whether the point of a leaf's program lies below a cut of one of its coordinates.
+fn lies_below(net: &Network, leaf: &Leaf, coord: u32, cut: i64) -> bool
+    requires { coord < coords (net_of net.now) }
+{
+    let variable = match coord_at(net, coord) {
+        Coord::Prop(feed) => variable_number(net, Block::Proportions, feed),
+        Coord::Qual(pool, quality) => variable_number(net, Block::Qualities(quality), pool),
+        Coord::Flow(out) => variable_number(net, Block::Outs, out),
+    };
+    let place = at(leaf.advice.point.as_slice(), variable as usize, 0);
+    place < i128::from(cut).unbounded_shl(POINT_BITS)
 }
 
 /// The first of some cuts that is at a coordinate, out of the list.

@@ -70,12 +70,6 @@ impl Look {
         }
     }
 
-    /// Whether to look on after some cuts: enough of the last ones lead.
-    fn goes_on(&self, halvings: &[Halving]) -> bool {
-        let behind = halvings.len().saturating_sub(self.leading(halvings));
-        behind <= self.patience
-    }
-
     /// The place of the cut that leads: the first of the best.
     fn leading(&self, halvings: &[Halving]) -> usize {
         let mut lead = 0;
@@ -95,6 +89,43 @@ impl Look {
         match halvings.get(self.leading(halvings)) {
             Some(halving) => halving.coord,
             None => u32::MAX,
+        }
+    }
+}
+
+/// How the cuts of a look stand so far.
+#[derive(Clone, Copy)]
+pub(crate) struct Race {
+    aim: Aim,
+    /// What a cut has to be worth more than, to lead.
+    most: i128,
+    /// How many have come since the one that leads, which is counted too.
+    behind: usize,
+}
+
+impl Race {
+    fn new(aim: Aim) -> Race {
+        Race {
+            aim,
+            most: i128::MIN,
+            behind: 0,
+        }
+    }
+
+    /// Whether a half of this bound shows already that its cut does not lead.
+    pub(crate) fn is_lost(&self, half: Option<i128>) -> bool {
+        self.aim.is_lost(half, self.most)
+    }
+
+    /// Counts a cut, by the bounds of its halves; none where it was lost.
+    fn count(&mut self, halves: Option<[Option<i128>; 2]>) {
+        self.behind = self.behind.saturating_add(1);
+        if let Some(halves) = halves {
+            let worth = self.aim.worth(halves);
+            if worth > self.most {
+                self.most = worth;
+                self.behind = 1;
+            }
         }
     }
 }
@@ -192,7 +223,8 @@ impl Bench {
         Ok(Looked { view, halvings })
     }
 
-    /// The cuts of a leaf at those of some coordinates where it can be cut, as long as looking helps.
+    /// The cuts of a leaf at those of some coordinates where it can be cut, as long as looking helps. Those of which one half shows
+    /// that they don't lead are left out.
     fn halved(
         &mut self,
         alloc: Global,
@@ -210,13 +242,17 @@ impl Bench {
             → IfOk result (λ l. All (IsHalvingOf (net_of net.now) self.old.form b leaf.now.bound) l.items) }
     {
         let mut halvings = Vec::new(alloc);
+        let mut race = Race::new(look.aim);
         for coord in best {
-            if look.goes_on(halvings.as_slice())
+            if race.behind <= look.patience
                 && *coord < coords(net)
                 && can_cut(&leaf.ends.view(), *coord)
             {
-                let halving = self.halve(alloc, net, leaf, *coord)?;
-                halvings.push(halving)?;
+                let found = self.halve_to_lead(alloc, net, leaf, *coord, &race)?;
+                race.count(found.as_ref().map(|halving| halving.bounds));
+                if let Some(halving) = found {
+                    halvings.push(halving)?;
+                }
             }
         }
         Ok(halvings)

@@ -179,3 +179,21 @@ fn a_closed_half_is_worth_more_than_two_middling_ones(rt: HostRuntime) -> Result
     assert!(rt; none.worth(middling) > none.worth(closing));
     Ok(())
 }
+
+/// The same leaf: a half that stays where the leaf was leaves 100 + 2/5 of 100 to be done, 700 in fifths, whatever its other half shows.
+#[test]
+fn a_half_may_lose_its_cut(rt: HostRuntime) -> Result<(), Fail> {
+    let free = Cost { num: 0, base: 1 };
+    let aim = Aim::new(Some(free), 0, -100 * MONEY);
+    let unmoved = Some(-100 * MONEY);
+    assert!(rt; aim.is_lost(unmoved, -699 * MONEY));
+    assert!(rt; !aim.is_lost(unmoved, -701 * MONEY));
+    // A tie does not lead.
+    assert!(rt; aim.is_lost(unmoved, -700 * MONEY));
+    // What holds no plan leaves nothing to be done.
+    assert!(rt; !aim.is_lost(None, -MONEY));
+    // Before there is a plan no half tells.
+    let none = Aim::new(None, 0, -100 * MONEY);
+    assert!(rt; !none.is_lost(unmoved, i128::MAX));
+    Ok(())
+}

@@ -1,13 +1,12 @@
 use Rattle.std.proofs.Common.{option_map, ℤ, subst, rules, FitsSigned, to_z, of_z, to_z-of_z}
 use mir.Syntax.{w64, w128}
 use Rattle.pool_model.specs.Network.{net_of}
-use Rattle.row_model.specs.Boxes.{left_of, right_of}
 use Rattle.row_model.specs.Multipliers.{bound}
 use Rattle.box_space.specs.Views.{shown_proof, AreHalves}
 use Rattle.box_space.specs.declared.coordinates.Form.{Form}
 use Rattle.leaf_cuts.specs.Given.{IsGiven}
-use Rattle.leaf_cuts.specs.Halvings.{middle_at}
-use Rattle.leaf_cuts.proofs.HalfProofs.{left-given, right-given}
+use Rattle.leaf_cuts.specs.Halvings.{IsHalvingOf}
+use Rattle.leaf_cuts.proofs.HalfProofs.{halving-given}
 use Rattle.leaf_cuts.proofs.bench.Bench.halve.Goals as goal
 
 pub returns-clause-halving : goal.returns-clause-halving
@@ -20,16 +19,12 @@ returns-clause-halving c = λ b ends.
     let cut = c.middle-cut.result in
     let fits : FitsSigned w64 cut = search rules in
     let halves = subst (λ (z : ℤ). AreHalves e below above c.args.coord z) (to_z-of_z fits) c.in_ok-below.ensures.cut in
-    let same = c.in_ok-left.ensures.form in
     let least = c.args.leaf.now.bound in
     let held = to_z w128 (of_z w128 least) in
     let least_fits : FitsSigned w128 least = search rules in
-    let left = option_map shown_proof c.in_ok-left.left.proof in
-    let right = option_map shown_proof c.in_ok-right.right.proof in
-    record {
-      left = subst (λ (z : ℤ). IsGiven n form (left_of b c.args.coord (middle_at b c.args.coord)) (bound z) left) (to_z-of_z least_fits)
-          (left-given n form b e below above c.args.coord cut held ends c.requires.known c.requires.wide c.middle-cut.ensures halves c.in_ok-left.left.proof c.in_ok-left.ensures.given);
-      right = subst (λ (z : ℤ). IsGiven n form (right_of b c.args.coord (middle_at b c.args.coord)) (bound z) right) (to_z-of_z least_fits)
-          (right-given n form b e below above c.args.coord cut held ends c.requires.known c.requires.wide c.middle-cut.ensures halves c.in_ok-right.right.proof
-          (λ x is. subst (λ (f : Form). IsGiven n f x (bound held) right) same (c.in_ok-right.ensures.given x is)));
-    }
+    let halving = c.in_ok-halving.halving in
+    subst (λ (z : ℤ). IsHalvingOf n form b z halving) (to_z-of_z least_fits)
+    (halving-given n form b e below above c.args.coord cut held ends c.requires.known c.requires.wide c.middle-cut.ensures halves halving
+    c.in_ok-left.left.proof c.in_ok-right.right.proof c.in_ok-halving.ensures.coord c.in_ok-halving.ensures.left c.in_ok-halving.ensures.right
+    c.in_ok-left.ensures.given
+    (λ x is. subst (λ (f : Form). IsGiven n f x (bound held) (option_map shown_proof c.in_ok-right.right.proof)) c.in_ok-left.ensures.form (c.in_ok-right.ensures.given x is)))
