@@ -36,7 +36,7 @@ pub(crate) fn work_leaf(
     ensures none { IfOk result (λ o. IfNone o (¬ CanBeCut (net_of net.now) form (box_of (net_of net.now) tree.now.kept.splits.list node))) }
 {
     let least = least_of(net, tree, node);
-    let (leaf, mut bench) = solve_node(alloc, net, tree, node, form, PIVOTS, least)?;
+    let (leaf, mut bench) = solve_node(alloc, net, tree, node, form, PIVOTS, least, None)?;
     // the rule asks for no numbers of what a cut may gain, so no coordinate is looked at
     let looked = bench.look(alloc, net, tree, &leaf, 0, 0)?;
     if !looked.view.has_open() {

@@ -16,9 +16,22 @@ use blend_network::Network;
 use box_space::{BoxEnds, Form, Proof};
 use dual_rounding::{Relaxation, Rounding};
 use edge_io::Memory;
-use lp_simplex::{Advice, Lp, advise, advise_from};
+use lp_simplex::{Advice, Lp, advise, advise_from, advise_within};
 use row_book::Shown;
 use std::alloc::Global;
+
+/// How often the basis of a half's program may change at the most while it is looked at. In networks of some dozens of arcs most end before;
+/// in those of 500 paths a half takes some 200, and half as many tell as well which cut leads (docs/SEARCH.md).
+const LOOK_PIVOTS: u32 = 100;
+
+/// How far a program is solved.
+#[derive(Clone, Copy)]
+pub(crate) enum Effort {
+    /// To its end.
+    Whole,
+    /// As far as a look needs it.
+    Look,
+}
 
 /// A program of a form, which is written over for box after box, and the memory of rounding.
 #[derive(Drop)]
@@ -39,6 +52,8 @@ pub(crate) struct Proved {
     /// In picos: None where it holds no plan.
     pub(crate) bound: Option<i128>,
     pub(crate) basis: Vec<u32>,
+    /// Whether the program came to its end.
+    pub(crate) is_final: bool,
 }
 
 impl Bench {
@@ -86,6 +101,22 @@ impl Bench {
         advise_from(alloc, self.relaxation.program(), basis, self.pivots)
     }
 
+    /// The same as far as is asked for, and whether the program came to its end.
+    fn advise_by(
+        &self,
+        alloc: Global,
+        basis: &[u32],
+        effort: Effort,
+    ) -> Result<(Advice, bool), Memory> {
+        match effort {
+            Effort::Whole => Ok((self.advise_from(alloc, basis)?, true)),
+            Effort::Look => {
+                let most = self.pivots.min(LOOK_PIVOTS);
+                advise_within(alloc, self.relaxation.program(), basis, most)
+            }
+        }
+    }
+
     /// Writes the program of another box.
     fn move_to(&mut self, net: &Network, ends: &BoxEnds) -> Result<(), Memory>
         requires ends { AreEnds (net_of net.now) ends.now }
@@ -126,6 +157,7 @@ impl Bench {
         ends: &BoxEnds,
         basis: &[u32],
         bound: i128,
+        effort: Effort,
     ) -> Result<Proved, Memory>
         requires limited { IsLimited (net_of net.now) }
         requires ends { AreEnds (net_of net.now) ends.now }
@@ -136,12 +168,13 @@ impl Bench {
             → IfOk result (λ p. IsGiven (net_of net.now) self.old.form b (shows bound) (option_map shown_proof p.proof)) }
     {
         self.move_to(net, ends)?;
-        let advice = self.advise_from(alloc, basis)?;
+        let (advice, is_final) = self.advise_by(alloc, basis, effort)?;
         let proof = self.round(net, ends, &advice, bound)?;
         Ok(Proved {
             proof,
             bound: self.worth(),
             basis: advice.basis,
+            is_final,
         })
     }
 

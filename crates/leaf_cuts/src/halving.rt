@@ -9,7 +9,7 @@ ghost use Rattle.box_space.specs.declared.coordinates.Form as forms;
 ghost use Rattle.leaf_cuts.specs.Benches.{IsBench};
 ghost use Rattle.leaf_cuts.specs.Halvings.{middle_at, IsHalvingOf};
 
-use crate::bench::{Bench, Proved};
+use crate::bench::{Bench, Effort, Proved};
 use crate::ends::ends_at;
 use crate::leaf::Leaf;
 use crate::looking::Race;
@@ -31,10 +31,13 @@ pub struct Halving {
     pub right: Option<Proof>,
     /// What is known of each half then, in picos: None where it holds no plan.
     pub bounds: [Option<i128>; 2],
+    /// Whether the programs of both halves came to their ends.
+    pub is_final: bool,
 }
 
 impl Bench {
-    /// Cuts a leaf in the middle of a coordinate, and proves both halves from the leaf's basis.
+    /// Cuts a leaf in the middle of a coordinate, and proves both halves: each from where its program ended in a look, or from the leaf's
+    /// basis.
     pub(crate) fn halve(
         &mut self,
         alloc: Global,
@@ -54,15 +57,17 @@ impl Bench {
     {
         let cut = middle(net, &leaf.ends, coord);
         let (below, above) = halves(alloc, &leaf.ends, coord, cut)?;
-        let basis = leaf.advice.basis.as_slice();
-        let left = self.prove(alloc, net, &below, basis, leaf.bound)?;
-        let right = self.prove(alloc, net, &above, basis, leaf.bound)?;
+        let start = taken(&mut self.solved, coord);
+        let (low, high) = starts(leaf, start.as_ref());
+        let left = self.prove(alloc, net, &below, low, leaf.bound, Effort::Whole)?;
+        let right = self.prove(alloc, net, &above, high, leaf.bound, Effort::Whole)?;
         let halving = kept(&mut self.solved, coord, left, right)?;
         Ok(halving)
     }
 
-    /// The same, as long as the cut may lead: none where the half that is proved first shows that it is worth no more than what leads. That
-    /// is the half that holds the point of the leaf's program, since its bound rises the least as a rule.
+    /// The same from the leaf's basis, as far as a look needs it and as long as the cut may lead: none where the half that is proved first
+    /// shows that it is worth no more than what leads. That is the half that holds the point of the leaf's program, since its bound rises the
+    /// least as a rule.
     pub(crate) fn halve_to_lead(
         &mut self,
         alloc: Global,
@@ -85,24 +90,24 @@ impl Bench {
         let (below, above) = halves(alloc, &leaf.ends, coord, cut)?;
         let basis = leaf.advice.basis.as_slice();
         if lies_below(net, leaf, coord, cut) {
-            let left = self.prove(alloc, net, &below, basis, leaf.bound)?;
+            let left = self.prove(alloc, net, &below, basis, leaf.bound, Effort::Look)?;
             if race.is_lost(left.bound) {
                 return Ok(None);
             }
-            let right = self.prove(alloc, net, &above, basis, leaf.bound)?;
+            let right = self.prove(alloc, net, &above, basis, leaf.bound, Effort::Look)?;
             let halving = kept(&mut self.solved, coord, left, right)?;
             return Ok(Some(halving));
         }
-        let right = self.prove(alloc, net, &above, basis, leaf.bound)?;
+        let right = self.prove(alloc, net, &above, basis, leaf.bound, Effort::Look)?;
         if race.is_lost(right.bound) {
             return Ok(None);
         }
-        let left = self.prove(alloc, net, &below, basis, leaf.bound)?;
+        let left = self.prove(alloc, net, &below, basis, leaf.bound, Effort::Look)?;
         let halving = kept(&mut self.solved, coord, left, right)?;
         Ok(Some(halving))
     }
 
-    /// The cut of a leaf at a coordinate: one of those that are there, or a new one.
+    /// The cut of a leaf at a coordinate: one of those that are there, where its programs came to their ends, or a new one.
     pub fn proved_at(
         &mut self,
         alloc: Global,
@@ -121,10 +126,29 @@ impl Bench {
         // Promise: What a split adds is what rounding gives for both halves, cut in the middle, above the leaf's bound
         ensures halving { (b : Box) → AreEndsOf (net_of net.now) b leaf.now.ends → IfOk result (IsHalvingOf (net_of net.now) self.old.form b leaf.now.bound) }
     {
-        match halving_at(halvings, coord) {
-            Some(halving) => Ok(halving),
-            None => self.halve(alloc, net, leaf, coord),
+        if let Some(halving) = halving_at(halvings, coord) {
+            if halving.is_final {
+                return Ok(halving);
+            }
         }
+        self.halve(alloc, net, leaf, coord)
+    }
+}
+
+/// The cut of a coordinate that is solved so far, out of the list.
+fn taken(solved: &mut Vec<SolvedCut>, coord: u32) -> Option<SolvedCut> {
+    let place = solved.iter().position(|cut| cut.coord == coord)?;
+    Some(solved.remove(place))
+}
+
+/// Where the programs of a cut's halves start.
+fn starts<'a>(leaf: &'a Leaf, start: Option<&'a SolvedCut>) -> (&'a [u32], &'a [u32]) {
+    match start {
+        None => {
+            let basis = leaf.advice.basis.as_slice();
+            (basis, basis)
+        }
+        Some(cut) => (cut.left.as_slice(), cut.right.as_slice()),
     }
 }
 
@@ -140,6 +164,7 @@ fn kept(
     ensures right { IfOk result (λ h. h.right ≡ right.proof) }
 {
     let bounds = [left.bound, right.bound];
+    let is_final = left.is_final && right.is_final;
     solved.push(SolvedCut {
         coord,
         bounds,
@@ -151,6 +176,7 @@ fn kept(
         left: left.proof,
         right: right.proof,
         bounds,
+        is_final,
     })
 }
 

@@ -8,6 +8,7 @@ ghost use Rattle.leaf_cuts.specs.Benches.{IsBench};
 ghost use Rattle.leaf_cuts.specs.Leaves.{IsSolved, IsSolvedLeaf};
 
 use crate::bench::Bench;
+use crate::known::KnownAdvice;
 use blend_network::Network;
 use box_space::{BoxEnds, Form, Proof};
 use box_tree::Tree;
@@ -29,7 +30,8 @@ pub struct Leaf {
     pub advice: Advice,
 }
 
-/// The least leaf of a tree, solved, with the bench on which its program of the form stands.
+/// The least leaf of a tree, solved, with the bench on which its program of the form stands. What is known of its program is not solved
+/// again.
 pub fn solve_leaf(
     alloc: Global,
     net: &Network,
@@ -37,6 +39,7 @@ pub fn solve_leaf(
     form: Form,
     pivots: u32,
     bound: i128,
+    known: Option<KnownAdvice>,
 ) -> Result<(Leaf, Bench), Memory>
     requires tree { IsOf (net_of net.now) tree.now }
     requires bound { tree_bound (net_of net.now) (searched_of tree.now.kept).tree ≡ Some bound }
@@ -48,7 +51,7 @@ pub fn solve_leaf(
     let Some(node) = tree.least_leaf() else {
         unreachable!()
     };
-    solve_node(alloc, net, tree, node, form, pivots, bound)
+    solve_node(alloc, net, tree, node, form, pivots, bound, known)
 }
 
 /// A node of a tree, solved, with the bench on which its program of the form stands. Its halves will be proved above the bound, whichever
@@ -61,6 +64,7 @@ pub fn solve_node(
     form: Form,
     pivots: u32,
     bound: i128,
+    known: Option<KnownAdvice>,
 ) -> Result<(Leaf, Bench), Memory>
     requires tree { IsOf (net_of net.now) tree.now }
     requires there { node < nodes tree.now.kept.splits.list }
@@ -70,7 +74,7 @@ pub fn solve_node(
 {
     let ends = tree.box_of(net, node)?;
     let bench = Bench::new(alloc, net, form, pivots, &ends)?;
-    let advice = advice_at(alloc, tree, node, &bench)?;
+    let advice = advice_at(alloc, tree, node, &bench, known)?;
     let leaf = Leaf {
         node,
         bound,
@@ -80,9 +84,27 @@ pub fn solve_node(
     Ok((leaf, bench))
 }
 
+/// Advice on the program of a node, which stands on the bench: what is known of it, or new advice.
+fn advice_at(
+    alloc: Global,
+    tree: &Tree,
+    node: u32,
+    bench: &Bench,
+    known: Option<KnownAdvice>,
+) -> Result<Advice, Memory>
+    ensures { IfOk result (λ a. vec_len a.point ≡ vec_len bench.now.relaxation.low) }
+{
+    if let Some(known) = known {
+        if let Some(advice) = known.at(tree, node, bench) {
+            return Ok(advice);
+        }
+    }
+    new_advice(alloc, tree, node, bench)
+}
+
 /// Advice on the program of a node, which stands on the bench: from the proof of the nearest node that has one, among the node
 /// and those above it.
-fn advice_at(alloc: Global, tree: &Tree, node: u32, bench: &Bench) -> Result<Advice, Memory>
+fn new_advice(alloc: Global, tree: &Tree, node: u32, bench: &Bench) -> Result<Advice, Memory>
     ensures { IfOk result (λ a. vec_len a.point ≡ vec_len bench.now.relaxation.low) }
 {
     if tree.splits().len() < COLD_SPLITS {

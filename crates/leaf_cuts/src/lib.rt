@@ -16,9 +16,12 @@
 //! - A program starts where the one above it ended. A leaf's starts from the proof of the nearest node that has one, and
 //!   those of its halves from the leaf's basis. The first seven are solved from nothing, since other vertices
 //!   give other plans.
-//! - Where a look is asked for, both halves of coordinates are solved, those first that are missed the most by what `cut_scores` says, up
+//! - Where a look is asked for, halves of coordinates are solved, those first that are missed the most by what `cut_scores` says, up
 //!   to so many and as long as new ones lead; and the one whose cut leaves the least to be done gets the greatest number. The rows of
-//!   the view have these numbers, and else none.
+//!   the view have these numbers, and else none. The second half of a cut that can't lead is left out, and no half is solved further than
+//!   a look needs; those of the cut that is made are solved to their ends.
+//! - What is known of a program is handed on ([`KnownAdvice`]), from the proof of the root to the first leaf, and from a leaf of which a plan
+//!   came to the next call.
 //!
 //! A bench keeps what it solved of the halves ([`SolvedCut`]), for whoever tries other parts of the leaf ([`Bench::into_solved`]).
 //!
@@ -33,6 +36,7 @@ mod bench;
 mod ends;
 mod gains;
 mod halving;
+mod known;
 mod leaf;
 mod looking;
 mod root;
@@ -41,6 +45,7 @@ mod view;
 
 pub use bench::Bench;
 pub use halving::Halving;
+pub use known::KnownAdvice;
 pub use leaf::{Leaf, solve_leaf, solve_node};
 pub use looking::Looked;
 pub use root::root_proof;

@@ -1,4 +1,4 @@
-//! The look at a leaf: its view, and both halves of the coordinates that are missed the most, proved before one is cut.
+//! The look at a leaf: its view, and the halves of the coordinates that are missed the most, proved before one is cut.
 
 ghost use Rattle.std.specs.Prelude.{◌≡◌, All, IfOk};
 ghost use Rattle.pool_model.specs.Network.{IsLimited, net_of};
@@ -149,9 +149,10 @@ pub struct Looked {
 }
 
 impl Bench {
-    /// Looks at a leaf of a tree whose program stands on the bench. It proves both halves of the coordinates that are missed the most,
-    /// at most `looks` of them and as long as it helps, and shows the leaf, with what each coordinate is missed by; of all those the one
-    /// whose cut leaves the least to be done has the greatest number. The gap is the one that is enough, in picos.
+    /// Looks at a leaf of a tree whose program stands on the bench. It proves the halves of the coordinates that are missed the most,
+    /// at most `looks` of them and as long as it helps, leaves out the second half of a cut that can't lead, and shows the leaf, with what each
+    /// coordinate is missed by; of all those the one whose cut leaves the least to be done has the greatest number. The gap is the one that
+    /// is enough, in picos.
     pub fn look(
         &mut self,
         alloc: Global,

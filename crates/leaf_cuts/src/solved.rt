@@ -1,5 +1,7 @@
 //! What is known once cuts of a leaf are solved. It is advice: no clause speaks of it.
 
+use std::alloc::Global;
+
 /// A cut of a leaf in the middle of a coordinate, both of whose halves are solved.
 #[derive(Debug, Drop)]
 pub struct SolvedCut {
@@ -17,4 +19,14 @@ pub struct SolvedCuts {
     /// The basis at which the leaf's own program ended.
     pub basis: Vec<u32>,
     pub cuts: Vec<SolvedCut>,
+}
+
+impl SolvedCuts {
+    /// Nothing is solved.
+    pub fn none(alloc: Global) -> SolvedCuts {
+        SolvedCuts {
+            basis: Vec::new(alloc),
+            cuts: Vec::new(alloc),
+        }
+    }
 }

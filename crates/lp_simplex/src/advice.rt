@@ -51,6 +51,21 @@ pub fn advise_from(alloc: Global, lp: &Lp, start: &[u32], pivots: u32) -> Result
     advise(alloc, lp, pivots.saturating_sub(solution.pivots))
 }
 
+/// Advice from a start after at most `pivots` changes of the basis, without a cold call; and whether the method came to an end.
+pub fn advise_within(
+    alloc: Global,
+    lp: &Lp,
+    start: &[u32],
+    pivots: u32,
+) -> Result<(Advice, bool), Memory>
+    ensures duals { IfOk result (λ a. vec_len a.0.duals ≡ vec_len lp.now.rows) }
+    ensures point { IfOk result (λ a. vec_len a.0.point ≡ vec_len lp.now.low) }
+    ensures basis { IfOk result (λ a. NamesColumns lp.now a.0.basis.items) }
+{
+    let solution = solve(alloc, lp, start, pivots)?;
+    Ok((solution.advice, solution.is_final))
+}
+
 /// A start from a rounded proof alone, its parts in any order: the rows with a multiplier, by `LpRow::id`, and the
 /// variables that they leave no cost but for rounding. The multipliers are `scale` times the duals; a `scale` of 0 is that
 /// of a proof that there is no point.

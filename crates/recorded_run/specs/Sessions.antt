@@ -9,7 +9,7 @@ use Rattle.search_core.specs.Searches.{IsSearchOf, searched}
 use Rattle.search_run.specs.Found.{IsFound}
 use Rattle.search_run.specs.Orders.{options_of}
 use Rattle.search_run.specs.Runs.{IsRun}
-use Rattle.search_run.specs.declared.ended.Ended.{Ended}
+use Rattle.search_core.specs.declared.ended.Ended.{Ended}
 use Rattle.search_run.specs.declared.orders.Orders.{Orders}
 use Rattle.journal_format.specs.declared.fault.JournalFault.TheVariants.{Memory}
 use Rattle.recorded_run.specs.Recorded.{BeginsWith, HasFewSplits, IsBetween, IsRecorded, StandsNow}

@@ -23,8 +23,8 @@ use blend_network::Network;
 use box_tree::Entry;
 use disk_calls::Disk;
 use node_journal::{Journal, JournalFault};
-use search_core::{Next, Search};
-use search_run::{Ended, Orders, due};
+use search_core::{Ended, Next, Search};
+use search_run::{Orders, due};
 use std::alloc::Global;
 
 /// A journal, and the search whose tree is made of what the journal holds.
@@ -91,15 +91,12 @@ impl Session {
         ensures failed { IsErrOf result (RunFault.Journal journal_faults.Disk) → Rose (D.told disk.old).faults (D.told disk.new).faults }
         ensures same_disk { IsSameDisk (D.told disk.old) (D.told disk.new) }
     {
+        let mut known = None;
         'steps: loop {
-            let next = due(alloc, net, orders, &self.search)?;
+            let next = due(alloc, net, orders, &self.search, &mut known)?;
             match next {
                 Next::Do(entry) => self.record(net, orders, disk, entry)?,
-                Next::Closed => return Ok(Ended::Closed),
-                Next::Stopped => return Ok(Ended::Stopped),
-                Next::Stuck => return Ok(Ended::Stuck),
-                Next::Infeasible => return Ok(Ended::Infeasible),
-                Next::Undecided => return Ok(Ended::Undecided),
+                Next::End(ended) => return Ok(ended),
             }
         }
     }

@@ -1,5 +1,5 @@
--- The split of the least leaf, put together; and how a search ends.
-use Rattle.std.proofs.Common.{◌≡◌, ℕ, ◌<◌, ◌⊎◌, inl, inr, List, length, get_or, Bool, Option, Some, None, option_map, ℤ, pos, ◌+ℤ◌, ◌-ℤ◌, ◌≤ℤ◌, sym, ap, subst, ◌∙◌}
+-- The split of the least leaf, put together.
+use Rattle.std.proofs.Common.{◌≡◌, ℕ, get_or, Some, option_map, ℤ, pos, ◌+ℤ◌, ◌-ℤ◌, ◌≤ℤ◌, sym, ap, subst, ◌∙◌}
 use Rattle.std.specs.Int.RustNames.{int_div}
 use Rattle.std.proofs.lemmas.List.Elements.{All-get_or}
 use denote.Ref.{Bor}
@@ -16,13 +16,11 @@ use Rattle.branching.specs.Rows.{View, row_at, no_row}
 use Rattle.branching.specs.Rules.{IsPick}
 use Rattle.search_core.specs.declared.options.Options.{Options}
 use Rattle.leaf_cuts.specs.declared.halving.Halving.{Halving}
-use Rattle.search_core.specs.declared.next.Next.{Next}
-use Rattle.search_core.specs.declared.next.Next.TheVariants.{Stopped, Stuck, Undecided}
 use Rattle.leaf_cuts.specs.Views.{IsRowOf, IsViewOf}
 use Rattle.leaf_cuts.specs.Given.{IsGiven}
 use Rattle.leaf_cuts.specs.Halvings.{middle_at, IsHalvingOf}
-use Rattle.search_core.specs.Cases.{HasPlan, IsSpent, IsStuck, IsCuttable}
-use Rattle.search_core.specs.Next.{GoesOn, IsHalving, IsLeastSplit, IsNext}
+use Rattle.search_core.specs.Cases.{IsCuttable}
+use Rattle.search_core.specs.Next.{IsHalving, IsLeastSplit}
 use Rattle.search_core.proofs.Opening.{open-cuttable}
 
 module _ (n : Net) (o : Options) (b : Box) (node : ℕ) (view : View) (split : Split) (post : Bor View → ℕ → Type 0) (seen : IsViewOf n o.form b node view) (picked : IsPick post view split) where
@@ -71,21 +69,6 @@ least-split n o s post node view split h least leaf bounded seen picked is same 
       halving = pick-halving n o (box_of n s.tree.splits split.leaf) split.leaf view split post seen_at picked h least
           (subst (λ (l : ℕ). IsHalvingOf n o.form (box_of n s.tree.splits l) least h) at is) same;
     }
-
--- ---- ends
-
-module _ (n : Net) (o : Options) (s : Searched) (repaired : Bool) (tried : Option (List ℤ)) (post : Bor View → ℕ → Type 0) (going : GoesOn n o s repaired tried) where
-  pub stopped-next : (r : Next) → ((r ≡ Stopped) × HasPlan s) ⊎ ((r ≡ Undecided) × (s.best ≡ None)) → IsSpent o s → IsNext n o s repaired tried post r
-  stopped-next r h spent = elim h [
-    | inl p ↦ subst (λ (x : Next). IsNext n o s repaired tried post x) (sym p.0) (going, spent, p.1)
-    | inr p ↦ subst (λ (x : Next). IsNext n o s repaired tried post x) (sym p.0) (going, inl spent, p.1)
-  ]
-
-  pub stuck-next : (r : Next) → ((r ≡ Stuck) × HasPlan s) ⊎ ((r ≡ Undecided) × (s.best ≡ None)) → length s.tree.splits < o.nodes → IsStuck n o.form s → IsNext n o s repaired tried post r
-  stuck-next r h few stuck = elim h [
-    | inl p ↦ subst (λ (x : Next). IsNext n o s repaired tried post x) (sym p.0) (going, few, stuck, p.1)
-    | inr p ↦ subst (λ (x : Next). IsNext n o s repaired tried post x) (sym p.0) (going, inr stuck, p.1)
-  ]
 
 -- where a box can be cut, the ends that are held are apart
 pub cut-wide : (n : Net) (form : Form) (b : Box) (e : BoxEnds) (c : ℕ) → AreEndsOf n b e → IsCuttable n form b c → (get_or e.low.items c (pos 0) +ℤ pos 2) ≤ℤ get_or e.high.items c (pos 0)

@@ -17,7 +17,9 @@ use Rattle.branching.specs.Rules.{IsPick}
 use Rattle.search_core.specs.declared.options.Options.{Options}
 use Rattle.search_core.specs.declared.next.Answer.{Answer}
 use Rattle.search_core.specs.declared.next.Next.{Next}
-use Rattle.search_core.specs.declared.next.Next.TheVariants.{Do, Closed, Stopped, Stuck, Infeasible, Undecided}
+use Rattle.search_core.specs.declared.next.Next.TheVariants.{Do, End}
+use Rattle.search_core.specs.declared.ended.Ended.{Ended}
+use Rattle.search_core.specs.declared.ended.Ended.TheVariants.{Closed, Stopped, Stuck, Infeasible, Undecided}
 use Rattle.leaf_cuts.specs.Views.{IsViewOf}
 use Rattle.leaf_cuts.specs.Given.{IsGiven}
 use Rattle.leaf_cuts.specs.Halvings.{middle_at}
@@ -73,14 +75,18 @@ IsEntry n o s repaired tried post (SplitOf split left right) =
     GoesOn n o s repaired tried × (length s.tree.splits < o.nodes)
     × IsLeastSplit n o s post split (option_map shown_proof left) (option_map shown_proof right)
 
+-- how the search ended is what the first case that applies says
+abbrev pub IsEnded : Net → Options → Searched → Bool → Option (List ℤ) → Ended → Type 0
+IsEnded n o s repaired tried Infeasible = HasNoBetterStart n s × (tree_bound n s.tree ≡ None)
+IsEnded n o s repaired tried Closed = HasNoBetterStart n s × IsClosed n o.gap s
+IsEnded n o s repaired tried Stopped = GoesOn n o s repaired tried × IsSpent o s × HasPlan s
+IsEnded n o s repaired tried Stuck = GoesOn n o s repaired tried × (length s.tree.splits < o.nodes) × IsStuck n o.form s × HasPlan s
+IsEnded n o s repaired tried Undecided = GoesOn n o s repaired tried × (IsSpent o s ⊎ IsStuck n o.form s) × (s.best ≡ None)
+
 -- what is due is that of the first case that applies, where this point was tried
 abbrev pub IsNext : Net → Options → Searched → Bool → Option (List ℤ) → (Bor View → ℕ → Type 0) → Next → Type 0
 IsNext n o s repaired tried post (Do entry) = IsEntry n o s repaired tried post entry
-IsNext n o s repaired tried post Infeasible = HasNoBetterStart n s × (tree_bound n s.tree ≡ None)
-IsNext n o s repaired tried post Closed = HasNoBetterStart n s × IsClosed n o.gap s
-IsNext n o s repaired tried post Stopped = GoesOn n o s repaired tried × IsSpent o s × HasPlan s
-IsNext n o s repaired tried post Stuck = GoesOn n o s repaired tried × (length s.tree.splits < o.nodes) × IsStuck n o.form s × HasPlan s
-IsNext n o s repaired tried post Undecided = GoesOn n o s repaired tried × (IsSpent o s ⊎ IsStuck n o.form s) × (s.best ≡ None)
+IsNext n o s repaired tried post (End ended) = IsEnded n o s repaired tried ended
 
 -- where what is due is an entry, this holds of it
 abbrev pub IsDo : (Entry → Type 0) → Next → Type 0

@@ -9,12 +9,13 @@ ghost use Rattle.plan_core.specs.Views.{shown_plan};
 ghost use Rattle.search_core.specs.Searches.{searched, IsSearchOf};
 ghost use Rattle.search_core.specs.Cases.{IsBetterStart, HasNoBetterStart, IsClosed, IsRootOpen, IsRootProof, HasNoRootProof, IsSpent};
 
+use crate::options::Options;
 use crate::search::Search;
 use blend_network::Network;
 use box_space::Proof;
 use edge_io::Memory;
 use exact_num::compare_ratio;
-use leaf_cuts::root_proof;
+use leaf_cuts::{KnownAdvice, root_proof};
 use plan_core::{Cost, WrittenPlan, compare_cost};
 use std::alloc::{AllocError, Global};
 use std::cmp::Ordering;
@@ -50,8 +51,13 @@ impl Search {
         }
     }
 
-    /// A proof of the root that shows more than its bound, where it has none and is not cut.
-    pub(crate) fn root_proof(&self, alloc: Global, net: &Network) -> Result<Option<Proof>, Memory>
+    /// A proof of the root that shows more than its bound, where it has none and is not cut. The advice that it comes from is known then.
+    pub(crate) fn root_proof(
+        &self,
+        alloc: Global,
+        net: &Network,
+        known: &mut Option<KnownAdvice>,
+    ) -> Result<Option<Proof>, Memory>
         requires { IsSearchOf (net_of net.now) self.now }
         ensures some { IfOk result (λ o. IfSome o (λ p. IsRootProof (net_of net.now) self.now.options.form (searched self.now) (shown_proof p))) }
         ensures none { IfOk result (λ o. IfNone o (HasNoRootProof (net_of net.now) self.now.options.form (searched self.now))) }
@@ -62,7 +68,8 @@ impl Search {
         let Some(bound) = self.tree.node_bound(0) else {
             return Ok(None);
         };
-        root_proof(alloc, net, self.options.form, self.options.pivots, bound)
+        let Options { form, pivots, .. } = self.options;
+        root_proof(alloc, net, form, pivots, bound, known)
     }
 
     /// Whether the root has no proof, and no split cuts it: the first split would.

@@ -28,12 +28,14 @@
 #![tactic(auto)]
 
 mod cases;
+mod ended;
 mod next;
 mod options;
 mod repairing;
 mod search;
 mod splitting;
 
+pub use ended::Ended;
 pub use next::{Answer, Next};
 pub use options::Options;
 pub use search::Search;

@@ -9,32 +9,26 @@ ghost use Rattle.leaf_cuts.specs.Benches.{IsBench};
 ghost use Rattle.leaf_cuts.specs.Leaves.{IsSolvedLeaf};
 ghost use Rattle.search_core.specs.Searches.{searched, IsSearchOf};
 ghost use Rattle.search_core.specs.Cases.{HasPlan};
-ghost use Rattle.search_core.specs.Next.{IsRooted, IsNext, IsDo, IsAnswer, tried_at};
+ghost use Rattle.search_core.specs.Next.{IsRooted, IsNext, IsDo, IsAnswer, tried_at, tried_of};
 
 use crate::cases::copy;
+use crate::ended::Ended;
+use crate::options::Options;
 use crate::search::Search;
 use blend_network::Network;
 use box_tree::Entry;
 use branching::CutRule;
 use edge_io::Memory;
-use leaf_cuts::{Bench, Leaf, SolvedCuts, solve_leaf};
-use std::alloc::Global;
+use leaf_cuts::{Bench, KnownAdvice, Leaf, SolvedCuts, solve_leaf};
+use std::alloc::{AllocError, Global};
 
 /// What a search does next, or how it ended.
 #[derive(Debug, Drop)]
 pub enum Next {
     /// This entry.
     Do(Entry),
-    /// The best plan costs at most the asked gap more than the bound.
-    Closed,
-    /// There is a plan, and there are as many splits as are asked for.
-    Stopped,
-    /// There is a plan, and the least leaf can't be cut at any coordinate of the form.
-    Stuck,
-    /// Every leaf holds no plan.
-    Infeasible,
-    /// There is no plan, a leaf may hold one, and the search could not go on.
-    Undecided,
+    /// Nothing more.
+    End(Ended),
 }
 
 /// What is due, and the point beside it from which a repaired plan was looked for, where one was.
@@ -53,20 +47,24 @@ impl Answer {
         ensures due { result.due ≡ due }
         ensures tried { result.tried ≡ None }
     {
-        let basis = Vec::new(alloc);
-        let cuts = Vec::new(alloc);
         Answer {
             due,
             tried: None,
-            solved: SolvedCuts { basis, cuts },
+            solved: SolvedCuts::none(alloc),
         }
     }
 }
 
 impl Search {
     /// What comes next: the first case that applies. An entry is in order on the tree, so that [`Search::take`] takes it or meets
-    /// want of memory.
-    pub fn next(&self, alloc: Global, net: &Network, rule: &CutRule) -> Result<Answer, Memory>
+    /// want of memory. What one call leaves known is handed to the next, so that no program is solved twice; it may be `None` at any time.
+    pub fn next(
+        &self,
+        alloc: Global,
+        net: &Network,
+        rule: &CutRule,
+        known: &mut Option<KnownAdvice>,
+    ) -> Result<Answer, Memory>
         requires { IsSearchOf (net_of net.now) self.now }
         // Promise: What comes next is the first case that applies, by the tree, the cheapest start and what is asked
         // Promise: Where no plan was repaired since the last proof or split, and no earlier case applies, a point is tried and answered: a
@@ -82,15 +80,15 @@ impl Search {
             return Ok(Answer::untried(alloc, Next::Do(Entry::Improve(plan))));
         }
         let Some(bound) = self.tree.bound() else {
-            return Ok(Answer::untried(alloc, Next::Infeasible));
+            return Ok(Answer::untried(alloc, Next::End(Ended::Infeasible)));
         };
         if self.is_closed(net, bound) {
-            return Ok(Answer::untried(alloc, Next::Closed));
+            return Ok(Answer::untried(alloc, Next::End(Ended::Closed)));
         }
-        if let Some(proof) = self.root_proof(alloc, net)? {
+        if let Some(proof) = self.root_proof(alloc, net, known)? {
             return Ok(Answer::untried(alloc, Next::Do(Entry::Root(proof))));
         }
-        self.next_below(alloc, net, rule, bound)
+        self.next_below(alloc, net, rule, bound, known)
     }
 
     /// What comes next where the root has what proof it can have.
@@ -100,6 +98,7 @@ impl Search {
         net: &Network,
         rule: &CutRule,
         bound: i128,
+        known: &mut Option<KnownAdvice>,
     ) -> Result<Answer, Memory>
         requires search { IsSearchOf (net_of net.now) self.now }
         requires rooted { IsRooted (net_of net.now) self.now.options (searched self.now) }
@@ -109,32 +108,50 @@ impl Search {
         ensures in_order { IfOk result (λ a. IsDo (λ entry. IsEntryInOrder (net_of net.now) (searched self.now) (shown_entry entry)) a.due) }
     {
         if self.repaired && self.is_spent() {
-            return Ok(Answer::untried(alloc, self.stopped()));
+            return Ok(Answer::untried(alloc, Next::End(self.stopped())));
         }
-        let (leaf, mut bench) = self.solved_leaf(alloc, net, bound)?;
+        let (leaf, mut bench) = self.solved_leaf(alloc, net, bound, known.take())?;
         let due = self.next_at(alloc, net, rule, &leaf, &mut bench)?;
-        Ok(self.answer_at(due, leaf, bench))
+        let answer = self.answer_at(alloc, due, leaf, bench, known)?;
+        Ok(answer)
     }
 
-    /// The answer at a leaf: the point of its advice, where a repaired plan was looked for there, and what the bench solved.
-    fn answer_at(&self, due: Next, leaf: Leaf, bench: Bench) -> Answer
-        ensures due { result.due ≡ due }
-        ensures tried { option_map (λ v. v.items) result.tried ≡ tried_at self.now.repaired leaf.advice.point.items }
+    /// The answer at a leaf: the point of its advice, where a repaired plan was looked for there, and what the bench solved. Where a plan is
+    /// due, the leaf will be the least one again, and its advice is known.
+    fn answer_at(
+        &self,
+        alloc: Global,
+        due: Next,
+        leaf: Leaf,
+        bench: Bench,
+        known: &mut Option<KnownAdvice>,
+    ) -> Result<Answer, AllocError>
+        ensures due { IfOk result (λ a. a.due ≡ due) }
+        ensures tried { IfOk result (λ a. tried_of a ≡ tried_at self.now.repaired leaf.advice.point.items) }
     {
+        let tried = self.tried(alloc, &leaf)?;
+        if let Next::Do(Entry::Improve(_)) = &due {
+            *known = Some(KnownAdvice::of_leaf(leaf, &self.tree));
+            let solved = SolvedCuts::none(alloc);
+            return Ok(Answer { due, tried, solved });
+        }
         let advice = leaf.advice;
         let solved = SolvedCuts {
             basis: advice.basis,
             cuts: bench.into_solved(),
         };
+        Ok(Answer { due, tried, solved })
+    }
+
+    /// The point of a leaf's advice, where a repaired plan is looked for there.
+    fn tried(&self, alloc: Global, leaf: &Leaf) -> Result<Option<Vec<i128>>, AllocError>
+        ensures { IfOk result (λ o. option_map (λ v. v.items) o ≡ tried_at self.now.repaired leaf.now.advice.point.items) }
+    {
         if self.repaired {
-            return Answer {
-                due,
-                tried: None,
-                solved,
-            };
+            return Ok(None);
         }
-        let tried = Some(advice.point);
-        Answer { due, tried, solved }
+        let point = Vec::from_slice(alloc, leaf.advice.point.as_slice())?;
+        Ok(Some(point))
     }
 
     /// The least leaf, solved, with the bench on which its program stands.
@@ -143,6 +160,7 @@ impl Search {
         alloc: Global,
         net: &Network,
         bound: i128,
+        known: Option<KnownAdvice>,
     ) -> Result<(Leaf, Bench), Memory>
         requires search { IsSearchOf (net_of net.now) self.now }
         requires bound { tree_bound (net_of net.now) (searched self.now).tree ≡ Some bound }
@@ -150,8 +168,8 @@ impl Search {
         ensures bench { IfOk result (λ l. IsBench (net_of net.now) l.1) }
         ensures form { IfOk result (λ l. l.1.form ≡ self.now.options.form) }
     {
-        let options = self.options;
-        solve_leaf(alloc, net, &self.tree, options.form, options.pivots, bound)
+        let Options { form, pivots, .. } = self.options;
+        solve_leaf(alloc, net, &self.tree, form, pivots, bound, known)
     }
 
     /// What comes next at the least leaf, whose program stands on the bench: a repaired plan, or a split.
@@ -177,19 +195,19 @@ impl Search {
             return Ok(Next::Do(Entry::Improve(plan)));
         }
         if self.is_spent() {
-            return Ok(self.stopped());
+            return Ok(Next::End(self.stopped()));
         }
         self.split_leaf(alloc, net, rule, leaf, bench)
     }
 
-    /// The answer where there are as many splits as are asked for.
-    fn stopped(&self) -> Next
-        ensures { ((result ≡ Next.Stopped) × HasPlan (searched self.now)) ⊎ ((result ≡ Next.Undecided) × ((searched self.now).best ≡ None)) }
+    /// How the search ends where there are as many splits as are asked for.
+    fn stopped(&self) -> Ended
+        ensures { ((result ≡ Ended.Stopped) × HasPlan (searched self.now)) ⊎ ((result ≡ Ended.Undecided) × ((searched self.now).best ≡ None)) }
     {
         if self.tree.best_plan().is_some() {
-            Next::Stopped
+            Ended::Stopped
         } else {
-            Next::Undecided
+            Ended::Undecided
         }
     }
 }

@@ -10,6 +10,7 @@ ghost use Rattle.search_core.specs.Searches.{searched, IsSearchOf};
 ghost use Rattle.search_core.specs.Cases.{HasPlan};
 ghost use Rattle.search_core.specs.Next.{GoesOn, IsNext, IsDo, tried_at};
 
+use crate::ended::Ended;
 use crate::next::Next;
 use crate::options::Options;
 use crate::search::Search;
@@ -45,7 +46,7 @@ impl Search {
         let Options { looks, gap, .. } = self.options;
         let looked = bench.look(alloc, net, &self.tree, leaf, looks, gap)?;
         if !looked.view.has_open() {
-            return Ok(self.stuck());
+            return Ok(Next::End(self.stuck()));
         }
         let split = rule.pick(&looked.view);
         let halvings = looked.halvings;
@@ -54,14 +55,14 @@ impl Search {
         Ok(Next::Do(Entry::SplitOf(split, left, right)))
     }
 
-    /// The answer where the least leaf can't be cut.
-    fn stuck(&self) -> Next
-        ensures { ((result ≡ Next.Stuck) × HasPlan (searched self.now)) ⊎ ((result ≡ Next.Undecided) × ((searched self.now).best ≡ None)) }
+    /// How the search ends where the least leaf can't be cut.
+    fn stuck(&self) -> Ended
+        ensures { ((result ≡ Ended.Stuck) × HasPlan (searched self.now)) ⊎ ((result ≡ Ended.Undecided) × ((searched self.now).best ≡ None)) }
     {
         if self.tree.best_plan().is_some() {
-            Next::Stuck
+            Ended::Stuck
         } else {
-            Next::Undecided
+            Ended::Undecided
         }
     }
 }

@@ -9,8 +9,8 @@ use Rattle.search_core.specs.Cases.{HasNoBetterStart}
 use Rattle.search_run.specs.Runs.{IsEnd, IsRun}
 use Rattle.search_run.specs.Found.{IsFound, IsPricedAt}
 use Rattle.search_run.specs.declared.orders.Orders.{Orders}
-use Rattle.search_run.specs.declared.ended.Ended.{Ended}
-use Rattle.search_run.specs.declared.ended.Ended.TheVariants.{Closed, Stopped, Stuck, Infeasible, Undecided}
+use Rattle.search_core.specs.declared.ended.Ended.{Ended}
+use Rattle.search_core.specs.declared.ended.Ended.TheVariants.{Closed, Stopped, Stuck, Infeasible, Undecided}
 use Rattle.search_run.proofs.Covering.{covers}
 use Rattle.search_run.proofs.Reaching.{tree-reached, least-none}
 use Rattle.search_run.proofs.Rooting.{IsRootDone, done-now}

@@ -1,7 +1,6 @@
 -- What is chosen is due, once its halves are raised.
-use Rattle.std.proofs.Common.{◌≡◌, ℕ, zero, suc, ◌<◌, inl, inr, length, All, Option, None, Some, option_map, ℤ, ◌≤ℤ◌, arith, refl, sym, ap, subst, ◌∙◌}
+use Rattle.std.proofs.Common.{◌≡◌, ℕ, zero, suc, ◌<◌, inl, inr, length, Option, None, Some, ℤ, ◌≤ℤ◌, arith, refl, sym, subst}
 use Rattle.std.specs.Prelude.{IsSomeAnd}
-use Rattle.std.specs.Option.{ForSome}
 use Rattle.std.specs.Int.{int_max}
 use Rattle.std.proofs.lemmas.Int.{clamps}
 use Rattle.std.proofs.lemmas.Option.{none-some}
@@ -20,7 +19,7 @@ use Rattle.box_squeeze.specs.Pieces.{part_of}
 use Rattle.box_squeeze.specs.declared.piece.Side.{Side}
 use Rattle.box_squeeze.specs.declared.piece.Side.TheVariants.{Left, Right}
 use Rattle.dual_rounding.specs.Answers.{IsAtMost}
-use Rattle.dual_rounding.specs.Price.{IsPriced, price_bound}
+use Rattle.dual_rounding.specs.Price.{IsPriced}
 use Rattle.leaf_marks.specs.declared.mark.Mark.{Mark}
 use Rattle.leaf_marks.specs.declared.mark.Mark.TheVariants.{Tight, Raised, Empty, Loose}
 use Rattle.raised_splits.specs.Raising.{half_bound, proof_by, AreRaised, IsBestEntry, IsMarkOf, IsMarked, IsRaisedBy, IsRaisedHalf, IsRaisedTo}
@@ -30,7 +29,7 @@ use Rattle.search_core.specs.declared.next.Next.TheVariants as next
 use Rattle.search_run.specs.Due.{IsChosenNext, IsDueNext, LeavesLess}
 use Rattle.search_run.specs.Orders.{options_of}
 use Rattle.search_core.specs.declared.options.Options.{Options}
-use Rattle.search_run.specs.Steps.{target_of, IsCut, IsDue, IsHalf, IsOfForm, IsSplit, IsSqueezed, IsStep}
+use Rattle.search_run.specs.Steps.{target_of, IsCut, IsDue, IsHalf, IsOfForm, IsSplit, IsSqueezed}
 use Rattle.search_run.specs.declared.orders.Orders.{Orders}
 use Rattle.search_run.proofs.Growing.{least-bound, leaf-split}
 use Rattle.search_run.proofs.Nearer.{split-nearer}

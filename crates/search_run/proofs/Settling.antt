@@ -18,7 +18,7 @@ use Rattle.search_run.specs.Orders.{options_of, picked}
 use Rattle.search_run.specs.Steps.{OwesNone}
 use Rattle.search_run.specs.declared.orders.Orders.{Orders}
 use Rattle.search_run.proofs.Nearer.{nearer, split-nearer}
-use Rattle.search_run.proofs.Stepping.{due-of, next-closed, next-stopped, next-stuck, next-infeasible, next-undecided}
+use Rattle.search_run.proofs.Stepping.{due-of, next-end}
 
 -- a leaf that is cut: it is the least one, while there are fewer splits than were asked for, and the root has what proof it can have
 pub record IsCutLeaf (n : Net) (o : Orders) (s : Searching) (leaf : ℕ) : Type 0 where
@@ -49,11 +49,7 @@ module _ (n : Net) (o : Orders) (s : Searching) (is : IsSearchOf n s) (asked : s
   pub cut-due : (tried : Option (List ℤ)) (due : Next) (leaf : ℕ) → IsNext n s.options (searched s) s.repaired tried (picked o.rule s.tree.kept.cuts) due → cut_leaf due ≡ Some leaf
       → IsCutLeaf n o s leaf
   cut-due tried (next.Do entry) leaf h e = cut-leaf tried entry leaf (by-options tried (next.Do entry) h) e
-  cut-due tried next.Closed leaf h e = absurd (none-some leaf e)
-  cut-due tried next.Stopped leaf h e = absurd (none-some leaf e)
-  cut-due tried next.Stuck leaf h e = absurd (none-some leaf e)
-  cut-due tried next.Infeasible leaf h e = absurd (none-some leaf e)
-  cut-due tried next.Undecided leaf h e = absurd (none-some leaf e)
+  cut-due tried (next.End ended) leaf h e = absurd (none-some leaf e)
 
   -- ---- what comes next for the search
 
@@ -79,11 +75,7 @@ module _ (n : Net) (o : Orders) (s : Searching) (is : IsSearchOf n s) (asked : s
     due-of n o (searched s) s.repaired tried s.tree.kept.cuts entry is.tree.kept.counted owes (by-options tried (next.Do entry) h),
     leaves-less tried entry h order,
   )
-  kept-due tried next.Closed h order owes = next-closed n o (searched s) s.options asked s.repaired s.tree.kept.cuts is.tree.kept.counted tried h
-  kept-due tried next.Stopped h order owes = next-stopped n o (searched s) s.options asked s.repaired s.tree.kept.cuts is.tree.kept.counted tried h
-  kept-due tried next.Stuck h order owes = next-stuck n o (searched s) s.options asked s.repaired s.tree.kept.cuts is.tree.kept.counted tried h
-  kept-due tried next.Infeasible h order owes = next-infeasible n o (searched s) s.options asked s.repaired s.tree.kept.cuts is.tree.kept.counted tried h
-  kept-due tried next.Undecided h order owes = next-undecided n o (searched s) s.options asked s.repaired s.tree.kept.cuts is.tree.kept.counted tried h
+  kept-due tried (next.End ended) h order owes = next-end n o (searched s) s.options asked s.repaired s.tree.kept.cuts is.tree.kept.counted tried ended h
 
   -- ---- a squeeze in place of a cut
 

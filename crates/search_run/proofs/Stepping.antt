@@ -25,7 +25,7 @@ use Rattle.plan_core.specs.Views.{shown_plan}
 use Rattle.plan_repair.specs.Repairs.{IsGain}
 use Rattle.pool_model.specs.Plan.{Written}
 use Rattle.search_core.specs.Cases.{IsRepair}
-use Rattle.search_core.specs.Next.{IsAnswer, IsEntry, IsLeastSplit, IsNext, tried_of}
+use Rattle.search_core.specs.Next.{IsAnswer, IsEnded, IsEntry, IsLeastSplit, IsNext, tried_of}
 use Rattle.search_core.specs.declared.next.Answer.{Answer}
 use Rattle.search_core.specs.declared.next.Next.{Next}
 use Rattle.search_core.specs.declared.next.Next.TheVariants as next
@@ -34,7 +34,8 @@ use Rattle.search_run.specs.Orders.{options_of, picked, Keeps}
 use Rattle.search_run.specs.Due.{split_leaf}
 use Rattle.search_run.specs.Steps.{IsHalf, IsCut, IsDue, IsStep, OwesNone}
 use Rattle.search_run.specs.Runs.{AreSteps, IsEnd, IsNextStep}
-use Rattle.search_run.specs.declared.ended.Ended.TheVariants as ended
+use Rattle.search_core.specs.declared.ended.Ended.{Ended}
+use Rattle.search_core.specs.declared.ended.Ended.TheVariants as ended
 use Rattle.search_run.specs.declared.orders.Orders.{Orders}
 use Rattle.search_run.proofs.Choosing.{pick-chosen}
 
@@ -105,29 +106,15 @@ way-more n o begun s t way next = record {
 -- ---- what comes next, under the options of the orders, whatever point was tried
 
 module _ (n : Net) (o : Orders) (s : Searched) (options : Options) (asked : options ≡ options_of o) (repaired : Bool) (cuts : List ℕ) (counted : AreCounts n s.tree.splits cuts) where
-  pub next-closed : (tried : Option (List ℤ)) → IsNext n options s repaired tried (picked o.rule cuts) next.Closed → IsEnd n o s ended.Closed
-  next-closed tried is = subst (λ (x : Options). IsNext n x s repaired tried (picked o.rule cuts) next.Closed) asked is
-
-  pub next-infeasible : (tried : Option (List ℤ)) → IsNext n options s repaired tried (picked o.rule cuts) next.Infeasible → IsEnd n o s ended.Infeasible
-  next-infeasible tried is = is
-
-  pub next-stopped : (tried : Option (List ℤ)) → IsNext n options s repaired tried (picked o.rule cuts) next.Stopped → IsEnd n o s ended.Stopped
-  next-stopped tried is =
-      let h : IsNext n (options_of o) s repaired tried (picked o.rule cuts) next.Stopped
-      = subst (λ (x : Options). IsNext n x s repaired tried (picked o.rule cuts) next.Stopped) asked is in
-      (h.0.rooted, h.1, h.2)
-
-  pub next-stuck : (tried : Option (List ℤ)) → IsNext n options s repaired tried (picked o.rule cuts) next.Stuck → IsEnd n o s ended.Stuck
-  next-stuck tried is =
-      let h : IsNext n (options_of o) s repaired tried (picked o.rule cuts) next.Stuck
-      = subst (λ (x : Options). IsNext n x s repaired tried (picked o.rule cuts) next.Stuck) asked is in
-      (h.0.rooted, h.1, h.2, h.3)
-
-  pub next-undecided : (tried : Option (List ℤ)) → IsNext n options s repaired tried (picked o.rule cuts) next.Undecided → IsEnd n o s ended.Undecided
-  next-undecided tried is =
-      let h : IsNext n (options_of o) s repaired tried (picked o.rule cuts) next.Undecided
-      = subst (λ (x : Options). IsNext n x s repaired tried (picked o.rule cuts) next.Undecided) asked is in
-      (h.0.rooted, h.1, h.2)
+  pub next-end : (tried : Option (List ℤ)) (e : Ended) → IsEnded n options s repaired tried e → IsEnd n o s e
+  next-end tried e is = ended-end e (subst (λ (x : Options). IsEnded n x s repaired tried e) asked is)
+    where
+      ended-end : (e : Ended) → IsEnded n (options_of o) s repaired tried e → IsEnd n o s e
+      ended-end ended.Closed h = h
+      ended-end ended.Infeasible h = h
+      ended-end ended.Stopped h = (h.0.rooted, h.1, h.2)
+      ended-end ended.Stuck h = (h.0.rooted, h.1, h.2, h.3)
+      ended-end ended.Undecided h = (h.0.rooted, h.1, h.2)
 
 -- ---- a closure that keeps to the rule
 
@@ -163,11 +150,7 @@ entry-weaker n o s repaired tried rule cuts post (SplitOf split left right) keep
 pub next-weaker : (n : Net) (o : Options) (s : Searched) (repaired : Bool) (tried : Option (List ℤ)) (rule : RuleName) (cuts : List ℕ) (post : Bor View → ℕ → Type 0) (answer : Next) → Keeps rule cuts post
     → IsNext n o s repaired tried post answer → IsNext n o s repaired tried (picked rule cuts) answer
 next-weaker n o s repaired tried rule cuts post (next.Do e) keeps is = entry-weaker n o s repaired tried rule cuts post e keeps is
-next-weaker n o s repaired tried rule cuts post next.Infeasible keeps is = is
-next-weaker n o s repaired tried rule cuts post next.Closed keeps is = is
-next-weaker n o s repaired tried rule cuts post next.Stopped keeps is = is
-next-weaker n o s repaired tried rule cuts post next.Stuck keeps is = is
-next-weaker n o s repaired tried rule cuts post next.Undecided keeps is = is
+next-weaker n o s repaired tried rule cuts post (next.End e) keeps is = is
 
 pub each-weaker : {E : Type 0} (n : Net) (o : Options) (s : Searched) (repaired : Bool) (rule : RuleName) (cuts : List ℕ) (post : Bor View → ℕ → Type 0) (r : Result Answer E) → Keeps rule cuts post
     → IfOk r (IsAnswer n o s repaired post) → IfOk r (IsAnswer n o s repaired (picked rule cuts))

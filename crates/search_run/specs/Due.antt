@@ -10,11 +10,10 @@ use Rattle.box_tree.specs.declared.entry.Entry.TheVariants.{Root, SplitOf, Impro
 use Rattle.search_core.specs.Searches.{Searching, searched, IsSearchOf}
 use Rattle.search_core.specs.Cases.{IsRepairedAfter}
 use Rattle.search_core.specs.declared.next.Next.{Next}
-use Rattle.search_core.specs.declared.next.Next.TheVariants.{Do, Closed, Stopped, Stuck, Infeasible, Undecided}
+use Rattle.search_core.specs.declared.next.Next.TheVariants.{Do, End}
 use Rattle.search_run.specs.Left.{left}
 use Rattle.search_run.specs.Runs.{IsEnd}
 use Rattle.search_run.specs.Steps.{IsDue, IsSqueezed, IsStep}
-use Rattle.search_run.specs.declared.ended.Ended.TheVariants as ends
 use Rattle.search_run.specs.declared.orders.Orders.{Orders}
 
 -- the leaf that an entry cuts, where it is a split
@@ -26,11 +25,7 @@ split_leaf (Improve plan) = None
 -- the leaf that is cut, where a split is due
 abbrev pub cut_leaf : Next → Option ℕ
 cut_leaf (Do e) = split_leaf e
-cut_leaf Closed = None
-cut_leaf Stopped = None
-cut_leaf Stuck = None
-cut_leaf Infeasible = None
-cut_leaf Undecided = None
+cut_leaf (End ended) = None
 
 -- once it took the entry, the search has fewer steps left
 abbrev pub LeavesLess : Net → Searching → entries.Entry → Type 0
@@ -40,20 +35,12 @@ LeavesLess n s e = (t : Searching) → IsSearchOf n t → t.options ≡ s.option
 -- what is chosen, before its halves are raised: an entry that is in order and due, after which fewer steps are left; or the end of the run
 abbrev pub IsChosenNext : Net → Orders → Searching → Next → Type 0
 IsChosenNext n o s (Do e) = IsEntryInOrder n (searched s) (shown_entry e) × IsDue n o (searched s) (shown_entry e) × LeavesLess n s (shown_entry e)
-IsChosenNext n o s Closed = IsEnd n o (searched s) ends.Closed
-IsChosenNext n o s Stopped = IsEnd n o (searched s) ends.Stopped
-IsChosenNext n o s Stuck = IsEnd n o (searched s) ends.Stuck
-IsChosenNext n o s Infeasible = IsEnd n o (searched s) ends.Infeasible
-IsChosenNext n o s Undecided = IsEnd n o (searched s) ends.Undecided
+IsChosenNext n o s (End ended) = IsEnd n o (searched s) ended
 
 -- what is due: an entry that is a step, after which fewer steps are left; or the end of the run
 abbrev pub IsDueNext : Net → Orders → Searching → Next → Type 0
 IsDueNext n o s (Do e) = IsStep n o (searched s) (shown_entry e) × LeavesLess n s (shown_entry e)
-IsDueNext n o s Closed = IsEnd n o (searched s) ends.Closed
-IsDueNext n o s Stopped = IsEnd n o (searched s) ends.Stopped
-IsDueNext n o s Stuck = IsEnd n o (searched s) ends.Stuck
-IsDueNext n o s Infeasible = IsEnd n o (searched s) ends.Infeasible
-IsDueNext n o s Undecided = IsEnd n o (searched s) ends.Undecided
+IsDueNext n o s (End ended) = IsEnd n o (searched s) ended
 
 -- an entry that is in order and squeezes the least leaf
 abbrev pub IsSqueezeEntry : Net → Orders → Searched → Entry → Type 0

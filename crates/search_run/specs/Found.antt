@@ -12,8 +12,8 @@ use Rattle.raised_splits.specs.Raising.{IsBestAt}
 use Rattle.search_core.specs.Cases.{IsRootOpen}
 use Rattle.search_run.specs.Steps.{IsOfForm}
 use Rattle.search_run.specs.declared.orders.Orders.{Orders}
-use Rattle.search_run.specs.declared.ended.Ended.{Ended}
-use Rattle.search_run.specs.declared.ended.Ended.TheVariants.{Closed}
+use Rattle.search_core.specs.declared.ended.Ended.{Ended}
+use Rattle.search_core.specs.declared.ended.Ended.TheVariants.{Closed}
 
 -- no starting plan obeys
 abbrev pub HasNoStart : Net → Type 0

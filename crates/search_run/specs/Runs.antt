@@ -8,8 +8,8 @@ use Rattle.search_core.specs.Next.{IsRooted}
 use Rattle.search_run.specs.Orders.{options_of}
 use Rattle.search_run.specs.Steps.{IsStep}
 use Rattle.search_run.specs.declared.orders.Orders.{Orders}
-use Rattle.search_run.specs.declared.ended.Ended.{Ended}
-use Rattle.search_run.specs.declared.ended.Ended.TheVariants.{Closed, Stopped, Stuck, Infeasible, Undecided}
+use Rattle.search_core.specs.declared.ended.Ended.{Ended}
+use Rattle.search_core.specs.declared.ended.Ended.TheVariants.{Closed, Stopped, Stuck, Infeasible, Undecided}
 
 -- each entry is a step after those before it
 abbrev pub AreSteps : Net → Orders → Searched → List Entry → Type 0

@@ -16,27 +16,30 @@ use blend_network::Network;
 use box_squeeze::{squeeze_looked, target_of};
 use box_tree::Entry;
 use edge_io::Memory;
-use leaf_cuts::SolvedCuts;
+use leaf_cuts::{KnownAdvice, SolvedCuts};
 use raised_splits::raised_entry;
 use search_core::{Answer, Next, Search};
 use std::alloc::Global;
 
 /// What is due for a search under the orders: an entry to take, or how the run ended. Where squeezes are asked for and there is a plan, a
 /// cut of the least leaf gives way to a squeeze of it, if one is found. Where pivots are asked for, the halves of a split are raised.
-pub fn due(alloc: Global, net: &Network, orders: Orders, search: &Search) -> Result<Next, Memory>
+/// What one call leaves known is handed to the next.
+pub fn due(
+    alloc: Global,
+    net: &Network,
+    orders: Orders,
+    search: &Search,
+    known: &mut Option<KnownAdvice>,
+) -> Result<Next, Memory>
     requires search { IsSearchOf (net_of net.now) search.now }
     requires options { search.now.options ≡ options_of orders }
     requires asked { IsAsked (options_of orders) }
     ensures { IfOk result (IsDueNext (net_of net.now) orders search.now) }
 {
-    let next = chosen(alloc, net, orders, search)?;
+    let next = chosen(alloc, net, orders, search, known)?;
     match next {
         Next::Do(entry) => raised(alloc, net, orders, search, entry),
-        Next::Closed => Ok(Next::Closed),
-        Next::Stopped => Ok(Next::Stopped),
-        Next::Stuck => Ok(Next::Stuck),
-        Next::Infeasible => Ok(Next::Infeasible),
-        Next::Undecided => Ok(Next::Undecided),
+        Next::End(ended) => Ok(Next::End(ended)),
     }
 }
 
@@ -59,13 +62,19 @@ fn raised(
 }
 
 /// What is due, before the halves of a split are raised.
-fn chosen(alloc: Global, net: &Network, orders: Orders, search: &Search) -> Result<Next, Memory>
+fn chosen(
+    alloc: Global,
+    net: &Network,
+    orders: Orders,
+    search: &Search,
+    known: &mut Option<KnownAdvice>,
+) -> Result<Next, Memory>
     requires search { IsSearchOf (net_of net.now) search.now }
     requires options { search.now.options ≡ options_of orders }
     requires asked { IsAsked (options_of orders) }
     ensures { IfOk result (IsChosenNext (net_of net.now) orders search.now) }
 {
-    let Answer { due, solved, .. } = next_by(alloc, net, orders.rule, search)?;
+    let Answer { due, solved, .. } = next_by(alloc, net, orders.rule, search, known)?;
     let Some(leaf) = cut_leaf(&due) else {
         return Ok(due);
     };
@@ -82,7 +91,7 @@ fn cut_leaf(due: &Next) -> Option<u32>
 {
     match due {
         Next::Do(entry) => split_leaf(entry),
-        Next::Closed | Next::Stopped | Next::Stuck | Next::Infeasible | Next::Undecided => None,
+        Next::End(_) => None,
     }
 }
 

@@ -13,12 +13,13 @@ ghost use Rattle.search_run.specs.Found.{IsFound};
 ghost use Rattle.search_run.specs.Left.{left};
 
 use crate::deciding::due;
-use crate::ended::{Ended, Outcome};
 use crate::orders::Orders;
+use crate::outcome::Outcome;
 use blend_network::Network;
 use box_tree::{Entry, Tree};
 use edge_io::Memory;
-use search_core::{Next, Search};
+use leaf_cuts::KnownAdvice;
+use search_core::{Ended, Next, Search};
 use std::alloc::Global;
 
 /// Goes on from a tree of the network until nothing more is to be done for the orders, and says how that ended. The only error is
@@ -54,8 +55,9 @@ fn drive(alloc: Global, net: &Network, orders: Orders, search: &mut Search) -> R
     ensures search { IsSearchOf (net_of net.now) search.new }
     ensures run { IfOk result (IsRun (net_of net.now) orders (searched search.old) (searched search.new)) }
 {
+    let mut known = None;
     loop {
-        if let Some(ended) = step(alloc, net, orders, search)? {
+        if let Some(ended) = step(alloc, net, orders, search, &mut known)? {
             return Ok(ended);
         }
     }
@@ -67,6 +69,7 @@ fn step(
     net: &Network,
     orders: Orders,
     search: &mut Search,
+    known: &mut Option<KnownAdvice>,
 ) -> Result<Option<Ended>, Memory>
     requires search { IsSearchOf (net_of net.now) search.old }
     requires options { search.old.options ≡ options_of orders }
@@ -78,17 +81,13 @@ fn step(
     ensures ended { IfOk result (λ o. IfSome o (IsEnd (net_of net.now) orders (searched search.new))) }
     ensures unchanged { IfOk result (λ o. IfSome o (λ _. searched search.new ≡ searched search.old)) }
 {
-    let next = due(alloc, net, orders, search)?;
+    let next = due(alloc, net, orders, search, known)?;
     match next {
         Next::Do(entry) => {
             take(net, search, entry)?;
             Ok(None)
         }
-        Next::Closed => Ok(Some(Ended::Closed)),
-        Next::Stopped => Ok(Some(Ended::Stopped)),
-        Next::Stuck => Ok(Some(Ended::Stuck)),
-        Next::Infeasible => Ok(Some(Ended::Infeasible)),
-        Next::Undecided => Ok(Some(Ended::Undecided)),
+        Next::End(ended) => Ok(Some(ended)),
     }
 }
 

@@ -1,10 +1,10 @@
 //! A search that is driven to its end: what comes next is asked and taken, again and again, until the search says how it ended.
 //!
 //! [`run_search`] takes a tree and [`Orders`]: the form of the programs, how many splits there may be, the gap that is enough, and the
-//! name of the cut rule, whether leaves are squeezed, and whether the halves of splits are raised. It answers the tree that the search left with how it [`Ended`]. It begins with
-//! any tree of the network, the root alone or one that was made before. [`due`] answers what is due under the orders: what comes next for
-//! the search by the rule of that name ([`next_by`]), in place of a cut a squeeze, where one is asked for and found, and each split with its
-//! halves raised by `raised_splits`, where that is asked for.
+//! name of the cut rule, whether leaves are squeezed, and whether the halves of splits are raised. Its [`Outcome`] is the tree that the
+//! search left, with how it ended. It begins with any tree of the network, the root alone or one that was made before. [`due`] answers
+//! what is due under the orders: what comes next for the search by the rule of that name ([`next_by`]), in place of a cut a squeeze, where
+//! one is asked for and found, and each split with its halves raised by `raised_splits`, where that is asked for.
 //!
 //! `specs/Steps.antt` says what each step is, `specs/Runs.antt` what a run is: a list of entries, each the step that was due after
 //! those before it, and an end that holds of the tree that they make. `specs/Found.antt` says what follows of that tree alone, and
@@ -20,12 +20,12 @@
 
 mod deciding;
 mod driving;
-mod ended;
 mod orders;
+mod outcome;
 mod rules;
 
 pub use deciding::due;
 pub use driving::run_search;
-pub use ended::{Ended, Outcome};
 pub use orders::{Orders, PIVOTS};
+pub use outcome::Outcome;
 pub use rules::next_by;

@@ -12,6 +12,7 @@ ghost use Rattle.search_run.specs.Orders.{picked, IsPickedBy, Keeps};
 use blend_network::Network;
 use branching::{CutRule, LeafView, RuleName, fewest, first_open, most_violated, widest};
 use edge_io::Memory;
+use leaf_cuts::KnownAdvice;
 use search_core::{Answer, Search};
 use std::alloc::Global;
 
@@ -22,6 +23,7 @@ pub fn next_by(
     net: &Network,
     name: RuleName,
     search: &Search,
+    known: &mut Option<KnownAdvice>,
 ) -> Result<Answer, Memory>
     requires { IsSearchOf (net_of net.now) search.now }
     ensures next { IfOk result (IsAnswer (net_of net.now) search.now.options (searched search.now) search.now.repaired (picked name search.now.tree.kept.cuts)) }
@@ -36,7 +38,7 @@ pub fn next_by(
         { pick_by(name, cuts.as_slice(), view) },
     )?;
     let rule = CutRule::new(closure);
-    next_under(alloc, net, name, search, &rule)
+    next_under(alloc, net, name, search, &rule, known)
 }
 
 /// What comes next for a search, by a rule that keeps to that of a name.
@@ -46,13 +48,14 @@ fn next_under(
     name: RuleName,
     search: &Search,
     rule: &CutRule,
+    known: &mut Option<KnownAdvice>,
 ) -> Result<Answer, Memory>
     requires search { IsSearchOf (net_of net.now) search.now }
     requires rule { Keeps name search.now.tree.kept.cuts (⟦<branching::RuleClosure as Fn(&branching::LeafView) -> usize>⟧.post rule.now.closure) }
     ensures next { IfOk result (IsAnswer (net_of net.now) search.now.options (searched search.now) search.now.repaired (picked name search.now.tree.kept.cuts)) }
     ensures in_order { IfOk result (λ a. IsDo (λ entry. IsEntryInOrder (net_of net.now) (searched search.now) (shown_entry entry)) a.due) }
 {
-    search.next(alloc, net, rule)
+    search.next(alloc, net, rule, known)
 }
 
 /// The row that the rule of a name picks, where so many splits are on each coordinate. Rules that are boxed call it.

@@ -19,8 +19,8 @@ use Rattle.node_journal.specs.Settled.{IsQuiet}
 use Rattle.search_run.specs.Runs.{IsRun}
 use Rattle.search_run.specs.Found.{IsFound}
 use Rattle.search_run.specs.declared.orders.Orders.{Orders}
-use Rattle.search_run.specs.declared.ended.Ended.{Ended}
-use Rattle.search_run.specs.declared.ended.Ended.TheVariants as ends
+use Rattle.search_core.specs.declared.ended.Ended.{Ended}
+use Rattle.search_core.specs.declared.ended.Ended.TheVariants as ends
 use Rattle.recorded_run.specs.Recorded.{BeginsWith, IsBetween, IsCause, IsFreeFault, IsLeftAlone, IsNetworksOwn, StandsNow, Ends}
 use Rattle.recorded_run.specs.Acknowledged.{KeepsAcknowledged}
 use Rattle.recorded_run.specs.Sessions.{IsResumed, IsRunFrom}

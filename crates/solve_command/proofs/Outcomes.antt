@@ -11,8 +11,8 @@ use Rattle.pool_model.specs.Claim.{Claimed, with_gap, with_bound, no_plan, Follo
 use Rattle.row_model.specs.Trees.{tree_bound}
 use Rattle.row_model.specs.Entries.{Entry, Searched, made_by}
 use Rattle.search_run.specs.Found.{CoversStarts, HasNoStart}
-use Rattle.search_run.specs.declared.ended.Ended.{Ended}
-use Rattle.search_run.specs.declared.ended.Ended.TheVariants as ends
+use Rattle.search_core.specs.declared.ended.Ended.{Ended}
+use Rattle.search_core.specs.declared.ended.Ended.TheVariants as ends
 use Rattle.tree_certificate.specs.Certificates.{claim_of}
 use Rattle.run_status.specs.Reads.{Files, ReadsUnder}
 use Rattle.edge_io.specs.Writing.{behind}

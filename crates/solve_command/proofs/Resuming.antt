@@ -21,7 +21,7 @@ use Rattle.pool_model.specs.Claim as claims
 use Rattle.tree_certificate.specs.Certificates.{cert_of, claim_of}
 use Rattle.search_run.specs.Runs.{AreSteps, IsRun}
 use Rattle.search_run.specs.declared.orders.Orders.{Orders}
-use Rattle.search_run.specs.declared.ended.Ended.{Ended}
+use Rattle.search_core.specs.declared.ended.Ended.{Ended}
 use Rattle.search_run.proofs.Covering.{lt-then-lt, written-base}
 use Rattle.box_tree.proofs.Growing.{bound-old, bound-left, bound-right}
 use Rattle.box_tree.proofs.Rooting.{no_splits}

@@ -19,8 +19,8 @@ use Rattle.search_core.specs.Cases.{IsClosed, IsNear}
 use Rattle.search_run.specs.Runs.{IsEnd, IsRun}
 use Rattle.search_run.specs.Found.{IsFound}
 use Rattle.search_run.specs.declared.orders.Orders.{Orders}
-use Rattle.search_run.specs.declared.ended.Ended.{Ended}
-use Rattle.search_run.specs.declared.ended.Ended.TheVariants as ends
+use Rattle.search_core.specs.declared.ended.Ended.{Ended}
+use Rattle.search_core.specs.declared.ended.Ended.TheVariants as ends
 use Rattle.solve_command.specs.Solution.{IsHeld, IsNearEnough, IsSolution, IsSolutionFrom, end_by, end_of, status_of}
 use Rattle.run_status.specs.declared.status.Status.TheVariants as statuses
 

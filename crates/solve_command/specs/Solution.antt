@@ -14,8 +14,8 @@ use Rattle.search_run.specs.Orders.{options_of}
 use Rattle.search_run.specs.Runs.{IsRun}
 use Rattle.search_run.specs.Found.{IsFound}
 use Rattle.search_run.specs.declared.orders.Orders.{Orders}
-use Rattle.search_run.specs.declared.ended.Ended.{Ended}
-use Rattle.search_run.specs.declared.ended.Ended.TheVariants as ends
+use Rattle.search_core.specs.declared.ended.Ended.{Ended}
+use Rattle.search_core.specs.declared.ended.Ended.TheVariants as ends
 use Rattle.run_status.specs.declared.status.Status.{Status}
 use Rattle.run_status.specs.declared.status.Status.TheVariants as statuses
 

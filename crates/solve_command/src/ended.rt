@@ -4,7 +4,7 @@ ghost use Rattle.std.specs.Prelude.{◌≡◌};
 ghost use Rattle.solve_command.specs.Solution.{status_of};
 
 use run_status::Status;
-use search_run::Ended;
+use search_core::Ended;
 
 /// The status of a search that ended so.
 pub fn ended_status(ended: Ended) -> Status

@@ -34,7 +34,8 @@ use edge_io::Sink;
 use journal_status::run_status_of;
 use recorded_run::RunFault;
 use run_status::{Status, Unread, network_under};
-use search_run::{Ended, Orders};
+use search_core::Ended;
+use search_run::Orders;
 use shelf_calls::Shelf;
 use std::alloc::Global;
 

@@ -9,10 +9,11 @@ use blend_network::Network;
 use box_space::Form;
 use box_tree::Tree;
 use branching::{CutRule, LeafView, first_open};
+use leaf_cuts::KnownAdvice;
 use search_core::{Answer, Next, Options, Search};
 use std::alloc::{AllocError, Global};
 use std::test::Fail;
-use worked_networks::{ONE_DIRECT, network};
+use worked_networks::{HAVERLY_1, ONE_DIRECT, network};
 
 /// To gap 0, and no more than three splits.
 const OPTIONS: Options = Options {
@@ -35,24 +36,23 @@ fn rule(alloc: Global) -> Result<CutRule, AllocError> {
     Ok(CutRule::new(closure))
 }
 
-/// What is due, with the point that was tried.
-fn told(alloc: Global, net: &Network, search: &Search, rule: &CutRule) -> Result<String, Fail>
-    requires { IsSearchOf (net_of net.now) search.now }
-{
-    let answer = search.next(alloc, net, rule)?;
-    Ok(format!(in alloc; "{:?}, {:?}\n", answer.due, answer.tried)?)
-}
-
-/// Takes what is due, where that is an entry.
-fn step(alloc: Global, net: &Network, search: &mut Search, rule: &CutRule) -> Result<(), Fail>
+/// Takes what is due, where that is an entry, and says what it was, with the point that was tried.
+fn step(
+    alloc: Global,
+    net: &Network,
+    search: &mut Search,
+    rule: &CutRule,
+    known: &mut Option<KnownAdvice>,
+) -> Result<String, Fail>
     requires { IsSearchOf (net_of net.now) search.old }
     ensures { IsSearchOf (net_of net.now) search.new }
 {
-    let Answer { due, .. } = search.next(alloc, net, rule)?;
+    let Answer { due, tried, .. } = search.next(alloc, net, rule, known)?;
+    let told = format!(in alloc; "{due:?}, {tried:?}\n")?;
     if let Next::Do(entry) = due {
         search.take(net, entry)?;
     }
-    Ok(())
+    Ok(told)
 }
 
 /// What is due first, and what once that was taken.
@@ -60,10 +60,25 @@ fn first_steps(alloc: Global, net: &Network) -> Result<String, Fail> {
     let rule = rule(alloc)?;
     let tree = Tree::start(alloc, net)?;
     let mut search = Search::start(alloc, net, OPTIONS, tree)?;
-    let first = told(alloc, net, &search, &rule)?;
-    step(alloc, net, &mut search, &rule)?;
-    let second = told(alloc, net, &search, &rule)?;
+    let first = step(alloc, net, &mut search, &rule, &mut None)?;
+    let second = step(alloc, net, &mut search, &rule, &mut None)?;
     Ok(format!(in alloc; "{first}{second}")?)
+}
+
+/// The first five steps, each of which begins with what is known: what the one before it left, or nothing.
+fn five_steps(alloc: Global, net: &Network, keeps: bool) -> Result<String, Fail> {
+    let rule = rule(alloc)?;
+    let tree = Tree::start(alloc, net)?;
+    let mut search = Search::start(alloc, net, OPTIONS, tree)?;
+    let mut known = None;
+    let first = step(alloc, net, &mut search, &rule, &mut known)?;
+    let second = step(alloc, net, &mut search, &rule, &mut known)?;
+    known = known.filter(|_| keeps);
+    let third = step(alloc, net, &mut search, &rule, &mut known)?;
+    known = known.filter(|_| keeps);
+    let fourth = step(alloc, net, &mut search, &rule, &mut known)?;
+    let fifth = step(alloc, net, &mut search, &rule, &mut known)?;
+    Ok(format!(in alloc; "{first}{second}{third}{fourth}{fifth}")?)
 }
 
 /// A ships 100 to X, which costs 600 and brings 900. By the reach bound no plan does better, so nothing is due then, and no point was tried.
@@ -72,8 +87,33 @@ fn a_plan_is_due_and_then_nothing(rt: HostRuntime) -> Result<(), Fail> {
     let alloc = rt.alloc();
     let net = network(alloc, ONE_DIRECT)?;
     let expected =
-        "Do(Improve(WrittenPlan { base: 1, flow_base: 1, weights: [], outflows: [], direct: [100000000] })), None\nClosed, None\n";
+        "Do(Improve(WrittenPlan { base: 1, flow_base: 1, weights: [], outflows: [], direct: [100000000] })), None\nEnd(Closed), None\n";
     let steps = first_steps(alloc, &net)?;
     assert_eq!(rt; steps.as_str(), expected);
+    Ok(())
+}
+
+/// Haverly's first network, as docs/SEARCH.md has it step by step: the plan that sends nothing, a proof of the root, a plan from its point, a cut,
+/// and then nothing. What the proof leaves known, and what the plan does, change none of it.
+#[test]
+fn what_is_known_changes_no_step(rt: HostRuntime) -> Result<(), Fail> {
+    let alloc = rt.alloc();
+    let net = network(alloc, HAVERLY_1)?;
+    let kept = five_steps(alloc, &net, true)?;
+    let forgotten = five_steps(alloc, &net, false)?;
+    assert_eq!(rt; kept.as_str(), forgotten.as_str());
+    let starts = [
+        "Do(Improve(",
+        "Do(Root(",
+        "Do(Improve(",
+        "Do(SplitOf(",
+        "End(Closed), ",
+    ];
+    assert_eq!(rt; kept.lines().count(), starts.len());
+    assert!(rt;
+        kept.lines()
+            .zip(starts)
+            .all(|(line, start)| line.starts_with(start))
+    );
     Ok(())
 }

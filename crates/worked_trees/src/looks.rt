@@ -8,8 +8,8 @@ use box_space::{Form, Split};
 use box_tree::{Entry, EntryFault, Tree};
 use cut_scores::Aim;
 use edge_io::Memory;
-use leaf_cuts::{Looked, solve_leaf};
-use plan_core::Cost;
+use leaf_cuts::{Halving, Looked, solve_leaf};
+use plan_core::{Cost, WrittenPlan};
 use std::alloc::{AllocError, Global};
 use std::test::Fail;
 use worked_networks::{HAVERLY_1, network};
@@ -33,7 +33,7 @@ fn look_at(
     let Some(bound) = tree.bound() else {
         return Err(Memory);
     };
-    let (leaf, mut bench) = solve_leaf(alloc, net, tree, Form::Pq, 10_000, bound)?;
+    let (leaf, mut bench) = solve_leaf(alloc, net, tree, Form::Pq, 10_000, bound, None)?;
     bench.look(alloc, net, cut, &leaf, looks, 0)
 }
 
@@ -157,6 +157,36 @@ fn looks_compared(alloc: Global) -> Result<String, Fail> {
 fn a_look_takes_the_most_missed_first(rt: HostRuntime) -> Result<(), Fail> {
     let told = looks_compared(rt.alloc())?;
     assert_eq!(rt; told.as_str(), "0 1 4 0: 100 1: 100 3: 100 4: 75 ");
+    Ok(())
+}
+
+/// A look at the root where Haverly's best plan is known: 100 of B through P to Y, and 100 of C to Y.
+fn closing_look(alloc: Global, net: &Network) -> Result<Looked, Fail> {
+    let mut tree = Tree::start(alloc, net)?;
+    let best = WrittenPlan {
+        base: 1,
+        flow_base: 1,
+        weights: Vec::from_slice(alloc, &[0, 1])?,
+        outflows: Vec::from_slice(alloc, &[0, 100_000_000])?,
+        direct: Vec::from_slice(alloc, &[0, 100_000_000])?,
+    };
+    tree.apply(net, Entry::Improve(best))?;
+    Ok(look_at(alloc, net, &tree, &tree, 12)?)
+}
+
+/// A cut at half of A in P shows -400 on one side and -100 on the other. So it closes both where the best plan is known, and leaves nothing to
+/// be done. No other cut can lead then, whatever its first half shows, and the second half of each is left out.
+#[test]
+fn second_halves_are_left_out(rt: HostRuntime) -> Result<(), Fail> {
+    let net = network(rt.alloc(), HAVERLY_1)?;
+    let looked = closing_look(rt.alloc(), &net)?;
+    let solved: &[Halving] = &looked.halvings;
+    assert_eq!(rt; solved.len(), 1);
+    assert!(rt;
+        solved
+            .iter()
+            .all(|halving| halving.coord == 0 && halving.is_final)
+    );
     Ok(())
 }
 

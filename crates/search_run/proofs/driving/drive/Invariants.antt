@@ -6,12 +6,12 @@ use Rattle.search_run.specs.Left.{left}
 use Rattle.search_run.proofs.Stepping.{IsWay}
 use Rattle.search_run.proofs.driving.drive.Given as goal
 
-abbrev pub invariant-loop-ended : goal.invariant-loop-ended
-invariant-loop-ended l = record {
+abbrev pub invariant-loop-known : goal.invariant-loop-known
+invariant-loop-known l = record {
   search : IsSearchOf (net_of l.net) l.search;
   options : l.search.options ≡ options_of l.orders;
   way : IsWay (net_of l.net) l.orders (searched l.fn.search) (searched l.search);
 }
 
-abbrev pub decreases-loop-ended : goal.decreases-loop-ended
-decreases-loop-ended l = left l.search
+abbrev pub decreases-loop-known : goal.decreases-loop-known
+decreases-loop-known l = left l.search

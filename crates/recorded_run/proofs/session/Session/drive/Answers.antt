@@ -116,72 +116,16 @@ pub returns-in_err-record-in-Do-clause-same_disk : goal.returns-in_err-record-in
 returns-in_err-record-in-Do-clause-same_disk g c =
     same_disk-then (g.D.Disk.told c.args.disk.now) (g.D.Disk.told c.steps.disk) (g.D.Disk.told c.record.new.disk) c.steps.invariant.same_disk c.record.ensures.same_disk
 
-pub returns-in-Closed-clause-run : goal.returns-in-Closed-clause-run
-returns-in-Closed-clause-run g c =
+pub returns-in-End-clause-run : goal.returns-in-End-clause-run
+returns-in-End-clause-run g c =
     record {
       entries = c.steps.invariant.way.entries;
       steps = c.steps.invariant.way.steps;
       made = c.steps.invariant.way.made;
-      end = rw c.in-Closed.is at c.in_ok-next.ensures;
+      end = rw c.in-End.is at c.in_ok-next.ensures;
     }
 
-pub returns-in-Closed-clause-recorded : goal.returns-in-Closed-clause-recorded
-returns-in-Closed-clause-recorded g c = λ text first is.
-    let so = c.steps.invariant.so_far text first is in
-    record { last = so.last; begins = so.begins; any_moment = so.any_moment; acknowledged = so.acknowledged; few = so.few; held = so.held }
-
-pub returns-in-Stopped-clause-run : goal.returns-in-Stopped-clause-run
-returns-in-Stopped-clause-run g c =
-    record {
-      entries = c.steps.invariant.way.entries;
-      steps = c.steps.invariant.way.steps;
-      made = c.steps.invariant.way.made;
-      end = rw c.in-Stopped.is at c.in_ok-next.ensures;
-    }
-
-pub returns-in-Stopped-clause-recorded : goal.returns-in-Stopped-clause-recorded
-returns-in-Stopped-clause-recorded g c = λ text first is.
-    let so = c.steps.invariant.so_far text first is in
-    record { last = so.last; begins = so.begins; any_moment = so.any_moment; acknowledged = so.acknowledged; few = so.few; held = so.held }
-
-pub returns-in-Stuck-clause-run : goal.returns-in-Stuck-clause-run
-returns-in-Stuck-clause-run g c =
-    record {
-      entries = c.steps.invariant.way.entries;
-      steps = c.steps.invariant.way.steps;
-      made = c.steps.invariant.way.made;
-      end = rw c.in-Stuck.is at c.in_ok-next.ensures;
-    }
-
-pub returns-in-Stuck-clause-recorded : goal.returns-in-Stuck-clause-recorded
-returns-in-Stuck-clause-recorded g c = λ text first is.
-    let so = c.steps.invariant.so_far text first is in
-    record { last = so.last; begins = so.begins; any_moment = so.any_moment; acknowledged = so.acknowledged; few = so.few; held = so.held }
-
-pub returns-in-Infeasible-clause-run : goal.returns-in-Infeasible-clause-run
-returns-in-Infeasible-clause-run g c =
-    record {
-      entries = c.steps.invariant.way.entries;
-      steps = c.steps.invariant.way.steps;
-      made = c.steps.invariant.way.made;
-      end = rw c.in-Infeasible.is at c.in_ok-next.ensures;
-    }
-
-pub returns-in-Infeasible-clause-recorded : goal.returns-in-Infeasible-clause-recorded
-returns-in-Infeasible-clause-recorded g c = λ text first is.
-    let so = c.steps.invariant.so_far text first is in
-    record { last = so.last; begins = so.begins; any_moment = so.any_moment; acknowledged = so.acknowledged; few = so.few; held = so.held }
-
-pub returns-in-Undecided-clause-run : goal.returns-in-Undecided-clause-run
-returns-in-Undecided-clause-run g c =
-    record {
-      entries = c.steps.invariant.way.entries;
-      steps = c.steps.invariant.way.steps;
-      made = c.steps.invariant.way.made;
-      end = rw c.in-Undecided.is at c.in_ok-next.ensures;
-    }
-
-pub returns-in-Undecided-clause-recorded : goal.returns-in-Undecided-clause-recorded
-returns-in-Undecided-clause-recorded g c = λ text first is.
+pub returns-in-End-clause-recorded : goal.returns-in-End-clause-recorded
+returns-in-End-clause-recorded g c = λ text first is.
     let so = c.steps.invariant.so_far text first is in
     record { last = so.last; begins = so.begins; any_moment = so.any_moment; acknowledged = so.acknowledged; few = so.few; held = so.held }

@@ -1,13 +1,11 @@
-//! How a run ended, and what it leaves.
+//! How a search ends.
 
-use box_tree::Tree;
-
-/// How a run ended.
+/// How a search ended.
 #[derive(Clone, Copy, Debug, PartialEq, Eq)]
 pub enum Ended {
     /// The best plan costs at most the asked gap more than the bound.
     Closed,
-    /// There is a plan, and there are as many splits as were asked for.
+    /// There is a plan, and there are as many splits as are asked for.
     Stopped,
     /// There is a plan, and the least leaf can't be cut at any coordinate of the form.
     Stuck,
@@ -15,12 +13,4 @@ pub enum Ended {
     Infeasible,
     /// There is no plan, a leaf may hold one, and the search could not go on.
     Undecided,
-}
-
-/// What a run leaves.
-#[derive(Drop)]
-pub struct Outcome {
-    /// The tree, with the cheapest plan.
-    pub tree: Tree,
-    pub ended: Ended,
 }
