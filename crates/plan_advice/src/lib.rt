@@ -7,11 +7,13 @@
 //!
 //! | Modules | What they do |
 //! |---|---|
+//! | `polish` | single units of weight between feeds, where a plan is a new best one |
 //! | `reading` | the network's numbers as the programs take them |
 //! | `tries` | the order in which plans are tried, and the cheapest of them |
 //! | `solving` | the simplex method of `lp_simplex` on one program after the other |
 #![tactic(auto)]
 
+mod polish;
 mod reading;
 mod solving;
 mod tries;

@@ -2,8 +2,8 @@
 //!
 //! First the flows of least cost at the point's own proportions. Then steps from the point's own flows, of three radii. Then
 //! steps from the best plan so far, of a radius that doubles where a step gains and shrinks where none does, as long as a step's
-//! program takes some plan to be cheaper. Last, the exact vertex at the best plan's proportions, and at the nearest ones of a
-//! small base.
+//! program takes some plan to be cheaper. A plan that is cheaper than the caller's best one is polished. Last, the exact vertex at the best
+//! plan's proportions, and at the nearest ones of a small base.
 //!
 //! Steps go from plans that this search found, and never from the caller's best plan. So who asks again about the same
 //! point, with what he was answered for his best plan, is told nothing new. The caller's best plan only ends a search early,
@@ -133,6 +133,9 @@ impl<'a> Search<'a> {
         let start = Start::new(alloc, self.outline, point)?;
         self.from_point(alloc, &start)?;
         self.from_plan(alloc)?;
+        if self.is_new_best() {
+            self.polish(alloc)?;
+        }
         if self.is_near() {
             self.exact(alloc)?;
         }
@@ -215,7 +218,7 @@ impl<'a> Search<'a> {
     }
 
     /// What the best plan costs, in picos over the grain; more than any plan where there is none.
-    fn cost(&self) -> i128 {
+    pub(crate) fn cost(&self) -> i128 {
         self.best.as_ref().map_or(i128::MAX, |found| found.cost.num)
     }
 
@@ -284,8 +287,26 @@ impl<'a> Search<'a> {
         }
     }
 
+    /// Whether there is a plan, cheaper than the limit.
+    fn is_new_best(&self) -> bool {
+        self.best.is_some() && self.limit.is_none_or(|limit| self.cost() < limit)
+    }
+
+    /// The network's numbers.
+    pub(crate) fn outline(&self) -> &'a Outline {
+        self.outline
+    }
+
+    /// The best plan's weights; none where there is no plan.
+    pub(crate) fn weights(&self) -> &[u32] {
+        match &self.best {
+            None => &[],
+            Some(found) => &found.plan.weights,
+        }
+    }
+
     /// The plan of least cost at these proportions, mended.
-    fn at_parts(&mut self, alloc: Global, parts: Vec<u32>) -> Result<(), AllocError> {
+    pub(crate) fn at_parts(&mut self, alloc: Global, parts: Vec<u32>) -> Result<(), AllocError> {
         let proportions = Proportions::over_grain(&parts);
         let base = proportions.base;
         if let Some(flows) = self.mended_flows(alloc, proportions)? {
