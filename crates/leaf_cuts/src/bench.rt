@@ -21,7 +21,7 @@ use row_book::Shown;
 use std::alloc::Global;
 
 /// How often the basis of a half's program may change at the most while it is looked at. In networks of some dozens of arcs most end before;
-/// in those of 500 paths a half takes some 200, and half as many tell as well which cut leads (docs/SEARCH.md).
+/// in those of 500 paths a half takes some 200, and half as many tell well enough which cut leads (docs/SEARCH.md).
 const LOOK_PIVOTS: u32 = 100;
 
 /// How far a program is solved.
