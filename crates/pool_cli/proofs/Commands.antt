@@ -26,19 +26,23 @@ use Rattle.pool_cli.specs.TrialEnds.{TrialEnds}
 -- ---- the same of what is asked, and of the status
 
 -- what may be asked of shelf and disk
-pub admitted_as : (asked other : Asked) (Shelf Disk : List ℕ → Type 0) (files : Option Files) → asked ≡ other → IsAdmitted Shelf Disk files asked → IsAdmitted Shelf Disk files other
-admitted_as asked other Shelf Disk files same h = subst (λ (x : Asked). IsAdmitted Shelf Disk files x) same h
+pub admitted_as : {asked other : Asked} → asked ≡ other → (Shelf Disk : List ℕ → Type 0) (files : Option Files) → IsAdmitted Shelf Disk files asked → IsAdmitted Shelf Disk files other
+admitted_as same Shelf Disk files h = subst (λ (x : Asked). IsAdmitted Shelf Disk files x) same h
 
-module _ (asked other : Asked) (status end : Status) (same : asked ≡ other) (is : status ≡ end) where
-  pub took_as : (files : Option Files) (old new : Option (List ℕ)) → Took (AnswersAs files other) end old new → Took (AnswersAs files asked) status old new
-  took_as files old new h = subst (λ (x : Asked). Took (AnswersAs files x) status old new) (sym same) (subst (λ (x : Status). Took (AnswersAs files other) x old new) (sym is) h)
+pub took_as : {asked other : Asked} {status end : Status} → asked ≡ other → status ≡ end → (files : Option Files) (old new : Option (List ℕ))
+    → Took (AnswersAs files other) end old new → Took (AnswersAs files asked) status old new
+took_as {asked} {other} {status} {end} same is files old new h =
+    subst (λ (x : Asked). Took (AnswersAs files x) status old new) (sym same) (subst (λ (x : Status). Took (AnswersAs files other) x old new) (sym is) h)
 
-  pub ends_as : (files : Option Files) (before after : ℕ) → EndsAs files before after other end → EndsAs files before after asked status
-  ends_as files before after h = subst (λ (x : Asked). EndsAs files before after x status) (sym same) (subst (λ (x : Status). EndsAs files before after other x) (sym is) h)
+pub ends_as : {asked other : Asked} {status end : Status} → asked ≡ other → status ≡ end → (files : Option Files) (before after : ℕ)
+    → EndsAs files before after other end → EndsAs files before after asked status
+ends_as {asked} {other} {status} {end} same is files before after h =
+    subst (λ (x : Asked). EndsAs files before after x status) (sym same) (subst (λ (x : Status). EndsAs files before after other x) (sym is) h)
 
-  pub leaves_as : (files : Option Files) (old new : DiskTold) (before after : Option (List ℕ)) → LeavesAs files old new before after other end → LeavesAs files old new before after asked status
-  leaves_as files old new before after h =
-      subst (λ (x : Asked). LeavesAs files old new before after x status) (sym same) (subst (λ (x : Status). LeavesAs files old new before after other x) (sym is) h)
+pub leaves_as : {asked other : Asked} {status end : Status} → asked ≡ other → status ≡ end → (files : Option Files) (old new : DiskTold) (before after : Option (List ℕ))
+    → LeavesAs files old new before after other end → LeavesAs files old new before after asked status
+leaves_as {asked} {other} {status} {end} same is files old new before after h =
+    subst (λ (x : Asked). LeavesAs files old new before after x status) (sym same) (subst (λ (x : Status). LeavesAs files old new before after other x) (sym is) h)
 
 -- the same jobs, the same work and the same gathering, by names that were handed on
 pub handing : (net journal a d : List ℕ) (count : ℕ) → a ≡ net → d ≡ journal → jobs net journal count ≡ jobs a d count

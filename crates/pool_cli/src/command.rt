@@ -126,55 +126,25 @@ fn answer<S: Shelf, K: Sink, D: Disk>(
 {
     match request {
         Request::Solve(words) => Status::from(solve(alloc, &words, shelf, out, disk)),
-        Request::Check(net, cert) => {
-            Status::from(check(alloc, net.as_str(), cert.as_str(), shelf, out))
+        Request::Check(net, cert) => Status::from(check(alloc, &net, &cert, shelf, out)),
+        Request::Report(net, cert) => Status::from(report(alloc, &net, &cert, shelf, out)),
+        Request::Formulate(net, form) => Status::from(formulate(alloc, &net, form, shelf, out)),
+        Request::Tight(net, cert, form, pivots) => {
+            Status::from(tight(alloc, &net, &cert, form, pivots, shelf, out))
         }
-        Request::Report(net, cert) => {
-            Status::from(report(alloc, net.as_str(), cert.as_str(), shelf, out))
+        Request::CheckTight(net, cert, marks) => {
+            Status::from(checktight(alloc, &net, &cert, &marks, shelf, out))
         }
-        Request::Formulate(net, form) => {
-            Status::from(formulate(alloc, net.as_str(), form, shelf, out))
-        }
-        Request::Tight(net, cert, form, pivots) => Status::from(tight(
-            alloc,
-            net.as_str(),
-            cert.as_str(),
-            form,
-            pivots,
-            shelf,
-            out,
-        )),
-        Request::CheckTight(net, cert, marks) => Status::from(checktight(
-            alloc,
-            net.as_str(),
-            cert.as_str(),
-            marks.as_str(),
-            shelf,
-            out,
-        )),
         Request::Make(number) => Status::from(make(alloc, number, out)),
         Request::Trial(number) => Status::from(trial(alloc, number, out)),
-        Request::Jobs(net, journal, count) => Status::from(jobs(
-            alloc,
-            net.as_str(),
-            journal.as_str(),
-            count,
-            shelf,
-            out,
-            disk,
-        )),
+        Request::Jobs(net, journal, count) => {
+            Status::from(jobs(alloc, &net, &journal, count, shelf, out, disk))
+        }
         Request::Work(net, jobs, form) => {
-            Status::from(work(alloc, net.as_str(), jobs.as_str(), form, shelf, out))
+            Status::from(work(alloc, &net, &jobs, form, shelf, out))
         }
         Request::Gather(net, jobs, answers, journal) => Status::from(gather(
-            alloc,
-            net.as_str(),
-            jobs.as_str(),
-            &answers,
-            journal.as_str(),
-            shelf,
-            out,
-            disk,
+            alloc, &net, &jobs, &answers, &journal, shelf, out, disk,
         )),
     }
 }

@@ -17,7 +17,7 @@ answer-requires g c = record {
 
 pub returns-in-Ok-clause-took : goal.returns-in-Ok-clause-took
 returns-in-Ok-clause-took g c = λ asked asks.
-    took_as asked (shown_request c.in-Ok.request) c.answer.result c.answer.result (c.in-Ok.ensures.only asked asks) refl
+    took_as {status = c.answer.result} (c.in-Ok.ensures.only asked asks) refl
     (g.S.Shelf.told c.args.shelf.now).files (g.K.Sink.taken c.args.out.now) (g.K.Sink.taken c.answer.new.out) c.answer.ensures.took
 
 pub returns-in-Ok-clause-unanswered : goal.returns-in-Ok-clause-unanswered
@@ -35,7 +35,7 @@ returns-in-Ok-clause-asked g c = inr (shown_request c.in-Ok.request, c.in-Ok.ens
 
 pub returns-in-Ok-clause-ends : goal.returns-in-Ok-clause-ends
 returns-in-Ok-clause-ends g c = λ asked asks.
-    ends_as asked (shown_request c.in-Ok.request) c.answer.result c.answer.result (c.in-Ok.ensures.only asked asks) refl
+    ends_as {status = c.answer.result} (c.in-Ok.ensures.only asked asks) refl
     (g.S.Shelf.told c.args.shelf.now).files (g.S.Shelf.told c.args.shelf.now).taken (g.S.Shelf.told c.answer.new.shelf).taken c.answer.ensures.ends
 
 pub returns-in-Ok-clause-decided : goal.returns-in-Ok-clause-decided
@@ -44,11 +44,11 @@ returns-in-Ok-clause-decided g c = λ told asked is asks.
     let before = (g.S.Shelf.told c.args.shelf.now).taken in
     let after = (g.S.Shelf.told c.answer.new.shelf).taken in
     decided files told before after asked c.answer.result is
-    (ends_as asked (shown_request c.in-Ok.request) c.answer.result c.answer.result (c.in-Ok.ensures.only asked asks) refl files before after c.answer.ensures.ends)
+    (ends_as {status = c.answer.result} (c.in-Ok.ensures.only asked asks) refl files before after c.answer.ensures.ends)
 
 pub returns-in-Ok-clause-journal : goal.returns-in-Ok-clause-journal
 returns-in-Ok-clause-journal g c = λ asked asks tells.
-    leaves_as asked (shown_request c.in-Ok.request) c.answer.result c.answer.result (c.in-Ok.ensures.only asked asks) refl
+    leaves_as {status = c.answer.result} (c.in-Ok.ensures.only asked asks) refl
     (g.S.Shelf.told c.args.shelf.now).files (g.D.Disk.told c.args.disk.now) (g.D.Disk.told c.answer.new.disk)
     (g.K.Sink.taken c.args.out.now) (g.K.Sink.taken c.answer.new.out) (c.answer.ensures.journal tells)
 
