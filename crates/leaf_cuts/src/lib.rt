@@ -14,7 +14,7 @@
 //! What makes it quick is promised by no clause, since no answer rests on it:
 //!
 //! - A program starts where the one above it ended. A leaf's starts from the proof of the nearest node that has one, and
-//!   those of its halves from the leaf's basis. The first seven are solved from nothing, since other vertices
+//!   those of its halves from the leaf's basis. The first seven (eight in form P) are solved from nothing, since other vertices
 //!   give other plans.
 //! - Where a look is asked for, halves of coordinates are solved, those first that are missed the most by what `cut_scores` says, up
 //!   to so many and as long as new ones lead; and the one whose cut leaves the least to be done gets the greatest number. The rows of

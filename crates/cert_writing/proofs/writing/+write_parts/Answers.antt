@@ -5,7 +5,6 @@ use Rattle.edge_io.proofs.Writes.{wrote-same}
 use Rattle.box_space.specs.Views.{shown_part}
 use Rattle.cert_writing.specs.Text.{field, part_fields}
 use Rattle.cert_writing.proofs.Lines.{part_text, flat_map-flat_map, wrote-halves}
-use Rattle.cert_writing.proofs.Faults.{then-grows, failed-behind}
 use Rattle.cert_writing.proofs.writing.+write_parts.Goals as goal
 
 pub returns-clause-wrote : goal.returns-clause-wrote
@@ -22,11 +21,3 @@ returns-clause-wrote g t c =
     (wrote-halves c.write_parts-2.result part_text shown_part c.args.parts.now c.split_at.result.0.now c.split_at.result.1.now (length c.args.parts.now / 2) old mid new
     c.split_at.ensures.front c.split_at.ensures.back start
     (wrote-same c.write_parts-2.result mid (flat_map field (flat_map part_fields second)) (flat_map part_text second) new (flat_map-flat_map field part_fields second) c.write_parts-2.ensures.wrote))
-
-pub returns-clause-failed : goal.returns-clause-failed
-returns-clause-failed g t c =
-    failed-behind c.write_parts-2.result (g.K.Sink.faults c.write_parts-2.new.out)
-    (then-grows c.short_parts.ensures.faults_grow c.in_ok-write_parts.ensures.faults_grow) c.write_parts-2.ensures.failed
-
-pub returns-clause-faults_grow : goal.returns-clause-faults_grow
-returns-clause-faults_grow g t c = then-grows c.short_parts.ensures.faults_grow (then-grows c.in_ok-write_parts.ensures.faults_grow c.write_parts-2.ensures.faults_grow)

@@ -2,7 +2,6 @@ use Rattle.std.proofs.Common.{◌/◌, length}
 use Rattle.box_space.specs.Views.{shown_split}
 use Rattle.cert_writing.specs.Text.{split_line}
 use Rattle.cert_writing.proofs.Lines.{wrote-halves}
-use Rattle.cert_writing.proofs.Faults.{then-grows, failed-behind}
 use Rattle.cert_writing.proofs.writing.+write_split_list.Goals as goal
 
 pub returns-clause-wrote : goal.returns-clause-wrote
@@ -10,11 +9,3 @@ returns-clause-wrote g t c =
     wrote-halves c.write_split_list-2.result split_line shown_split c.args.splits.now c.split_at.result.0.now c.split_at.result.1.now (length c.args.splits.now / 2)
     (g.K.Sink.taken c.args.out.now) (g.K.Sink.taken c.write_split_list.new.out) (g.K.Sink.taken c.write_split_list-2.new.out)
     c.split_at.ensures.front c.split_at.ensures.back (rw (c.short_split_list.ensures.nothing c.in_default.is) at c.in_ok-write_split_list.ensures.wrote) c.write_split_list-2.ensures.wrote
-
-pub returns-clause-failed : goal.returns-clause-failed
-returns-clause-failed g t c =
-    failed-behind c.write_split_list-2.result (g.K.Sink.faults c.write_split_list-2.new.out)
-    (then-grows c.short_split_list.ensures.faults_grow c.in_ok-write_split_list.ensures.faults_grow) c.write_split_list-2.ensures.failed
-
-pub returns-clause-faults_grow : goal.returns-clause-faults_grow
-returns-clause-faults_grow g t c = then-grows c.short_split_list.ensures.faults_grow (then-grows c.in_ok-write_split_list.ensures.faults_grow c.write_split_list-2.ensures.faults_grow)

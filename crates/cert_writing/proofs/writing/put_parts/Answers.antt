@@ -4,8 +4,7 @@ use Rattle.std.proofs.lemmas.Result.{err_from_is_err_and}
 use Rattle.edge_io.specs.Writing.{behind, TookFront}
 use Rattle.box_space.specs.Views.{shown_part}
 use Rattle.cert_writing.specs.Text.{field, part_fields}
-use Rattle.cert_writing.proofs.Lines.{part_text, front-shown, all-shown, flat_map-flat_map, more-shown}
-use Rattle.cert_writing.proofs.Faults.{then-grows}
+use Rattle.cert_writing.proofs.Lines.{part_text, front-shown, all-shown, flat_map-flat_map}
 use Rattle.cert_writing.proofs.writing.put_parts.Goals as goal
 
 pub returns-in_err-write_part-clause-wrote : goal.returns-in_err-write_part-clause-wrote
@@ -22,11 +21,3 @@ returns-clause-wrote g c =
     all-shown part_text shown_part c.args.parts.now c.loop-part.part-index (g.K.Sink.taken c.args.out.now) (g.K.Sink.taken c.loop-part.out)
     (take_all c.loop-part.part-index c.args.parts.now c.loop-part-test.false) c.loop-part.invariant.0
     ∙ ap (behind (g.K.Sink.taken c.args.out.now)) (sym (flat_map-flat_map field part_fields (map shown_part c.args.parts.now)))
-
-pub loop-part-preserved : goal.loop-part-preserved
-loop-part-preserved g c = (
-  more-shown (λ x. part_text (shown_part x)) c.args.parts.now c.loop-part.part-index _ (g.K.Sink.taken c.args.out.now)
-      (g.K.Sink.taken c.loop-part.out) (g.K.Sink.taken c.write_part.new.out) c.loop-part-test.true c.loop-part.invariant.0
-      c.in_ok-write_part.ensures.wrote,
-  then-grows c.loop-part.invariant.1 c.in_ok-write_part.ensures.faults_grow,
-)

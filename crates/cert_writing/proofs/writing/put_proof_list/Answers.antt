@@ -1,12 +1,11 @@
-use Rattle.std.proofs.Common.{◌≡◌, subst}
+use Rattle.std.proofs.Common.{subst}
 use Rattle.std.proofs.lemmas.List.{take_all}
 use Rattle.std.proofs.lemmas.Result.{err_from_is_err_and}
-use Rattle.edge_io.specs.Writing.{behind, TookFront}
+use Rattle.edge_io.specs.Writing.{TookFront}
 use Rattle.cert_writing.specs.declared.certificate.NodeProof.{NodeProof}
 use Rattle.cert_writing.specs.Views.{shown_node_proof}
 use Rattle.cert_writing.specs.Text.{proof_line}
-use Rattle.cert_writing.proofs.Lines.{front-shown, all-shown, more-shown}
-use Rattle.cert_writing.proofs.Faults.{then-grows}
+use Rattle.cert_writing.proofs.Lines.{front-shown, all-shown}
 use Rattle.cert_writing.proofs.writing.put_proof_list.Goals as goal
 
 pub returns-in_err-put_proof-clause-wrote : goal.returns-in_err-put_proof-clause-wrote
@@ -21,11 +20,3 @@ pub returns-clause-wrote : goal.returns-clause-wrote
 returns-clause-wrote g c =
     all-shown proof_line shown_node_proof c.args.proofs.now c.loop-proof.proof-index (g.K.Sink.taken c.args.out.now) (g.K.Sink.taken c.loop-proof.out)
     (take_all c.loop-proof.proof-index c.args.proofs.now c.loop-proof-test.false) c.loop-proof.invariant.0
-
-pub loop-proof-preserved : goal.loop-proof-preserved
-loop-proof-preserved g c = (
-  more-shown (λ x. proof_line (shown_node_proof x)) c.args.proofs.now c.loop-proof.proof-index c.proof-item.result (g.K.Sink.taken c.args.out.now)
-      (g.K.Sink.taken c.loop-proof.out) (g.K.Sink.taken c.put_proof.new.out) c.loop-proof-test.true c.loop-proof.invariant.0
-      (subst (λ (x : NodeProof). g.K.Sink.taken c.put_proof.new.out ≡ behind (g.K.Sink.taken c.loop-proof.out) (proof_line (shown_node_proof x))) c.proof-item.is c.in_ok-put_proof.ensures.wrote),
-  then-grows c.loop-proof.invariant.1 c.in_ok-put_proof.ensures.faults_grow,
-)

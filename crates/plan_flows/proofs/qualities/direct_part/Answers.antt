@@ -1,19 +1,10 @@
-use Rattle.std.proofs.Common.{◌<◌, ◌≤◌, ◌^◌, ◌*◌, pos, ◌*ℤ◌, unsigned_abs, arith, refl, ap, ◌∙◌, rules, FitsSigned}
+use Rattle.std.proofs.Common.{unsigned_abs, arith, ap, rules, FitsSigned}
 use Rattle.std.proofs.lemmas.Int.{to_z-of_z}
 use mir.Syntax.{w64, w128}
-use mir.Val.{to_z}
 use Rattle.pool_model.specs.Network.{net_of}
 use Rattle.plan_core.specs.Views.{shown_plan}
-use Rattle.plan_core.proofs.Terms.{IsDirectPart, wide_small, direct_size, direct_part, quality_is}
+use Rattle.plan_core.proofs.Terms.{direct_size, direct_part, quality_is}
 use Rattle.plan_flows.proofs.qualities.direct_part.Goals as goal
-
-pub in_parts-sent-requires-clause-number : goal.in_parts-sent-requires-clause-number
-in_parts-sent-requires-clause-number c =
-    let n = net_of c.args.net.now in
-    let narrow : FitsSigned w64 c.source_quality.result = search rules in
-    wide_small n c.args.quality c.args.arc c.from.result c.requires.limited c.requires.arc c.requires.quality
-    (quality_is n c.args.quality c.args.arc c.direct-source.result.0 c.source_quality.result c.from.result narrow
-    c.direct-source.ensures.source c.source_quality.ensures.value c.from.ensures)
 
 pub weighted-requires-clause-size : goal.weighted-requires-clause-size
 weighted-requires-clause-size c =
@@ -24,18 +15,6 @@ weighted-requires-clause-size c =
     (quality_is n c.args.quality c.args.arc c.direct-source.result.0 c.source_quality.result c.from.result narrow
     c.direct-source.ensures.source c.source_quality.ensures.value c.from.ensures)
     c.in_parts-sent.ensures.value c.direct_flow.result c.direct_flow.ensures.flow
-
-pub returns-clause-value : goal.returns-clause-value
-returns-clause-value c =
-    let n = net_of c.args.net.now in
-    let narrow : FitsSigned w64 c.source_quality.result = search rules in
-    let part = direct_part n (shown_plan c.args.plan.now) c.args.quality c.args.arc c.scale.result c.from.result c.in_parts-sent.result c.requires.limited c.requires.room
-    c.requires.arc c.requires.quality c.scale.ensures.value
-    (quality_is n c.args.quality c.args.arc c.direct-source.result.0 c.source_quality.result c.from.result narrow
-    c.direct-source.ensures.source c.source_quality.ensures.value c.from.ensures)
-    c.in_parts-sent.ensures.value c.direct_flow.result c.weighted.result c.direct_flow.ensures.flow c.weighted.ensures.value in
-    let fits : FitsSigned w128 c.weighted.result = search rules in
-    to_z-of_z w128 c.weighted.result fits ∙ part.exact
 
 pub returns-clause-size : goal.returns-clause-size
 returns-clause-size c =

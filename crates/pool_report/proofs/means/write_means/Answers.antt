@@ -1,10 +1,9 @@
 use Rattle.std.proofs.Common.{◌<◌, arith}
 use Rattle.std.proofs.lemmas.Result.{err_from_is_err_and}
-use Rattle.edge_io.proofs.Counting.{grows-then}
 use Rattle.pool_model.specs.Network.{net_of}
 use Rattle.pool_model.specs.Plan.{plan_of}
 use Rattle.plan_core.specs.Views.{shown_plan}
-use Rattle.text_pieces.proofs.Each.{front-each, more-each}
+use Rattle.text_pieces.proofs.Each.{front-each}
 use Rattle.pool_report.specs.Lines.{mean_lines}
 use Rattle.pool_report.proofs.means.write_means.Goals as goal
 
@@ -16,10 +15,3 @@ returns-in_err-write_means_of-clause-wrote g c =
     let p = err_from_is_err_and c.from_residual.result c.from_residual.ensures.1 in
     rw p.1 (front-each (mean_lines c.args.net.now plan) c.loop-product.product n.products (g.K.Sink.taken c.args.out.now) (g.K.Sink.taken c.loop-product.out)
     (g.K.Sink.taken c.write_means_of.new.out) among c.loop-product.invariant.0 c.in_err-write_means_of.ensures.wrote)
-
-pub loop-product-preserved : goal.loop-product-preserved
-loop-product-preserved g c = (
-  more-each (mean_lines c.args.net.now (plan_of (net_of c.args.net.now) (shown_plan c.args.plan.now))) c.loop-product.product (g.K.Sink.taken c.args.out.now) (g.K.Sink.taken c.loop-product.out)
-      (g.K.Sink.taken c.write_means_of.new.out) c.loop-product.invariant.0 c.in_ok-write_means_of.ensures.wrote,
-  grows-then (g.K.Sink.faults c.args.out.now) (g.K.Sink.faults c.loop-product.out) (g.K.Sink.faults c.write_means_of.new.out) c.loop-product.invariant.1 c.write_means_of.ensures.faults_grow,
-)

@@ -1,10 +1,9 @@
 use Rattle.std.proofs.Common.{◌<◌, arith}
 use Rattle.std.proofs.lemmas.Result.{err_from_is_err_and}
-use Rattle.edge_io.proofs.Counting.{grows-then}
 use Rattle.pool_model.specs.Network.{net_of}
 use Rattle.pool_model.specs.Plan.{plan_of}
 use Rattle.plan_core.specs.Views.{shown_plan}
-use Rattle.text_pieces.proofs.Each.{front-each, more-each}
+use Rattle.text_pieces.proofs.Each.{front-each}
 use Rattle.pool_report.specs.Lines.{pool_slack_line}
 use Rattle.pool_report.proofs.slacks.write_pools.Goals as goal
 
@@ -16,10 +15,3 @@ returns-in_err-write_pool-clause-wrote g c =
     let p = err_from_is_err_and c.from_residual.result c.from_residual.ensures.1 in
     rw p.1 (front-each (pool_slack_line c.args.net.now plan) c.loop-pool.pool n.pools (g.K.Sink.taken c.args.out.now) (g.K.Sink.taken c.loop-pool.out)
     (g.K.Sink.taken c.write_pool.new.out) among c.loop-pool.invariant.0 c.in_err-write_pool.ensures.wrote)
-
-pub loop-pool-preserved : goal.loop-pool-preserved
-loop-pool-preserved g c = (
-  more-each (pool_slack_line c.args.net.now (plan_of (net_of c.args.net.now) (shown_plan c.args.plan.now))) c.loop-pool.pool (g.K.Sink.taken c.args.out.now) (g.K.Sink.taken c.loop-pool.out)
-      (g.K.Sink.taken c.write_pool.new.out) c.loop-pool.invariant.0 c.in_ok-write_pool.ensures.wrote,
-  grows-then (g.K.Sink.faults c.args.out.now) (g.K.Sink.faults c.loop-pool.out) (g.K.Sink.faults c.write_pool.new.out) c.loop-pool.invariant.1 c.write_pool.ensures.faults_grow,
-)

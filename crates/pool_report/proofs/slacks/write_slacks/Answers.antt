@@ -1,6 +1,6 @@
 use Rattle.std.proofs.Common.{◌++◌}
 use Rattle.std.proofs.lemmas.Result.{err_from_is_err_and}
-use Rattle.edge_io.proofs.Writes.{front-first, front-second, wrote-three}
+use Rattle.edge_io.proofs.Writes.{front-first, wrote-three}
 use Rattle.pool_model.specs.Network.{net_of}
 use Rattle.pool_model.specs.Plan.{plan_of}
 use Rattle.plan_core.specs.Views.{shown_plan}
@@ -16,16 +16,6 @@ returns-in_err-write_sources-clause-wrote g c =
     rw p.1 (front-first (g.K.Sink.taken c.args.out.now) (each_below (source_slack_line c.args.net.now plan) n.sources)
     (each_below (pool_slack_line c.args.net.now plan) n.pools ++ each_below (product_slack_line c.args.net.now plan) n.products)
     (g.K.Sink.taken c.write_sources.new.out) c.in_err-write_sources.ensures.wrote)
-
-pub returns-in_err-write_pools-clause-wrote : goal.returns-in_err-write_pools-clause-wrote
-returns-in_err-write_pools-clause-wrote g c =
-    let n = net_of c.args.net.now in
-    let plan = plan_of n (shown_plan c.args.plan.now) in
-    let p = err_from_is_err_and c.from_residual-in_err-write_pools.result c.from_residual-in_err-write_pools.ensures.1 in
-    rw p.1 (front-second (g.K.Sink.taken c.args.out.now) (each_below (source_slack_line c.args.net.now plan) n.sources)
-    (g.K.Sink.taken c.write_sources.new.out) (each_below (pool_slack_line c.args.net.now plan) n.pools)
-    (each_below (product_slack_line c.args.net.now plan) n.products) (g.K.Sink.taken c.write_pools.new.out)
-    c.in_ok-write_sources.ensures.wrote c.in_err-write_pools.ensures.wrote)
 
 pub returns-clause-wrote : goal.returns-clause-wrote
 returns-clause-wrote g c =

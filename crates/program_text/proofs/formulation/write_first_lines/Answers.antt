@@ -1,19 +1,10 @@
-use Rattle.std.proofs.Common.{◌++◌}
 use Rattle.std.proofs.lemmas.Result.{err_from_is_err_and}
-use Rattle.edge_io.proofs.Writes.{front-first, front-second, wrote-three}
+use Rattle.edge_io.proofs.Writes.{front-second, wrote-three}
 use Rattle.pool_model.specs.Network.{net_of}
 use Rattle.box_space.specs.Views.{shown_box}
 use Rattle.program_text.specs.Lines.{cost_line, ends_lines}
 use Rattle.program_text.specs.Programs.{head_line}
 use Rattle.program_text.proofs.formulation.write_first_lines.Goals as goal
-
-pub returns-in_err-write_whole-clause-wrote : goal.returns-in_err-write_whole-clause-wrote
-returns-in_err-write_whole-clause-wrote g c =
-    let n = net_of c.args.net.now in
-    let b = shown_box c.args.v.now in
-    let p = err_from_is_err_and c.from_residual.result c.from_residual.ensures.1 in
-    rw p.1 (front-first (g.K.Sink.taken c.args.out.now) (head_line c.args.form) (cost_line n ++ ends_lines n b c.args.form) (g.K.Sink.taken c.write_whole.new.out)
-    (rw c.head.ensures at c.in_err-write_whole.ensures.wrote))
 
 pub returns-in_err-write_cost_line-clause-wrote : goal.returns-in_err-write_cost_line-clause-wrote
 returns-in_err-write_cost_line-clause-wrote g c =

@@ -1,16 +1,8 @@
-use Rattle.std.proofs.lemmas.Result.{err_from_is_err_and}
-use Rattle.edge_io.proofs.Writes.{front-first, wrote-behind}
+use Rattle.edge_io.proofs.Writes.{wrote-behind}
 use Rattle.pool_model.specs.Network.{net_of}
 use Rattle.box_space.specs.Views.{shown_box}
 use Rattle.program_text.specs.Programs.{q_lines, pq_lines}
 use Rattle.program_text.proofs.formulation.write_pq.Goals as goal
-
-pub returns-in_err-write_q-clause-wrote : goal.returns-in_err-write_q-clause-wrote
-returns-in_err-write_q-clause-wrote g c =
-    let n = net_of c.args.net.now in
-    let b = shown_box c.args.v.now in
-    let p = err_from_is_err_and c.from_residual.result c.from_residual.ensures.1 in
-    rw p.1 (front-first (g.K.Sink.taken c.args.out.now) (q_lines n b) (pq_lines n b) (g.K.Sink.taken c.write_q.new.out) c.in_err-write_q.ensures.wrote)
 
 pub returns-clause-wrote : goal.returns-clause-wrote
 returns-clause-wrote g c =
