@@ -34,8 +34,8 @@ const LEAST_PATIENCE: usize = 2;
 /// and bounds on adhya4.
 const MIXED_LOOKS: u32 = 3;
 
-/// The number of a coordinate that isn't missed at all. In form P it may be looked at even so: without them adhya4 has a gap of 17.2 after
-/// 100 splits, and with them one of 1.6.
+/// The number of a coordinate that isn't missed at all. In form P it may be looked at even so: after 100 splits of adhya4, whose first ten
+/// leaves were solved from nothing, the gap was 17.2 without them, and 1.6 with them.
 const NOT_MISSED: u64 = 1;
 
 /// How a look goes on, and what its cuts are compared by.

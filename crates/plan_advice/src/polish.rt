@@ -1,8 +1,7 @@
 //! A plan's weights, polished by single units.
 //!
 //! Proportions are rounded to the grain, and steps can't be shorter than that. So a plan may stay a little above the best one of its
-//! hill, and the boxes round the best plan never close. Units of weight go from one feed of a pool to another, as long as that makes the
-//! plan cheaper.
+//! hill. Units of weight go from one feed of a pool to another, as long as that makes the plan cheaper.
 
 use crate::tries::Search;
 use lp_sparse::lookup::{at, put};
