@@ -58,17 +58,6 @@ index_at n index PathsFrom d is = ap (λ gs. get_or gs 6 d) is
 index_at n index PathsAlong d is = ap (λ gs. get_or gs 7 d) is
 index_at n index PathsInto d is = ap (λ gs. get_or gs 8 d) is
 
-pub number_below : (key : Key) → key_number key < 9
-number_below FeedsFrom = omega arith
-number_below FeedsInto = omega arith
-number_below OutsFrom = omega arith
-number_below OutsInto = omega arith
-number_below DirectsFrom = omega arith
-number_below DirectsInto = omega arith
-number_below PathsFrom = omega arith
-number_below PathsAlong = omega arith
-number_below PathsInto = omega arith
-
 -- ---- the same as the code keeps it
 
 -- what is kept at a place is what the network has there

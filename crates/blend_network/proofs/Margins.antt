@@ -1,5 +1,5 @@
 -- How large a margin is, and the costs that it is taken over.
-use Rattle.std.proofs.Common.{◌≡◌, ℕ, ◌<◌, ◌≤◌, unsigned_abs, ◌^◌, ◌*◌, ◌*ℤ◌, Option, Some, None, ℤ, pos, ◌+◌, ◌≤ℤ◌, ◌+ℤ◌, ◌-ℤ◌, option_map, ◌==◌, if◌then◌else◌, zero, suc, Bool, true, false, refl, FitsSigned, w64, arith}
+use Rattle.std.proofs.Common.{◌≡◌, ℕ, ◌<◌, ◌≤◌, ◌^◌, ◌*◌, ◌*ℤ◌, Option, Some, None, ℤ, pos, ◌+◌, ◌≤ℤ◌, ◌+ℤ◌, ◌-ℤ◌, option_map, ◌==◌, if◌then◌else◌, zero, suc, Bool, true, false, refl, FitsSigned, w64, arith}
 use Rattle.std.specs.Option.{ForSome}
 use Rattle.std.specs.Int.{int_min, int_max}
 use Rattle.std.proofs.lemmas.Int.{ints, clamps}
@@ -12,9 +12,6 @@ use Rattle.pool_model.specs.Starting.{lesser, least_below, pool_cost, out_delive
 
 pub margin_above : (cost price : ℤ) → cost ≤ℤ price → int_max (pos 0) (price -ℤ cost) ≡ price -ℤ cost
 margin_above cost price h = omega (arith, ints, clamps)
-
-pub margin_below : (cost price : ℤ) → price ≤ℤ cost → int_max (pos 0) (price -ℤ cost) ≡ pos 0
-margin_below cost price h = omega (arith, ints, clamps)
 
 min-within : (size : ℕ) (x y z : ℤ) → IsWithin size x → IsWithin size y → int_min x y ≡ z → IsWithin size z
 min-within size x y z hx hy e = (omega (arith, ints, clamps), omega (arith, ints, clamps))
@@ -77,9 +74,6 @@ reach_cost-within n j limited =
 
 pub difference-fits : (price cost : ℤ) → IsWithin (10 ^ 12) price → IsWithin (3 * 10 ^ 12) cost → FitsSigned w64 (price -ℤ cost)
 difference-fits price cost hp hc = omega (arith, ints)
-
-pub sum-fits : (a b : ℤ) → unsigned_abs a ≤ 3 * 10 ^ 12 → unsigned_abs b ≤ 10 ^ 12 → FitsSigned w64 (a +ℤ b)
-sum-fits a b ha hb = omega (arith, ints)
 
 pub product-up_to : (m n : ℕ) (a b : ℤ) → IsUpTo m a → IsUpTo n b → IsUpTo (m * n) (a *ℤ b)
 product-up_to m n a b ha hb = (

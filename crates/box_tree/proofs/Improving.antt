@@ -51,13 +51,6 @@ dearer-kept n w a None (Some b) is kept not cheaper = absurd kept
 dearer-kept n w a (Some o) None is kept not cheaper = absurd kept
 dearer-kept n w a (Some o) (Some b) is kept not cheaper = not (some_at (IsLess a) b (less-is n w o a b is kept (cheaper o refl)))
 
--- a kept cost has a base
-pub kept-base : (n : Net) (best : Option Written) (cost : Option Cost) → IsKeptCost n best cost → ForSome cost (λ c. 0 < c.base)
-kept-base n None None kept c e = absurd (none-some c e)
-kept-base n None (Some b) kept c e = absurd kept
-kept-base n (Some o) None kept c e = absurd kept
-kept-base n (Some o) (Some b) kept c e = some_at (λ d. 0 < d.base) b (subst (λ (m : ℕ). 0 < m) (sym kept.base) kept.obeys.denominator) c e
-
 -- ---- what is kept
 
 pub plan-taken : (n : Net) (k : Kept) (w : Written) (a : Cost) → IsKeptOf n k → IsCostOf n w a → ForSome k.cost (IsLess a) → IsTaken n (improve w) k (record k { best = Some w; cost = Some a })

@@ -1,8 +1,7 @@
 -- The first of the greatest open rows, place by place.
-use Rattle.std.proofs.Common.{ℕ, ◌+◌, ◌<◌, List, length, arith, below_more}
+use Rattle.std.proofs.Common.{ℕ, ◌+◌, ◌<◌, List, below_more}
 use Rattle.branching.specs.declared.view.CoordRow.{CoordRow}
 use Rattle.branching.specs.Rows.{row_at, IsOpenAt}
-use Rattle.branching.specs.Known.{IsFirstOpen, IsFirstGreatest}
 
 -- of the open rows below a count this is one of the greatest, and all before it are less
 pub record IsGreatestBelow (IsLess : CoordRow → CoordRow → Type 0) (rows : List CoordRow) (count best : ℕ) : Type 0 where
@@ -15,13 +14,6 @@ pub record IsWeakOrder (IsLess : CoordRow → CoordRow → Type 0) (rows : List 
   pub asymmetric : (i j : ℕ) → IsOpenAt rows i → IsOpenAt rows j → IsLess (row_at rows i) (row_at rows j) → ¬ IsLess (row_at rows j) (row_at rows i)
   pub trans : (i j k : ℕ) → IsOpenAt rows i → IsOpenAt rows j → IsOpenAt rows k
       → ¬ IsLess (row_at rows j) (row_at rows i) → IsLess (row_at rows j) (row_at rows k) → IsLess (row_at rows i) (row_at rows k)
-
-pub first_is : (IsLess : CoordRow → CoordRow → Type 0) (rows : List CoordRow) (best : ℕ) → IsFirstOpen rows best → IsGreatestBelow IsLess rows 0 best
-first_is L rows best h = record {
-  is_open = h.is_open;
-  greatest = λ j below here. absurd (omega arith);
-  first = λ j below here. absurd (h.first j below here);
-}
 
 -- one more row, which is open and greater
 pub with_greater : (IsLess : CoordRow → CoordRow → Type 0) (rows : List CoordRow) (count best : ℕ) → IsWeakOrder IsLess rows → IsGreatestBelow IsLess rows count best
@@ -40,13 +32,5 @@ pub with_other : (IsLess : CoordRow → CoordRow → Type 0) (rows : List CoordR
 with_other L rows count best so other = record {
   is_open = so.is_open;
   greatest = below_more (λ j. IsOpenAt rows j → ¬ L (row_at rows best) (row_at rows j)) count so.greatest other;
-  first = so.first;
-}
-
--- over all rows
-pub greatest_is : (IsLess : CoordRow → CoordRow → Type 0) (rows : List CoordRow) (best : ℕ) → IsGreatestBelow IsLess rows (length rows) best → IsFirstGreatest IsLess rows best
-greatest_is L rows best so = record {
-  is_open = so.is_open;
-  greatest = λ j there. so.greatest j there.there there;
   first = so.first;
 }

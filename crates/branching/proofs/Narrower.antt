@@ -5,7 +5,7 @@ use Rattle.integers.proofs.Ring.{sorted, additive}
 use Rattle.integers.proofs.Order.{le-mul, lt-mul, lt-cancel}
 use Rattle.branching.specs.declared.view.CoordRow.{CoordRow}
 use Rattle.branching.specs.Rows.{row_at, width_of, IsOpenAt, AreRows}
-use Rattle.branching.specs.Known.{IsNarrower, IsLessMissed, IsMoreCut}
+use Rattle.branching.specs.Known.{IsNarrower, IsMoreCut}
 use Rattle.branching.proofs.Greatest.{IsWeakOrder}
 
 -- a/x is at most b/y, and that is below c/z
@@ -29,12 +29,6 @@ narrower_is rows are = record {
   trans = λ i j k at_i at_j at_k most less.
       le_then_lt (width_of (row_at rows i)) (row_at rows i).root_width (width_of (row_at rows j)) (row_at rows j).root_width (width_of (row_at rows k)) (row_at rows k).root_width
       (root_wide rows i are at_i) (root_wide rows j are at_j) (root_wide rows k are at_k) (not_lt _ _ most) less;
-}
-
-pub less_missed_is : (rows : List CoordRow) → IsWeakOrder IsLessMissed rows
-less_missed_is rows = record {
-  asymmetric = λ i j here there less more. omega arith;
-  trans = λ i j k at_i at_j at_k most less. grind arith;
 }
 
 pub more_cut_is : (cuts : List ℕ) (rows : List CoordRow) → IsWeakOrder (IsMoreCut cuts) rows

@@ -4,10 +4,6 @@ use Rattle.std.proofs.lemmas.Grind.{common_steps}
 use Rattle.branching.specs.declared.view.CoordRow.{CoordRow}
 use Rattle.branching.specs.Rows.{row_at, IsRow, AreRows}
 
--- there are no rows
-pub AreRows-nil : AreRows []
-AreRows-nil = record { each = λ i h. absurd (omega arith); distinct = λ i j h k. absurd (omega arith) }
-
 -- one more row, of a coordinate that none before it is of
 pub AreRows-push : (rows : List CoordRow) (r : CoordRow) → AreRows rows → IsRow r → ((i : ℕ) → i < length rows → (row_at rows i).coord < r.coord) → AreRows (rows ++ r ∷ [])
 AreRows-push rows r are is below = record {

@@ -1,5 +1,5 @@
 -- The fields of a certificate, by the items that its text begins with.
-use Rattle.std.proofs.Common.{◌≡◌, ℕ, ◌<◌, ◌≤◌, List, [], ◌∷◌, ◌++◌, length, refl, sym, ap, ◌∙◌, append_assoc, length-append, arith}
+use Rattle.std.proofs.Common.{◌≡◌, ℕ, ◌<◌, ◌≤◌, List, [], ◌∷◌, ◌++◌, length, refl, sym, ap, ◌∙◌, append_assoc, arith}
 use Rattle.std.specs.Prelude.{map}
 use Rattle.std.specs.List.{flat_map}
 use Rattle.row_model.specs.Multipliers.{Part}
@@ -18,10 +18,6 @@ fields-front {X} item one (x ∷ xs) (y ∷ ys) us vs h e =
     let rest : map item xs ++ us ≡ map item ys ++ vs = cc in
     let f = fields-front item one xs ys us vs (omega arith) rest in
     (f.0, ap (λ (z : X). z ∷ xs) (one x y first) ∙ ap (λ (l : List X). y ∷ l) f.1, f.2)
-
-none-left : {X : Type 0} (more ys : List X) → length (ys ++ more) ≡ length ys → more ≡ []
-none-left [] ys e = refl
-none-left (x ∷ more) ys e = absurd (omega (arith, e, length-append ys (x ∷ more)))
 
 -- two lists of one length are the same
 pub fields-same : {X : Type 0} (item : X → Field) → ((x y : X) → item x ≡ item y → x ≡ y) → (xs ys : List X) (us vs : List Field) → length xs ≡ length ys

@@ -36,10 +36,6 @@ bind_same : {A B : Type 0} (r : Result A ℕ) (f g : A → Result B ℕ) → ((x
 bind_same (Ok x) f g h = h x
 bind_same (Err n) f g h = refl
 
-bind_same_ok : {A B : Type 0} (r : Result A ℕ) (f g : A → Result B ℕ) → ((x : A) → r ≡ Ok x → f x ≡ g x) → (r >>= f) ≡ (r >>= g)
-bind_same_ok (Ok x) f g h = h x refl
-bind_same_ok (Err n) f g h = refl
-
 no_items : (r : Read) → prefixed [] r ≡ r
 no_items (Ok q) = refl
 no_items (Err n) = refl

@@ -3,17 +3,14 @@ use Rattle.std.proofs.Common.{◌≡◌, ◌≢◌, ℕ, ◌-◌, ◌^◌, ◌<�
 use Rattle.std.proofs.lemmas.List.{append-nil}
 use Rattle.edge_io.specs.Counts.{Grows, RoseBy}
 use Rattle.shelf_calls.specs.Opened.{ahead, IsUsedUp}
-use Rattle.shelf_calls.specs.Told.{ShelfTold, Keeps}
-use Rattle.edge_io.proofs.Counting.{rose-behind}
-use Rattle.cert_text.specs.declared.fault.TextFault.{TextFault}
 use Rattle.cert_text.specs.Reading.{At}
 use Rattle.cert_stream.specs.declared.fault.ItemFault.{ItemFault}
-use Rattle.cert_stream.specs.declared.fault.ItemFault.TheVariants.{Read, TooLong, Text}
+use Rattle.cert_stream.specs.declared.fault.ItemFault.TheVariants.{Read}
 use Rattle.cert_items.specs.declared.items.Item as declared
 use Rattle.cert_items.specs.declared.items.State.{State}
 use Rattle.cert_items.specs.declared.items.State.TheVariants as states
 use Rattle.cert_items.specs.Items.{Field, shown_item, Gave}
-use Rattle.cert_stream.specs.Streams.{Reader, at_of, MayFollow, IsAtEnd, ReaderTook, Filled, IsMore, TookMore, GivesItem, GivesFault, Ran, Finished, FailsLater, Fails}
+use Rattle.cert_stream.specs.Streams.{Reader, at_of, MayFollow, IsAtEnd, ReaderTook, Filled, IsMore, TookMore, GivesItem, Ran, Finished}
 
 -- ---- what is taken
 
@@ -92,13 +89,6 @@ more-then {r} {s} {rest} {now} h m = λ x e.
     let longer : s.left < length t.0 = m t.0 t.1 in
     omega (arith, h.within, longer, ap length t.2, length-append h.taken t.0)
 
--- a call that failed behind others
-pub fails-then : (e : ItemFault) {r s : Reader} (m k l : ShelfTold) → ReaderTook r m.rest s k.rest → RoseBy (r.left - s.left) m.taken k.taken →
-    Keeps m k → Keeps k l → Fails e s.left k l → Fails e r.left m l
-fails-then Read m k l h counted kept more f = rose-behind m.faults k.faults l.faults kept.faults_grow f
-fails-then TooLong {r} {s} m k l h counted kept more f = (more-then h f.0, took-more-then r.left s.left m.taken k.taken l.taken (omega (arith, h.within)) counted f.1 more.taken_grows)
-fails-then (Text t) m k l h counted kept more f = f
-
 -- a call that did not fail left the count of faults of its shelf as it was
 pub told-quiet : {X : Type 0} {x : X} {before after : ℕ} → (◌≡◌ {A = Result X ItemFault} (Ok x) (Err Read)) ⊎ (after ≡ before) → after ≡ before
 told-quiet (inl e) = absurd cc
@@ -160,6 +150,3 @@ ran_on-next item h going g = record {
 
 pub finished : {r s : Reader} {rest now : Option (List ℕ)} → RanOn r rest s now → s.state ≡ states.Ended → Finished r rest s now
 finished h e = record { items = h.items; ran = h.ran; state = e; whole = h.whole e }
-
-pub fails-later : {r s t : Reader} {rest now later : Option (List ℕ)} (f : TextFault) → RanOn r rest s now → GivesFault s now t later f → FailsLater r rest t later f
-fails-later {r} {s} {t} {rest} {now} f h g = record { items = h.items; before = s; rest_before = now; ran = h.ran; fault_is = g }

@@ -1,5 +1,5 @@
 -- An item is read in three steps: bytes are taken, the item is read in them, and behind the last one the file is taken to its end.
-use Rattle.std.proofs.Common.{◌≡◌, ◌≢◌, ◌⊎◌, ℕ, ◌+◌, ◌<◌, ◌≤◌, IsTrue, false, List, [], ◌∷◌, ◌++◌, length, Option, None, Some, Result, Ok, Err, refl, sym, ap}
+use Rattle.std.proofs.Common.{◌≡◌, ◌≢◌, ℕ, ◌+◌, ◌<◌, IsTrue, false, List, [], ◌∷◌, ◌++◌, length, Option, None, Some, Result, Ok, Err, refl, sym, ap}
 use Rattle.std.proofs.Common.{subst, ◌∙◌, append_assoc, length-append, arith, inl, inr}
 use Rattle.std.proofs.lemmas.Bool.{false≢true}
 use Rattle.std.proofs.lemmas.List.{nil_from_length}
@@ -134,19 +134,6 @@ gives-behind f item {r} {m} {n} {s} {rest} {now} {later} going h step over b = r
 
     same : {t u : State} {i j : ℕ} {x y : List ℕ} → t ≡ u → i ≡ j → x ≡ y → ok t i x ≡ ok u j y
     same p q w = cc
-
--- ---- behind the last line
-
-no-front : (xs ys : List ℕ) → xs ++ ys ≡ [] → xs ≡ []
-no-front [] ys e = refl
-no-front (x ∷ xs) ys e = absurd cc
-
-pub close-nothing : {n p : Reader} {now later : Option (List ℕ)} → Filled n now p later → length p.held ≡ 0 → n.held ≡ []
-close-nothing {n} {p} h e = no-front n.held h.took.taken (sym h.held ∙ nil_from_length p.held e)
-
-pub close-end : (p : Reader) → (1 ≤ length p.held) ⊎ IsTrue p.ended → length p.held ≡ 0 → IsAtEnd p
-close-end p (inl long) e = absurd (omega arith)
-close-end p (inr ended) e = record { held = nil_from_length p.held e; ended = ended }
 
 a-first : (xs : List ℕ) → length xs ≢ 0 → (c : ℕ) × (cs : List ℕ) × (xs ≡ c ∷ cs)
 a-first [] ne = absurd (ne refl)

@@ -15,13 +15,6 @@ regroup : {X : Type 0} (front : List X) (x : X) (read : Result (List X × At) �
 regroup {X} front x (Ok xs) = ap (λ (ys : List X). Ok (ys, xs.1)) (sym (append_assoc front (x ∷ []) xs.0))
 regroup front x (Err n) = refl
 
-no_front : {X : Type 0} (read : Result (List X × At) ℕ) → with_front [] read ≡ read
-no_front (Ok xs) = refl
-no_front (Err n) = refl
-
-pub each-init : {X : Type 0} (r : ℕ → At → Result (X × At) ℕ) (n : ℕ) (a : At) → with_front [] (each_at r (n - 0) a) ≡ each_at r n a
-each-init r n a = let k : n - 0 ≡ n = omega arith in rw k (no_front (each_at r n a))
-
 pub each-step : {X : Type 0} (r : ℕ → At → Result (X × At) ℕ) (n i : ℕ) (front : List X) (a b : At) (x : X) (total : Result (List X × At) ℕ) → i < n → r (n - (i + 1)) a ≡ Ok (x, b)
     → with_front front (each_at r (n - i) a) ≡ total → with_front (front ++ x ∷ []) (each_at r (n - (i + 1)) b) ≡ total
 unfolding each_at

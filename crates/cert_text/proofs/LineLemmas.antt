@@ -6,10 +6,6 @@ pub line_feeds-append : (xs ys : List ℕ) → line_feeds (xs ++ ys) ≡ line_fe
 line_feeds-append [] ys = sym (zero-add (line_feeds ys))
 line_feeds-append (x ∷ xs) ys = omega (arith, line_feeds-append xs ys)
 
-no_lines : (n : ℕ) → first_lines n [] ≡ []
-no_lines zero = refl
-no_lines (suc n) = refl
-
 cons_same : (c : ℕ) (xs ys : List ℕ) → xs ≡ ys → c ∷ xs ≡ c ∷ ys
 cons_same c xs ys e = ap (λ (z : List ℕ). c ∷ z) e
 
@@ -50,12 +46,3 @@ first_line-again (c ∷ cs) more lt = cons_same c _ _ (by_end (eqb c 10) lt (fir
         → cond b [] (first_line (cond b [] (first_line cs) ++ more)) ≡ cond b [] (first_line cs)
     by_end true lt2 h = refl
     by_end false lt2 h = h (omega arith)
-
--- a text of no line is its own first line
-pub first_line-rest : (bs : List ℕ) → line_feeds bs ≡ 0 → first_line bs ≡ bs
-first_line-rest [] e = refl
-first_line-rest (c ∷ cs) e = cons_same c _ _ (by_end (eqb c 10) e (first_line-rest cs))
-  where
-    by_end : (b : Bool) → cond b 1 0 + line_feeds cs ≡ 0 → (line_feeds cs ≡ 0 → first_line cs ≡ cs) → cond b [] (first_line cs) ≡ cs
-    by_end true e2 h = absurd (omega arith)
-    by_end false e2 h = h (omega arith)

@@ -1,17 +1,14 @@
 -- The loops of the readers, one byte at a time.
-use Rattle.std.proofs.Common.{◌≡◌, ◌≢◌, ℕ, ◌+◌, ◌-◌, ◌*◌, ◌%◌, ◌^◌, ◌<◌, ◌≤◌, Bool, true, false, cond, eqb, not, List, []}
+use Rattle.std.proofs.Common.{◌≡◌, ℕ, ◌+◌, ◌-◌, ◌%◌, ◌^◌, ◌<◌, ◌≤◌, Bool, true, false, cond, eqb, not, List, []}
 use Rattle.std.proofs.Common.{◌∷◌, length, drop, get_or, Option, Some, None, Ok, Err, refl, sym, ap, subst, ◌∙◌, add-zero, zero-add, add-one, arith, drop-cons}
 use Rattle.std.proofs.lemmas.Bool.{eqb-true, eqb-false, eq-eqb, ne_eqb}
 use Rattle.std.proofs.Math.ListN.{drop_of_length-le}
 use Rattle.std.specs.Option.{option_eq}
 use Rattle.cert_text.specs.Lines.{line_feeds}
-use Rattle.std.proofs.lemmas.Bool.Decides.{nat_tests}
 use Rattle.std.proofs.lemmas.Fmt.{decimal_by_steps_wide}
-use Rattle.std.specs.Char.{is_ascii_digit}
 use Rattle.std.specs.Fmt.{decimal}
 use Rattle.cert_text.proofs.LineLemmas.{line_feeds-append}
-use Rattle.cert_text.proofs.PieceLaws.{next_digit}
-use Rattle.cert_text.specs.Reading.{digits_at, digits_from, number_from, number_spelling, number_at, is_next_digit, At, found_at, after_word, word_at, first_byte, first_of, behind_byte, behind}
+use Rattle.cert_text.specs.Reading.{digits_at, digits_from, number_spelling, At, after_word, word_at, first_byte, first_of, behind_byte, behind}
 
 -- after i bytes of the word the text goes on at a
 pub record StepsBehind (word : List ℕ) (start : At) (i : ℕ) (a : At) : Type 0 where
@@ -79,35 +76,11 @@ first_is a c e = by_rest a.line a.rest e
     by_rest line [] e = absurd cc
     by_rest line (d ∷ ds) e = let h : d ≡ c = cc in (ap (λ (x : ℕ). x ∷ ds) h, ap (λ (x : ℕ). cond (eqb x 10) (line + 1) line) h)
 
-pub nothing_is : (a : At) → first_of a ≡ None → a.rest ≡ []
-nothing_is a e = by_rest a.rest e
-  where
-    by_rest : (rest : List ℕ) → first_byte rest ≡ None → rest ≡ []
-    by_rest [] e = refl
-    by_rest (d ∷ ds) e = absurd cc
-
 -- the digits so far make n, and those before made m
 pub record Counts (most : ℕ) (end : ℕ → ℕ) (m : ℕ) (start : At) (n : ℕ) (a : At) : Type 0 where
   pub rest : digits_from most end n a.rest ≡ digits_from most end m start.rest
   pub line : a.line ≡ start.line
   pub small : n ≤ most
-
-no_feed : (c line : ℕ) → 48 ≤ c → cond (eqb c 10) (line + 1) line ≡ line
-no_feed c line le = rw (ne_eqb c 10 (λ e. omega arith)) refl
-
-pub counts-init : (most : ℕ) (end : ℕ → ℕ) (m : ℕ) (start : At) → m ≤ most → Counts most end m start m start
-counts-init most end m start le = record { rest = refl; line = refl; small = le }
-
-pub counts-step : (most : ℕ) (end : ℕ → ℕ) (m : ℕ) (start : At) (n : ℕ) (a : At) (c : ℕ) → first_of a ≡ Some c → c ≢ end n
-    → is_next_digit most n c ≡ true → Counts most end m start n a → Counts most end m start (n * 10 + (c - 48)) (behind a)
-counts-step most end m start n a c e other next h =
-    let f = first_is a c e in
-    let t = next_digit most n c next in
-    record {
-      rest = sym (ap (digits_from most end n) f.0 ∙ rw (ne_eqb c (end n) other, next) refl) ∙ h.rest;
-      line = f.1 ∙ no_feed c a.line t.1 ∙ h.line;
-      small = t.3;
-    }
 
 pub line_feeds-decimal : (n : ℕ) → n < 10 ^ 64 → line_feeds (decimal n) ≡ 0
 line_feeds-decimal = decimal_by_steps_wide (λ n ds. line_feeds ds ≡ 0) (λ n lt. one n lt)
@@ -130,33 +103,3 @@ counts-end most end m start n a c small e same h =
     let line : start.line + line_feeds (number_spelling end n) ≡ (behind a).line = ap (λ (k : ℕ). start.line + k) feeds
     ∙ ap (λ (k : ℕ). k + cond (eqb c 10) 1 0) (sym h.line) ∙ one_more a.line (eqb c 10) ∙ sym f.1 in
     rw found (rw line refl)
-
-pub counts-none : (most : ℕ) (end : ℕ → ℕ) (m : ℕ) (start : At) (n : ℕ) (a : At) → first_of a ≡ None → Counts most end m start n a → digits_at most end m start ≡ Err start.line
-counts-none most end m start n a e h =
-    let none : digits_from most end m start.rest ≡ None = sym h.rest ∙ ap (digits_from most end n) (nothing_is a e) in
-    rw none refl
-
-pub counts-fault : (most : ℕ) (end : ℕ → ℕ) (m : ℕ) (start : At) (n : ℕ) (a : At) (c : ℕ) → first_of a ≡ Some c → c ≢ end n
-    → is_next_digit most n c ≡ false → Counts most end m start n a → digits_at most end m start ≡ Err start.line
-counts-fault most end m start n a c e other next h =
-    let f = first_is a c e in
-    let none : digits_from most end m start.rest ≡ None = sym h.rest ∙ ap (digits_from most end n) f.0 ∙ rw (ne_eqb c (end n) other, next) refl in
-    rw none refl
-
--- a digit in front
-pub first-digit : (most : ℕ) (end : ℕ → ℕ) (start : At) (c : ℕ) → first_of start ≡ Some c → 48 ≤ c → c ≤ 57 → number_at most end start ≡ digits_at most end (c - 48) (behind start)
-first-digit most end start c e low high =
-    let f = first_is start c e in
-    let digit : is_ascii_digit c ≡ true = grind (arith, nat_tests) in
-    let rest : number_from most end start.rest ≡ digits_from most end (c - 48) (behind start).rest = ap (number_from most end) f.0 ∙ rw digit refl in
-    let line : (behind start).line ≡ start.line = f.1 ∙ no_feed c start.line low in
-    ap (found_at start.line (number_spelling end)) rest ∙ ap (λ (l : ℕ). found_at l (number_spelling end) (digits_from most end (c - 48) (behind start).rest)) (sym line)
-
-pub first-none : (most : ℕ) (end : ℕ → ℕ) (start : At) → first_of start ≡ None → number_at most end start ≡ Err start.line
-first-none most end start e = let none : number_from most end start.rest ≡ None = ap (number_from most end) (nothing_is start e) in rw none refl
-
-pub first-fault : (most : ℕ) (end : ℕ → ℕ) (start : At) (c : ℕ) → first_of start ≡ Some c → is_ascii_digit c ≡ false → number_at most end start ≡ Err start.line
-first-fault most end start c e other =
-    let f = first_is start c e in
-    let none : number_from most end start.rest ≡ None = ap (number_from most end) f.0 ∙ rw other refl in
-    rw none refl

@@ -15,13 +15,6 @@ abbrev pub further : {X : Type 0} → List ℕ → Result (X × At) ℕ → Resu
 further more (Ok p) = Ok (p.0, record { line = p.1.line; rest = p.1.rest ++ more })
 further more (Err n) = Err n
 
-pub further-nil : {X : Type 0} (r : Result (X × At) ℕ) → further [] r ≡ r
-further-nil {X} (Ok p) = ap (λ (rest : List ℕ). ok p.0 p.1.line rest) (append-nil p.1.rest)
-  where
-    ok : X → ℕ → List ℕ → Result (X × At) ℕ
-    ok x line rest = Ok (x, record { line = line; rest = rest })
-further-nil (Err n) = refl
-
 -- ---- fronts of a list
 
 -- a front no longer than another begins it

@@ -1,15 +1,14 @@
 -- How many bytes words and numbers take, with the byte behind a number.
-use Rattle.std.proofs.Common.{◌≡◌, ℕ, suc, ◌+◌, ◌-◌, ◌^◌, ◌<◌, ◌≤◌, true, eqb, List, [], ◌∷◌, length, arith, lit<, length-append}
+use Rattle.std.proofs.Common.{◌≡◌, ℕ, suc, ◌+◌, ◌-◌, ◌^◌, ◌<◌, ◌≤◌, true, List, [], ◌∷◌, length, arith, lit<, length-append}
 use Rattle.std.specs.Prelude.{ℤ, pos, negsuc, FitsSigned}
 use Rattle.std.specs.Int.{w64, w128}
 use Rattle.std.specs.Fmt.{decimal, signed_decimal}
 use Rattle.std.proofs.lemmas.Fmt.{length-decimal-le_wide}
 use Rattle.std.proofs.lemmas.Int.{ints}
 use Rattle.cert_text.specs.declared.pieces.Ends.{Ends}
-use Rattle.cert_text.specs.declared.pieces.Ends.TheVariants.{Line}
-use Rattle.cert_text.specs.Reading.{word_at, number_spelling, int_spelling, same_at, end_of, u32_at, u64_at, i64_at, i128_at}
+use Rattle.cert_text.specs.Reading.{word_at, number_spelling, int_spelling, end_of, u32_at, u64_at, i64_at, i128_at}
 use Rattle.cert_text.proofs.PieceLaws.{one_line, Always, word_reads}
-use Rattle.cert_text.proofs.NumberLaws.{below, u32_reads, u64_reads, i64_reads, i128_reads, same_reads}
+use Rattle.cert_text.proofs.NumberLaws.{below, u32_reads, u64_reads, i64_reads, i128_reads}
 use Rattle.cert_text.proofs.WindowLaws.{Window, window_reads}
 
 pub word_window : (word : List ℕ) → one_line word ≡ true → Window (length word) (word_at word)
@@ -34,10 +33,6 @@ u32_window e = window_reads ℕ (below 32) (number_spelling (end_of e)) (u32_at 
 
 pub u64_window : (e : Ends) → Window 21 (u64_at e)
 u64_window e = window_reads ℕ (below 64) (number_spelling (end_of e)) (u64_at e) (u64_reads e) 21 (λ n h. number_length (end_of e) 20 n (lit< tt) (omega arith) (omega arith))
-
-pub same_window : (n : ℕ) → below 64 n → Window 21 (same_at (2 ^ 64 - 1) (end_of Line) n)
-same_window n lt = window_reads ℕ (λ m. below 64 m × (eqb m n ≡ true)) (number_spelling (end_of Line)) (same_at (2 ^ 64 - 1) (end_of Line) n) (same_reads n lt) 21
-    (λ m h. let below_m : m < 2 ^ 64 = h.0 in number_length (end_of Line) 20 m (lit< tt) (omega arith) (omega arith))
 
 fits64 : (z : ℤ) → FitsSigned w64 z → FitsBelow 19 z
 fits64 (pos n) h = (omega (arith, ints), omega (arith, ints))

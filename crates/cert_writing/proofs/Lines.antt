@@ -2,11 +2,11 @@
 use Rattle.std.proofs.Common.{◌≡◌, ℕ, ◌<◌, ◌+◌, List, [], ◌∷◌, ◌++◌, length, take, drop, get_or, Option, Result, refl, sym, ap, subst, ◌∙◌, append_assoc}
 use Rattle.std.specs.Prelude.{map, decimal, codes}
 use Rattle.std.specs.List.{flat_map}
-use Rattle.std.proofs.lemmas.List.{length-map, take-append-drop, flat_map_more, take_more}
+use Rattle.std.proofs.lemmas.List.{length-map, take-append-drop}
 use Rattle.std.proofs.lemmas.List.Concat.{flat_map-append}
 use Rattle.std.proofs.lemmas.List.Folds.{flat_map-map}
 use Rattle.edge_io.specs.Writing.{behind, Wrote, TookFront}
-use Rattle.edge_io.proofs.Writes.{behind-then, front-list, wrote-behind, wrote-same}
+use Rattle.edge_io.proofs.Writes.{front-list, wrote-behind, wrote-same}
 use Rattle.row_model.specs.Multipliers.{Part}
 use Rattle.box_space.specs.Views.{shown_part}
 use Rattle.cert_writing.specs.declared.certificate.NodeProof.{NodeProof}
@@ -18,13 +18,6 @@ pub front-shown : {X Y : Type 0} (f : Y → List ℕ) (view : X → Y) (xs : Lis
     → mid ≡ behind old (flat_map (λ x. f (view x)) (take i xs)) → TookFront mid (f (view (get_or xs i d))) new → TookFront old (flat_map f (map view xs)) new
 front-shown f view xs i d old mid new lt e h =
     subst (λ (w : List ℕ). TookFront old w new) (sym (flat_map-map f view xs)) (front-list (λ x. f (view x)) xs i d old mid new lt e h)
-
--- one more piece of a list
-pub more-shown : {X : Type 0} (f : X → List ℕ) (xs : List X) (i : ℕ) (d : X) (old mid new : Option (List ℕ)) → i < length xs
-    → mid ≡ behind old (flat_map f (take i xs)) → new ≡ behind mid (f (get_or xs i d)) → new ≡ behind old (flat_map f (take (i + 1) xs))
-more-shown {X} f xs i d old mid new lt e h =
-    h ∙ behind-then old mid (flat_map f (take i xs)) (f (get_or xs i d)) e
-    ∙ ap (behind old) (flat_map_more f [] (take i xs) (get_or xs i d) ∙ ap (flat_map f) (sym (take_more xs i d lt)))
 
 -- behind the last piece of a list
 pub all-shown : {X Y : Type 0} (f : Y → List ℕ) (view : X → Y) (xs : List X) (i : ℕ) (old mid : Option (List ℕ)) → take i xs ≡ xs

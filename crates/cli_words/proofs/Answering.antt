@@ -184,8 +184,3 @@ one_asked words a b h k =
 pub only_answer : (words : List Text) (r : Result Request WordsFault) → Answers shown_request (Asks words) r → IfOk r (λ request. (asked : Asked) → Asks words asked → asked ≡ shown_request request)
 only_answer words (Ok request) h = λ asked a. one_asked words asked (shown_request request) a h
 only_answer words (Err e) h = tt
-
-pub usage_answer : (words : List Text) (r : Result Request WordsFault) → Answers shown_request (Asks words) r → r ≡ Err Usage → (asked : Asked) → ¬ Asks words asked
-usage_answer words (Ok request) h e = cc
-usage_answer words (Err Usage) h e = h
-usage_answer words (Err Memory) h e = cc

@@ -1,6 +1,6 @@
 -- What the calls of a disk leave, in the words of lists.
 use Rattle.std.proofs.Common.{◌≡◌, ℕ, ◌+◌, ◌≤◌, min, List, ◌∷◌, ◌++◌, length, get_or, take, drop, Option, Some, None}
-use Rattle.std.proofs.Common.{Result, Ok, Err, IfSome, OnErr, option_map, refl, sym, ◌∙◌, ap, subst, arith, length-take, length-drop}
+use Rattle.std.proofs.Common.{Result, Ok, Err, IfSome, OnErr, refl, sym, ◌∙◌, ap, subst, arith, length-take, length-drop}
 use Rattle.std.proofs.lemmas.List.{take-append-drop, take_all, take_min, drop_all, drop_more, append-nil}
 use Rattle.disk_calls.specs.Disks.{written, Torn, Shortened, ComesBy, Among, Only, IsWithin}
 
@@ -17,10 +17,6 @@ shortened-same to file = record { front = take_all (length file) file (omega ari
 -- the front of a file that a write starts within stays
 pub torn-front : (at n : ℕ) (old new : List ℕ) → Torn at n old new → at ≤ length old → take at new ≡ take at old
 torn-front at n old new torn within = let same : min at (length old) ≡ at = omega arith in ap (λ (k : ℕ). take k new) (sym same) ∙ torn.before
-
--- a write within a file keeps its length
-pub torn-length : (at n : ℕ) (old new : List ℕ) → Torn at n old new → at + n ≤ length old → length new ≡ length old
-torn-length at n old new torn within = omega (arith, torn.no_shorter, torn.no_longer)
 
 -- behind the end the file stays, with any bytes behind it
 pub torn_behind : (at n : ℕ) (file c : List ℕ) → at ≡ length file → Torn at n file c → (rest : List ℕ) × (length rest ≤ n) × (c ≡ file ++ rest)
@@ -80,10 +76,6 @@ reaches-file (Some file) place reached = (file, refl, reached)
 -- a clause on the file, at the file
 pub at-file : (reads : Option (List ℕ)) (file : List ℕ) (P : List ℕ → Type 0) → reads ≡ Some file → IfSome reads P → P file
 at-file reads file P is clause = subst (λ (o : Option (List ℕ)). IfSome o P) is clause
-
--- what a write or a cut makes of the file
-pub changed-file : (change : List ℕ → List ℕ) (before after : Option (List ℕ)) (file : List ℕ) → before ≡ Some file → after ≡ option_map change before → after ≡ Some (change file)
-changed-file change before after file is by = by ∙ ap (option_map change) is
 
 -- ---- what a call answers
 

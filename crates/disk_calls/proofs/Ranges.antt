@@ -1,30 +1,11 @@
 -- Whole ranges of a file, by calls that take a part.
-use Rattle.std.proofs.Common.{◌≡◌, inl, inr, ⊎_elim, ℕ, ◌+◌, ◌-◌, ◌≤◌, min, max, IsTrue, Bool, List, [], ◌++◌, length, take, drop, Option, Some, None, IfSome, option_map, refl, sym, ◌∙◌, ap, subst, arith, length-take, length-drop, length-append}
+use Rattle.std.proofs.Common.{◌≡◌, inl, inr, ⊎_elim, ℕ, ◌+◌, ◌-◌, ◌≤◌, min, Bool, List, ◌++◌, length, take, drop, Option, Some, None, IfSome, option_map, refl, sym, ◌∙◌, ap, subst, arith, length-take, length-drop, length-append}
 use Rattle.std.proofs.Math.Seq.{take-add}
 use Rattle.std.proofs.lemmas.List.{take-append-drop, take-append-le, drop-drop, drop_at, take_at, append_assoc, append-nil, take_all, drop_all, length-take-le}
 use Rattle.std.proofs.lemmas.Bool.{cases_lt}
 use borrow.Rule.Slice.PartMut.{put_mid}
-use Rattle.edge_io.proofs.Counting.{grows-same}
-use Rattle.disk_calls.specs.Disks.{DiskTold, written, Torn, Elapses, GoesOn, LeavesBy, LeavesNothingNew, ComesBy, IsWithin, Reaches}
-use Rattle.disk_calls.proofs.Calling.{torn-same}
-use Rattle.disk_calls.proofs.Moments.{same_disk-same, same_disk-then, goes_on-then, nothing_new-then}
-
--- ---- no call
-
-pub elapses-same : (d : DiskTold) → Elapses d d
-elapses-same d = record {
-  later = omega arith;
-  nothing_else = λ t c le left. inl left;
-  keeps = λ t c le left. left;
-  nothing_earlier = λ t c left. inl left;
-  keeps_past = λ t c left. left;
-}
-
-pub goes_on-same : (d : DiskTold) → GoesOn d d
-goes_on-same d = record { time = elapses-same d; same_disk = same_disk-same d }
-
-pub nothing_new-same : (d : DiskTold) → LeavesNothingNew d d
-nothing_new-same d c left = d.only_now c left
+use Rattle.disk_calls.specs.Disks.{DiskTold, written, Torn, Elapses, GoesOn, LeavesBy, LeavesNothingNew}
+use Rattle.disk_calls.proofs.Moments.{same_disk-then, goes_on-then, nothing_new-then}
 
 -- ---- one call after another
 
@@ -116,11 +97,6 @@ filled-same old mid new named named_mid named_new at d room into piece so_far fi
     none None = tt
     none (Some file) = refl
 
--- what was filled to the end of the room is the range
-pub gives-all : (reads : Option (List ℕ)) (at d : ℕ) (into : List ℕ) → d ≡ length into → IfSome reads (λ file. take d into ≡ take d (drop at file)) → IfSome reads (λ file. into ≡ take (length into) (drop at file))
-gives-all None at d into end filled = tt
-gives-all (Some file) at d into end filled = sym (take_all d into (omega (arith, end))) ∙ filled ∙ ap (λ (k : ℕ). take k (drop at file)) end
-
 -- ---- a range written in several calls
 
 -- two writes, one behind the other, are one
@@ -164,25 +140,6 @@ pub record Put (old now : DiskTold) (named named_now : Bool) (at done : ℕ) (by
   pub same_name : named_now ≡ named
   pub crash : LeavesBy (Torn at (length bytes)) old now
   pub goes_on : GoesOn old now
-
--- nothing written
-written-nil : (file : List ℕ) (at : ℕ) → written file at [] ≡ file
-written-nil file at =
-    let none : at + 0 ≡ at = omega arith in
-    ap (λ (w : List ℕ). w ++ drop (at + 0) file) (append-nil (take at file)) ∙ ap (λ (k : ℕ). take at file ++ drop k file) none ∙ take-append-drop at file
-
-put-none : (reads : Option (List ℕ)) (at : ℕ) → reads ≡ option_map (λ file. written file at []) reads
-put-none None at = refl
-put-none (Some file) at = ap Some (sym (written-nil file at))
-
-pub put-start : (d : DiskTold) (named : Bool) (at : ℕ) (bytes : List ℕ) → Put d d named named at 0 bytes
-put-start d named at bytes = record {
-  part = omega arith;
-  written_so = put-none d.reads at;
-  same_name = refl;
-  crash = λ c left. (c, d.only_now c left, torn-same at (length bytes) c);
-  goes_on = goes_on-same d;
-}
 
 -- ---- two writes, one behind the other
 
@@ -261,21 +218,3 @@ put-same old mid new named named_mid named_new at d bytes put same same_name tor
   crash = put-crash old mid new named named_mid at d bytes put torn goes;
   goes_on = goes_on-after old mid new put.goes_on goes;
 }
-
--- ---- where the next write begins
-
-reach-more : (reads mid : Option (List ℕ)) (at d : ℕ) (bytes : List ℕ) → d ≤ length bytes → IsWithin reads at → mid ≡ option_map (λ file. written file at (take d bytes)) reads → IsWithin mid (at + d)
-reach-more None mid at d bytes part within is = absurd within
-reach-more (Some file) mid at d bytes part within is =
-    subst (λ (o : Option (List ℕ)). IsWithin o (at + d)) (sym is) (omega (
-      arith,
-      length-append (take at file ++ take d bytes) (drop (at + length (take d bytes)) file),
-      length-append (take at file) (take d bytes),
-      length-take-le at file within,
-      length-take-le d bytes part,
-    ))
-
--- the next write begins within the file or at its end
-pub put-reaches : (old now : DiskTold) (named named_now : Bool) (at d : ℕ) (bytes : List ℕ) → Reaches old at → Put old now named named_now at d bytes → Reaches now (at + d)
-put-reaches old now named named_now at d bytes reaches put =
-    λ tells. reach-more old.reads now.reads at d bytes put.part (reaches (subst IsTrue put.goes_on.same_disk.device.same_telling tells)) put.written_so

@@ -1,7 +1,7 @@
 -- The steps of a file in memory, gone again.
 use Rattle.std.proofs.Common.{◌≡◌, ℕ, ◌+◌, ◌<◌, List, [], ◌∷◌, ◌++◌, length, take, get_or, refl, sym, ◌∙◌, ap, subst, arith, length-take, get_or-take}
 use Rattle.std.proofs.lemmas.List.{take_more}
-use Rattle.disk_model.specs.Steps.{after_step, file_after, Lands, Leaves, MayLeave, synced_step, synced_after, Replayed, Takes}
+use Rattle.disk_model.specs.Steps.{after_step, file_after, Leaves, MayLeave, synced_step, synced_after, Replayed, Takes}
 use Rattle.disk_model.specs.Images.{file_after-push, image-push}
 use Rattle.disk_model.specs.declared.step.Step.{Step}
 use Rattle.disk_model.specs.declared.step.Step.TheVariants.{Write, Cut, Sync}
@@ -10,42 +10,12 @@ synced_after-push : (ss : List Step) (s : Step) (file synced : List ℕ) → syn
 synced_after-push [] s file synced = refl
 synced_after-push (x ∷ ss) s file synced = synced_after-push ss s (after_step x file) (synced_step x file synced)
 
--- before the first step
-pub replayed-start : (start : List ℕ) (steps : List Step) (choice : ℕ) (file image : List ℕ) → file ≡ start → image ≡ start → Replayed start steps choice 0 file image
-replayed-start start steps choice file image e f = record { file_is = e; leaves = f; synced = λ _. f; written = λ _. f ∙ sym e }
-
 -- a step more of the list that a loop goes over
 pub more-of : (steps xs : List Step) (n k : ℕ) (s : Step) → xs ≡ steps → k < length (take n xs) → s ≡ get_or (take n xs) k s → take (k + 1) steps ≡ take k steps ++ s ∷ []
 more-of steps xs n k s same lt is =
     let small : k < n = omega (arith, length-take n xs, lt) in
     let within : k < length steps = omega (arith, length-take n xs, lt, ap length same) in
     take_more steps k s within ∙ ap (λ (x : Step). take k steps ++ x ∷ []) (ap (λ (l : List Step). get_or l k s) (sym same) ∙ sym (get_or-take n xs k s small) ∙ sym is)
-
--- the step is a sync
-pub goes-sync : (choice : ℕ) (s : Step) (file image next landed : List ℕ) → s ≡ Sync → next ≡ file → landed ≡ file → Takes s choice file image next landed
-goes-sync choice s file image next landed is same put =
-    subst (λ (w : Step). Takes w choice file image next landed) (sym is)
-    (record { file_is = same; leaves = put; synced = λ none. put; written = λ one at. put ∙ sym same })
-
-not-synced : (s : Step) (file synced : List ℕ) → ¬ (s ≡ Sync) → synced_step s file synced ≡ synced
-not-synced (Write at bytes) file synced other = refl
-not-synced (Cut to) file synced other = refl
-not-synced Sync file synced other = absurd (other refl)
-
-leaves-other : (s : Step) (file : List ℕ) (images : List ℕ → Type 0) (i c : List ℕ) → ¬ (s ≡ Sync) → images i → Lands s i c → Leaves s file images c
-leaves-other (Write at bytes) file images i c other here lands = (i, here, lands)
-leaves-other (Cut to) file images i c other here lands = (i, here, lands)
-leaves-other Sync file images i c other here lands = absurd (other refl)
-
--- the step is a write or a cut, and the image lands in this way
-pub goes-other : (choice way : ℕ) (s : Step) (file image next landed : List ℕ) → ¬ (s ≡ Sync) → (choice ≡ 0 → way ≡ 0) → (choice ≡ 1 → way ≡ 1)
-    → Lands s image landed → (way ≡ 0 → landed ≡ image) → (way ≡ 1 → landed ≡ after_step s image) → next ≡ after_step s file → Takes s choice file image next landed
-goes-other choice way s file image next landed other none one lands not_at_all wholly goes = record {
-  file_is = goes;
-  leaves = leaves-other s file (λ i. i ≡ image) image landed other refl lands;
-  synced = λ z. not_at_all (none z) ∙ sym (not-synced s file image other);
-  written = λ z same. wholly (one z) ∙ ap (after_step s) same ∙ sym goes;
-}
 
 leaves-weaker : (s : Step) (file : List ℕ) (P Q : List ℕ → Type 0) (c : List ℕ) → ((i : List ℕ) → P i → Q i) → Leaves s file P c → Leaves s file Q c
 leaves-weaker (Write at bytes) file P Q c weaker left = (left.0, weaker left.0 left.1, left.2)

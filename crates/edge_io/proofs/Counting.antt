@@ -14,8 +14,3 @@ grows-then a b c h k = record { grown = omega (arith, h.grown, k.grown); within 
 pub rose-behind : (a b c : ℕ) → Grows a b → Rose b c → Rose a c
 rose-behind a b c h (inl k) = inl (omega (arith, h.grown, k))
 rose-behind a b c h (inr k) = inr k
-
--- a count that rises in the first step has risen
-pub rose-first : (a b c : ℕ) → Rose a b → Grows b c → Rose a c
-rose-first a b c (inl h) k = inl (omega (arith, k.grown, h))
-rose-first a b c (inr h) k = inr (omega (arith, k.grown, k.within (omega (arith, h)), h))

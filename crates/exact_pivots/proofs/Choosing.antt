@@ -9,7 +9,7 @@ use Rattle.exact_run.specs.Programs.{Program, columns}
 use Rattle.exact_run.specs.States.{State}
 use Rattle.exact_run.specs.Steps.{IsBelow, IsPast, IsCandidate, ratio}
 use Rattle.exact_pivots.specs.Entries.{factor_at, AreRising}
-use Rattle.exact_pivots.specs.Choices.{IsLeaving, IsLeavingOf, IsPastAt, IsEntering}
+use Rattle.exact_pivots.specs.Choices.{IsLeavingOf, IsPastAt, IsEntering}
 use Rattle.exact_pivots.specs.Sizes.{size_of}
 use Rattle.exact_pivots.specs.Weighing.{IsWeighed}
 use Rattle.exact_pivots.specs.declared.entry.Entry.{Entry}
@@ -37,53 +37,6 @@ leaving_none p s n (Some l) h k = (
     | inr at ↦ absurd (k side e (subst (λ (i : ℕ). IsPast p s i side e) at past))
   ],
 )
-
-pub leaving_kept : (p : Program) (s : State) (n : ℕ) (l : Leaving) → IsLeavingOf p s n (Some l) → s.basic l.place ≤ s.basic n → IsLeavingOf p s (n + 1) (Some l)
-leaving_kept p s n l h le = (
-  omega (arith, h.0),
-  h.1,
-  λ q side e lt past. elim (three q n lt) [
-    | inl before ↦ h.2 q side e before past
-    | inr at ↦ subst (λ (i : ℕ). s.basic l.place ≤ s.basic i) (sym at) le
-  ],
-)
-
-pub leaving_first : (p : Program) (s : State) (n : ℕ) (l : Leaving) → IsLeavingOf p s n None → IsPastAt p s n (Some l) → IsLeavingOf p s (n + 1) (Some l)
-leaving_first p s n l h k = (
-  omega (arith, k.0),
-  k.1,
-  λ q side e lt past. elim (three q n lt) [
-    | inl before ↦ absurd (h q side e before past)
-    | inr at ↦ same_at_most (s.basic l.place) (s.basic q) (ap s.basic (k.0 ∙ sym at))
-  ],
-)
-  where
-    same_at_most : (a b : ℕ) → a ≡ b → a ≤ b
-    same_at_most a b h = omega arith
-
-pub leaving_taken : (p : Program) (s : State) (n : ℕ) (l f : Leaving) → IsLeavingOf p s n (Some f) → IsPastAt p s n (Some l) → s.basic n ≤ s.basic f.place → IsLeavingOf p s (n + 1) (Some l)
-leaving_taken p s n l f h k le = (
-  omega (arith, k.0),
-  k.1,
-  λ q side e lt past. elim (three q n lt) [
-    | inl before ↦ through (s.basic l.place) (s.basic n) (s.basic f.place) (s.basic q) (ap s.basic k.0) le (h.2 q side e before past)
-    | inr at ↦ through (s.basic l.place) (s.basic n) (s.basic n) (s.basic q) (ap s.basic k.0) (same_at_most (s.basic n) (s.basic n) refl) (same_at_most (s.basic n) (s.basic q) (ap s.basic (sym at)))
-  ],
-)
-  where
-    same_at_most : (a b : ℕ) → a ≡ b → a ≤ b
-    same_at_most a b h = omega arith
-
-    through : (a n f q : ℕ) → a ≡ n → n ≤ f → f ≤ q → a ≤ q
-    through a n f q h k g = omega arith
-
-pub leaving_of_all : (p : Program) (s : State) (n : ℕ) (o : Option Leaving) → n ≡ p.rows → IsLeavingOf p s n o → IsLeaving p s o
-leaving_of_all p s n None e h = λ r side z lt past. h r side z (omega arith) past
-leaving_of_all p s n (Some l) e h = record {
-  place = omega (arith, h.0);
-  past = h.1;
-  first = λ q side z lt past. h.2 q side z (omega arith) past;
-}
 
 -- ---- which column enters
 
@@ -125,12 +78,6 @@ pub weighed_all : (p : Program) (s : State) (l : Leaving) (rest : List Entry) (f
     → IsWeighed p s l from o → IsWeighed p s l (from + columns p) o
 weighed_all p s l rest from o low h is w = weighed_wider p s l from (from + columns p) o low (omega arith)
     (λ j le lt. ap (λ (x : Fraction). x.num) (h.rest_is j le ∙ ap (λ (es : List Entry). factor_at es j) is)) w
-
-pub none_enters : (p : Program) (s : State) (l : Leaving) (from : ℕ) → IsWeighed p s l (from + columns p) None → IsEntering p s l None
-none_enters p s l from h = λ j c. h j (far j from (columns p) c.free.among) c
-  where
-    far : (j n m : ℕ) → j < m → j < n + m
-    far j n m lt = omega arith
 
 pub one_enters : (p : Program) (s : State) (l : Leaving) (from : ℕ) (w : Weighed) → IsWeighed p s l (from + columns p) (Some w) → IsEntering p s l (Some w.column)
 one_enters p s l from w h = record {

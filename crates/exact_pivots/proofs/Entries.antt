@@ -18,10 +18,6 @@ chosen i j x y h = grind (arith, nat_tests)
 pub same_or_other : (i j : ℕ) → (i ≡ j) ⊎ (i ≢ j)
 same_or_other i j = grind arith
 
-pub rising-weaker : (xs : List Entry) (m n : ℕ) → n ≤ m → AreRising m xs → AreRising n xs
-rising-weaker [] m n le h = tt
-rising-weaker (e ∷ es) m n le h = (omega (arith, h.0), h.1, h.2)
-
 -- no factor stands below the first column
 pub factor-gap : (xs : List Entry) (n j : ℕ) → AreRising n xs → j < n → factor_at xs j ≡ whole (pos 0)
 factor-gap [] n j h lt = refl
@@ -57,10 +53,6 @@ pub factor-passed : (xs ys : List Entry) (e : Entry) (j : ℕ) → xs ≡ e ∷ 
 factor-passed xs ys e j eq h ne =
     let r : AreRising j (e ∷ ys) = subst (AreRising j) eq h in
     ap (λ (l : List Entry). factor_at l j) eq ∙ passed e.column j (shown_frac e.value) (factor_at ys j) ne ∙ factor-gap ys (e.column + 1) j r.2 (omega (arith, r.0))
-
-pub factor-empty : (xs : List Entry) (j : ℕ) → length xs ≡ 0 → factor_at xs j ≡ whole (pos 0)
-factor-empty [] j h = refl
-factor-empty (e ∷ es) j h = absurd (omega arith)
 
 -- a factor of numerator 0 is one that the list has not
 pub factor-zero : (xs : List Entry) (n j : ℕ) → AreRising n xs → (factor_at xs j).num ≡ pos 0 → factor_at xs j ≡ whole (pos 0)

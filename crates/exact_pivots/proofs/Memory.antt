@@ -1,11 +1,9 @@
 -- What programs and states in memory say.
-use Rattle.std.proofs.Common.{◌≡◌, ◌≢◌, ◌∙◌, sym, ap, subst, refl, ℕ, zero, suc, ◌-◌, ◌+◌, ◌<◌, ◌≤◌, inl, inr, List, [], ◌∷◌, map, get_or, set, length, arith, ℤ, pos, Bool, true, false, Some, unsigned_abs, ◌^◌, to_z, of_z, FitsSigned, rules, IsTrue, ◌↔◌}
+use Rattle.std.proofs.Common.{◌≡◌, ◌≢◌, ◌∙◌, sym, ap, subst, refl, ℕ, zero, suc, ◌-◌, ◌<◌, inl, inr, List, [], ◌∷◌, map, get_or, set, length, arith, ℤ, pos, Bool, true, false, Some, unsigned_abs, ◌^◌, to_z, of_z, FitsSigned, rules, IsTrue, ◌↔◌}
 use Rattle.std.proofs.lemmas.List.{get_or-map, get_or-set_same, get_or-set_other, map-set, length-set}
 use Rattle.std.proofs.lemmas.Int.{to_z-of_z}
 use mir.Syntax.{w128}
-use Rattle.integers.specs.Sums.{piece}
 use Rattle.integers.proofs.AtKey.{same_or_other}
-use Rattle.integers.proofs.ByIndex.{piece-first, piece-rest}
 use Rattle.exact_num.specs.Fraction.{Fraction}
 use Rattle.exact_num.specs.Views.{shown_frac}
 use Rattle.exact_run.specs.Operations.{whole, IsReduced}
@@ -58,14 +56,6 @@ line_at-set ls r l lt = get_or-map shown_line (set ls r l) r l _ (omega (arith, 
 pub line_at-other : (ls : List Line) (r q : ℕ) (l : Line) → q ≢ r → line_at (set ls r l) q ≡ line_at ls q
 line_at-other ls r q l ne = ap (λ (xs : List Shown). get_or xs q record { basic = 0; value = whole (pos 0); factor = λ j. whole (pos 0) }) (map-set shown_line ls r l)
     ∙ get_or-set_other (map shown_line ls) r q (shown_line l) _ ne
-
--- ---- ends of columns
-
-pub first_is : {X Y : Type 0} (f : X → Y) (g : ℕ → Y) (xs : List X) (j : ℕ) (x : X) (d : Y) → j < length xs → x ≡ get_or xs j x → f x ≡ piece (length xs) (λ v. get_or (map f xs) v d) g j
-first_is f g xs j x d lt is = ap f is ∙ sym (get_or-map f xs j x d lt) ∙ sym (piece-first (length xs) (λ v. get_or (map f xs) v d) g j lt)
-
-pub rest_is : {Y : Type 0} (m : ℕ) (f g : ℕ → Y) (j : ℕ) → m ≤ j → piece m f g j ≡ g (j - m)
-rest_is m f g j le = let e : m + (j - m) ≡ j = omega arith in ap (piece m f g) (sym e) ∙ piece-rest m f g (j - m)
 
 -- ---- what is read
 

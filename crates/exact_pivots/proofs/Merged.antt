@@ -17,18 +17,6 @@ pub record IsMerged (self own : List Entry) (scale : Fraction) (enters : ℕ) (l
   pub entering : factor_at done enters ≡ whole (pos 0)
   pub others : (j : ℕ) → j < from → j ≢ enters → IsReduced (sum_of (factor_at self j) (product_of scale (factor_at own j))) (factor_at done j)
 
-pub merged-start : (self own : List Entry) (scale : Fraction) (enters : ℕ) (done : List Entry) → AreRising 0 self → AreRising 0 own → AreBelow 0 done
-    → ((j : ℕ) → factor_at done j ≡ whole (pos 0)) → IsMerged self own scale enters self own done 0
-merged-start self own scale enters done h k b z = record {
-  left_rising = h;
-  right_rising = k;
-  under = b;
-  left_rest = λ j le. refl;
-  right_rest = λ j le. refl;
-  entering = z enters;
-  others = λ j lt ne. absurd (omega arith);
-}
-
 -- where neither list has a factor, nothing is changed
 nothing : (x y d scale : Fraction) → x ≡ whole (pos 0) → y ≡ whole (pos 0) → d ≡ whole (pos 0) → IsReduced (sum_of x (product_of scale y)) d
 nothing x y d scale p q r =

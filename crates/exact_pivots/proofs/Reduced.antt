@@ -22,9 +22,6 @@ use Rattle.exact_run.specs.Operations.{whole, IsReduced}
 pub reduced-self : (x : Fraction) → 0 < x.den → IsLowest x → IsReduced x x
 reduced-self x p h = record { positive = p; lowest = h; same = refl }
 
-pub IsSame-sym : (x y : Fraction) → IsSame x y → IsSame y x
-IsSame-sym x y h = sym h
-
 -- what stands for a fraction stands for each that is the same
 pub reduced-same : (e f x : Fraction) → 0 < e.den → IsSame e f → IsReduced e x → IsReduced f x
 reduced-same e f x p s h = record { positive = h.positive; lowest = h.lowest; same = IsSame-trans x e f p h.same s }
@@ -60,10 +57,6 @@ whole-lowest z d h k = one_divisor d k
 
 pub whole-reduced : (z : ℤ) → IsReduced (whole z) (whole z)
 whole-reduced z = reduced-self (whole z) (lit< tt) (whole-lowest z)
-
--- a fraction of 128 bits stands for what it is the same as
-pub frac-reduced : (f : Frac) (e : Fraction) → IsSame (shown_frac f) e → IsReduced e (shown_frac f)
-frac-reduced f e s = record { positive = f.positive; lowest = f.lowest; same = s }
 
 pub frac-self : (f : Frac) → IsReduced (shown_frac f) (shown_frac f)
 frac-self f = reduced-self (shown_frac f) f.positive f.lowest

@@ -15,9 +15,6 @@ pub record IsSolvedTo (self : List Entry) (by : Fraction) (enters leaves : ℕ) 
   pub rest_is : (j : ℕ) → from ≤ j → factor_at self j ≡ factor_at rest j
   pub solved : (j : ℕ) → j < from → IsSolvedFactor by enters leaves j (factor_at self j) (factor_at done j)
 
-pub solving-start : (self : List Entry) (by : Fraction) (enters leaves : ℕ) (done : List Entry) → AreRising 0 self → AreBelow 0 done → IsSolvedTo self by enters leaves self done 0
-solving-start self by enters leaves done h b = record { rising = h; under = b; rest_is = λ j le. refl; solved = λ j lt. absurd (omega arith) }
-
 -- a column without a factor, which is not the one that enters
 none : (self : List Entry) (by : Fraction) (enters leaves j : ℕ) (after : Fraction) → by.num ≢ pos 0 → factor_at self enters ≡ by
     → factor_at self j ≡ whole (pos 0) → after ≡ whole (pos 0) → IsSolvedFactor by enters leaves j (factor_at self j) after

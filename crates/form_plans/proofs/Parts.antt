@@ -1,5 +1,5 @@
 -- Least bases of parts, pool by pool, and weights over them.
-use Rattle.std.proofs.Common.{◌≡◌, ℕ, zero, suc, ◌+◌, ◌*◌, ◌/◌, ◌<◌, ◌≤◌, ◌^◌, ◌↔◌, ◌==◌, Bool, true, false, if◌then◌else◌, length, get_or, arith, refl, sym, ap, subst, ◌∙◌, below_more}
+use Rattle.std.proofs.Common.{◌≡◌, ℕ, zero, suc, ◌+◌, ◌*◌, ◌/◌, ◌<◌, ◌≤◌, ◌^◌, ◌↔◌, length, get_or, arith, refl, sym, ap, subst, ◌∙◌, below_more}
 use Rattle.std.specs.Int.{◌∣◌}
 use Rattle.std.proofs.Math.Nat.{div-mul_cancel, mul-dvd-mul_left, mul-dvd-mul_right, dvd_of_mul-dvd-mul_right, dvd-mul_right, mul_comm, mul-zero, one-dvd}
 use Rattle.std.proofs.Math.Nat.{mul-le-mul, mul-le-mul_left, le_of_mul-le-mul_left, div-le_self}
@@ -10,7 +10,6 @@ use Rattle.integers.specs.Numbers.{numbers_at}
 use Rattle.integers.proofs.Numbers.{numbers_at-each, numbers_at-every}
 use Rattle.pool_model.specs.Network.{Net, IsLimited}
 use Rattle.pool_model.specs.Plan.{Plan, Carries, outflow}
-use Rattle.pool_model.specs.Starting.{feeds_before}
 use Rattle.row_model.proofs.Shares.{feed-le, no_feed}
 use Rattle.program_model.specs.LeastBases.{AreWholeParts, IsLeastPartBase}
 use Rattle.form_plans.specs.Divisors.{IsDivisorOf, IsLcm}
@@ -121,21 +120,3 @@ part-within n p base b t e lim carries lt whole eb et positive =
     let sent = outflow n p (n.feed_pool e) in
     let sends : 0 < sent = omega (arith, et, positive) in
     part-small (p.feed e) base sent (p.feed e * b / t) sends (feed-le n p e lim carries lt) ((part-computed n p base b t e lt whole eb et positive).part (λ z. absurd (omega (arith, sends, z))))
-
-pub part-first : (n : Net) (p : Plan) (base e : ℕ) → outflow n p (n.feed_pool e) ≡ 0 → true ≡ (feeds_before n e == 0) → IsPart n p base e base
-part-first n p base e none first = record {
-  part = λ sends. absurd (sends none);
-  empty = λ _. sym (ap (λ (b : Bool). base * (if b then 1 else 0)) (sym first) ∙ once base);
-}
-  where
-    once : (b : ℕ) → b * 1 ≡ b
-    once b = omega arith
-
-pub part-later : (n : Net) (p : Plan) (base e : ℕ) → outflow n p (n.feed_pool e) ≡ 0 → false ≡ (feeds_before n e == 0) → IsPart n p base e 0
-part-later n p base e none later = record {
-  part = λ sends. absurd (sends none);
-  empty = λ _. sym (ap (λ (b : Bool). base * (if b then 1 else 0)) (sym later) ∙ never base);
-}
-  where
-    never : (b : ℕ) → b * 0 ≡ 0
-    never b = omega arith

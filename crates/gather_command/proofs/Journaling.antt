@@ -72,10 +72,6 @@ fault-not-other (run_faults.Journal (journal_faults.BadRecord number)) e = cc
 fault-not-other (run_faults.Journal journal_faults.Memory) e = cc
 fault-not-other (run_faults.OutOfOrder number) e = cc
 
-pub ungathered-not-told : (fault : GatherFault) → ¬ IsAllTold (ungathered_status fault)
-ungathered-not-told (Run fault) h = fault-not-told fault h
-ungathered-not-told OtherTree h = h
-
 -- a run that came to no file for want of disk or memory
 pub failed-unopened : (status : Status) → IsFailed status → IsUnopened status
 failed-unopened statuses.DiskFault h = tt

@@ -1,62 +1,28 @@
 -- What an outcome of `gather` tells of the files.
-use Rattle.std.proofs.Common.{◌≡◌, ◌≢◌, ◌⊎◌, inl, inr, ℕ, List, Option, refl, sym, ap, subst}
+use Rattle.std.proofs.Common.{◌≡◌, ◌≢◌, ◌⊎◌, inl, inr, ℕ, List, Option, refl, sym, subst}
 use Rattle.edge_io.specs.Counts.{Rose}
 use Rattle.shelf_calls.specs.Told.{ShelfTold}
 use Rattle.shelf_calls.specs.declared.fault.ShelfFault.{ShelfFault}
 use Rattle.shelf_calls.specs.declared.fault.ShelfFault.TheVariants as shelf
 use Rattle.journal_format.specs.declared.fault.JournalFault.TheVariants as journal_faults
-use Rattle.recorded_run.specs.declared.fault.RunFault.{RunFault}
 use Rattle.recorded_run.specs.declared.fault.RunFault.TheVariants as run_faults
-use Rattle.gathered_run.specs.declared.fault.GatherFault.{GatherFault}
 use Rattle.gathered_run.specs.declared.fault.GatherFault.TheVariants as gather_faults
 use Rattle.job_commands.specs.Handed.{unhanded_status}
 use Rattle.job_commands.specs.declared.handed.Unhanded.{Unhanded}
 use Rattle.job_commands.specs.declared.handed.Unhanded.TheVariants as unhanded
-use Rattle.journal_status.specs.JournalEnds.{IsUnopened, fault_status}
-use Rattle.journal_status.proofs.Faults.{disk_fault_is, memory_fault_is, no_write_fault, took_nothing}
+use Rattle.journal_status.specs.JournalEnds.{IsUnopened}
 use Rattle.run_status.specs.Reads.{Files}
 use Rattle.run_status.specs.Took.{Took, unread_status}
 use Rattle.run_status.specs.declared.reading.Unread.{Unread}
 use Rattle.run_status.specs.declared.reading.Unread.TheVariants as unread
 use Rattle.gather_command.specs.Brought.{IsUnbrought, IsBrought}
 use Rattle.gather_command.specs.Journaled.{IsAllTold}
-use Rattle.gather_command.specs.GatherEnds.{GatherEnds, IsBeforeJournal, IsTried, Named, ReadUnder, WantsUnder, gather_status, ungathered_status, unsaid_status}
+use Rattle.gather_command.specs.GatherEnds.{GatherEnds, IsBeforeJournal, IsTried, Named, ReadUnder, WantsUnder, gather_status, unsaid_status}
 use Rattle.gather_command.specs.declared.brought.Brought.{Brought}
 use Rattle.gather_command.specs.declared.outcome.GatherOutcome.{GatherOutcome}
 use Rattle.gather_command.specs.declared.outcome.GatherOutcome.TheVariants as outcomes
 use Rattle.run_status.specs.declared.status.Status.{Status}
 use Rattle.run_status.specs.declared.status.Status.TheVariants as statuses
-
--- ---- nothing was gathered
-
-pub ungathered_took : (Answer : Status → List ℕ → Type 0) (fault : GatherFault) (taken : Option (List ℕ)) → Took Answer (ungathered_status fault) taken taken
-ungathered_took Answer (gather_faults.Run fault) taken = took_nothing Answer fault taken
-ungathered_took Answer gather_faults.OtherTree taken = refl
-
-fault_tried : (fault : RunFault) → IsTried (fault_status fault) ⊎ (fault_status fault ≡ statuses.OutOfMemory)
-fault_tried (run_faults.Journal journal_faults.Disk) = inl (inr tt)
-fault_tried (run_faults.Journal journal_faults.NotAJournal) = inl (inr tt)
-fault_tried (run_faults.Journal (journal_faults.UnknownVersion version)) = inl (inr tt)
-fault_tried (run_faults.Journal journal_faults.OtherNetwork) = inl (inr tt)
-fault_tried (run_faults.Journal (journal_faults.BadRecord number)) = inl (inr tt)
-fault_tried (run_faults.Journal journal_faults.Memory) = inr refl
-fault_tried (run_faults.OutOfOrder number) = inl (inr tt)
-
-pub ungathered_tried : (fault : GatherFault) → IsTried (ungathered_status fault) ⊎ (ungathered_status fault ≡ statuses.OutOfMemory)
-ungathered_tried (gather_faults.Run fault) = fault_tried fault
-ungathered_tried gather_faults.OtherTree = inl tt
-
-pub ungathered_disk : (fault : GatherFault) → ungathered_status fault ≡ statuses.DiskFault → fault ≡ gather_faults.Run (run_faults.Journal journal_faults.Disk)
-ungathered_disk (gather_faults.Run fault) e = ap (λ f. gather_faults.Run f) (disk_fault_is fault e)
-ungathered_disk gather_faults.OtherTree e = absurd (cc)
-
-pub ungathered_memory : (fault : GatherFault) → ungathered_status fault ≡ statuses.OutOfMemory → fault ≡ gather_faults.Run (run_faults.Journal journal_faults.Memory)
-ungathered_memory (gather_faults.Run fault) e = ap (λ f. gather_faults.Run f) (memory_fault_is fault e)
-ungathered_memory gather_faults.OtherTree e = absurd (cc)
-
-pub ungathered_write : (fault : GatherFault) → ungathered_status fault ≢ statuses.WriteFault
-ungathered_write (gather_faults.Run fault) e = no_write_fault fault e
-ungathered_write gather_faults.OtherTree e = cc
 
 -- ---- all were gathered
 

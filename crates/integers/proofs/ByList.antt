@@ -1,18 +1,10 @@
 -- Laws of `int_sum_by`.
-use Rattle.std.proofs.Common.{◌≡◌, ℕ, zero, suc, ◌+◌, ◌<◌, length, take, get_or, List, [], ◌∷◌, ◌++◌, ℤ, pos, ◌+ℤ◌, unsigned_abs, ◌≤◌, sum_by, map, add-one, arith, refl}
+use Rattle.std.proofs.Common.{◌≡◌, ℕ, zero, suc, ◌+◌, ◌<◌, length, take, get_or, List, [], ◌∷◌, ◌++◌, ℤ, ◌+ℤ◌, unsigned_abs, ◌≤◌, sum_by, map, add-one, arith, refl}
 use Rattle.std.proofs.lemmas.Int.{ints}
 use Rattle.std.proofs.lemmas.List.Sums.{sum_by-cons}
 use Rattle.integers.proofs.Ring.{additive}
 use Rattle.std.specs.List.{flat_map}
 use Rattle.integers.specs.Sums.{int_sum_by, int_sum_below}
-
-pub int_sum_by-add : {X : Type 0} (f g : X → ℤ) (xs : List X) → int_sum_by (λ x. f x +ℤ g x) xs ≡ int_sum_by f xs +ℤ int_sum_by g xs
-int_sum_by-add f g [] = refl
-int_sum_by-add f g (x ∷ xs) = omega (arith, additive, int_sum_by-add f g xs)
-
-pub int_sum_by-zero : {X : Type 0} (xs : List X) → int_sum_by (λ x. pos 0) xs ≡ pos 0
-int_sum_by-zero [] = refl
-int_sum_by-zero (x ∷ xs) = omega (arith, additive, int_sum_by-zero xs)
 
 int_sum_by_suc : {X : Type 0} (f : X → ℤ) (xs : List X) (i : ℕ) (d : X) → i < length xs
     → int_sum_by f (take (suc i) xs) ≡ int_sum_by f (take i xs) +ℤ f (get_or xs i d)

@@ -1,9 +1,8 @@
 -- Sums of which most terms are nothing, and sums over the arcs of one kind at their nodes.
 use Rattle.std.proofs.Common.{◌≡◌, ◌≢◌, ℕ, zero, suc, ◌+◌, ◌*◌, ◌<◌, ◌≤◌, ◌⊎◌, inl, inr, Bool, true, false, ◌==◌, if◌then◌else◌, ℤ, pos, unsigned_abs, ◌*ℤ◌, add-one, arith, refl, sym, ap, ◌∙◌}
 use Rattle.std.proofs.Math.IntN.{*ℤ-zero}
-use Rattle.std.proofs.Math.Nat.{mul-le-mul_left}
 use Rattle.integers.proofs.Ring.{additive}
-use Rattle.integers.specs.Sums.{int_sum_below, sum_below, int_sum_at, sum_at, product_below}
+use Rattle.integers.specs.Sums.{int_sum_below, sum_below, int_sum_at, sum_at}
 use Rattle.integers.proofs.ByIndex.{int_sum_below-same}
 use Rattle.integers.proofs.AtKey.{same_or_other, chosen, passed, sum_by_keys, pos-sum_at}
 use Rattle.integers.proofs.AtKey.{sum_below-same, none_either, sum_at-none, sum_at-one, abs-int_sum_below_to}
@@ -86,20 +85,6 @@ sum_at-more_yes key k f i e = rw add-one (ap (λ z. sum_at key k f i + z) (chose
 
 pub sum_at-more_no : (key : ℕ → ℕ) (k : ℕ) (f : ℕ → ℕ) (i : ℕ) → key i ≢ k → sum_at key k f (i + 1) ≡ sum_at key k f i
 sum_at-more_no key k f i e = rw add-one (omega (arith, passed (key i) k (f i) 0 e))
-
--- ---- a loop's product so far, and one factor more, is at most the whole where no factor is 0
-pub product_below-part : (f : ℕ → ℕ) (i n : ℕ) → ((j : ℕ) → 0 < f j) → i < n → product_below f i * f i ≤ product_below f n
-product_below-part f i zero p h = absurd (omega arith)
-product_below-part f i (suc n) p h = elim (same_or_other i n) [
-  | inl e ↦ omega (arith, ap (λ j. product_below f j * f j) e)
-  | inr d ↦ omega (arith, product_below-part f i n p (omega arith), mul-le-mul_left (product_below f n) (let one : 1 ≤ f n = omega (arith, p n) in one))
-]
-
-but-positive : (k : ℕ) (f : ℕ → ℕ) (i : ℕ) → 0 < f i → 0 < (if i == k then 1 else f i)
-but-positive k f i h = elim (same_or_other i k) [
-  | inl e ↦ omega (arith, chosen {X = ℕ} i k 1 (f i) e)
-  | inr d ↦ omega (arith, passed {X = ℕ} i k 1 (f i) d)
-]
 
 -- ---- the size of a sum at a key
 pub abs-int_sum_at : (key : ℕ → ℕ) (k : ℕ) (f : ℕ → ℤ) (g : ℕ → ℕ) (n : ℕ) → ((i : ℕ) → i < n → unsigned_abs (f i) ≤ g i) → unsigned_abs (int_sum_at key k f n) ≤ sum_at key k g n

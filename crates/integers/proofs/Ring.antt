@@ -36,30 +36,6 @@ product3_is a b c = omega (
 pub mul_assoc_ℤ : (a b c : ℤ) → (a *ℤ b) *ℤ c ≡ a *ℤ (b *ℤ c)
 mul_assoc_ℤ a b c = let p = product3_is a b c in let q = product3_is b c a in omega (arith, linear, mul_comm_ℤ a (b *ℤ c), p, q)
 
-pub product4_is : (a b c d : ℤ)
-    → (up (((a *ℤ b) *ℤ c) *ℤ d) ≡ ((up a * up b + down a * down b) * up c + (up a * down b + down a * up b) * down c) * up d +
-    ((up a * up b + down a * down b) * down c + (up a * down b + down a * up b) * up c) * down d)
-    × (down (((a *ℤ b) *ℤ c) *ℤ d) ≡ ((up a * up b + down a * down b) * up c + (up a * down b + down a * up b) * down c) * down d +
-    ((up a * up b + down a * down b) * down c + (up a * down b + down a * up b) * up c) * up d)
-product4_is a b c d = let p = product3_is a b c in omega (
-  arith,
-  product_is ((a *ℤ b) *ℤ c) d,
-  ap (λ n. up d * n) p.0,
-  ap (λ n. down d * n) p.0,
-  ap (λ n. up d * n) p.1,
-  ap (λ n. down d * n) p.1,
-)
-
--- a * (b * c) is (a * b) * c
-pub to_left : (a b c : ℤ) → a *ℤ (b *ℤ c) ≡ (a *ℤ b) *ℤ c
-to_left a b c = sym (mul_assoc_ℤ a b c)
-
--- a sum of products, each grouped to the left
-pub ruleset expand = (mul-add, add-mul, mul-neg, neg-mul, neg_ℤ-+ℤ, neg_ℤ-neg_ℤ, to_left)
-
--- for `omega`, after `simp expand`: identities and orders of polynomials up to degree 4
-pub ruleset polynomials = (same_out, lt_out, le_out, same_in, below_in, at_most_in, sum_is_lem, neg_is, product_is, product3_is, product4_is)
-
 pub mul_left_comm_ℤ : (a b c : ℤ) → a *ℤ (b *ℤ c) ≡ b *ℤ (a *ℤ c)
 mul_left_comm_ℤ a b c = sym (mul_assoc_ℤ a b c) ∙ ap (λ n. n *ℤ c) (mul_comm_ℤ a b) ∙ mul_assoc_ℤ b a c
 

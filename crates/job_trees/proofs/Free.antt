@@ -27,20 +27,6 @@ less_same_more i j = grind arith
 before_or_last : (k count : ℕ) → k < count + 1 → (k < count) ⊎ (k ≡ count)
 before_or_last k count h = grind arith
 
--- before the first job
-pub marked-first : (splits : List Split) (jobs : List Job) (marks : List Bool) → length marks ≡ nodes splits
-    → ((node : ℕ) → node < nodes splits → get_or marks node false ≡ is_cut splits node) → AreMarked splits jobs 0 marks
-marked-first splits jobs marks many is = record {
-  numbered = λ k h. absurd (omega arith);
-  leaves = λ k h. absurd (omega arith);
-  apart = λ i k lt h. absurd (omega arith);
-  many = many;
-  marked = λ node lt. (
-    λ e. record { uncut = sym (is node lt) ∙ e; unasked = λ k h. absurd (omega arith) },
-    λ free. is node lt ∙ free.uncut,
-  );
-}
-
 module _ (splits : List Split) (jobs : List Job) (count : ℕ) (marks : List Bool) (are : AreMarked splits jobs count marks) where
   -- one job more, on a node that is free
   pub marked-more : (get_or jobs count no_job).number ≡ count → node_of jobs count < length marks → get_or marks (node_of jobs count) false ≡ false

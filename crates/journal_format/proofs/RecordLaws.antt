@@ -70,17 +70,6 @@ module _ (v : Version) where
 pub closed_not_open : (rest behind : List ℕ) → IsClosed rest → ¬ (rest ≡ 1 ∷ behind)
 closed_not_open rest behind closed is = (subst IsClosed is closed) refl
 
--- ---- what stands before a payload
-
-pub opens_closed : (head rest : List ℕ) → head ≡ take 5 rest → IsClosed head → IsClosed rest
-opens_closed head [] is closed = tt
-opens_closed head (gate ∷ rest) is closed = subst IsClosed is closed
-
-pub opens_cut : (head rest : List ℕ) → head ≡ take 5 rest → get_or head 0 0 ≡ 1 → 1 ≤ length head → length head < 5 → Opens rest CutShort
-opens_cut head [] is gate some few = absurd (omega (arith, ap length is))
-opens_cut head (b ∷ rest) is gate some few =
-    (rest, ap (λ (g : ℕ). g ∷ rest) (sym (ap (λ (l : List ℕ). get_or l 0 0) is) ∙ gate), omega (arith, ap length is, length-take 5 (b ∷ rest)))
-
 pub opens_payload : (head rest : List ℕ) (n : ℕ) → IsBytes head → head ≡ take 5 rest → get_or head 0 0 ≡ 1 → 5 ≤ length head → n ≡ big_number 4 (drop 1 head) → n < 2 ^ 32 → Opens rest (Payload n)
 unfolding field
 opens_payload head [] n fits is gate long value small = absurd (omega (arith, ap length is))

@@ -3,7 +3,7 @@ use Rattle.std.proofs.Common.{◌≡◌, ℕ, zero, suc, ◌+◌, ◌<◌, ◌�
 use Rattle.std.proofs.Common.{add-one, arith, refl, sym, ap, subst, ◌∙◌, length-append}
 use Rattle.std.specs.Prelude.{filter}
 use Rattle.std.proofs.lemmas.List.{map-append, get_or-map, length-map}
-use Rattle.std.proofs.lemmas.List.Elements.{All-append, All-cons, All-nil, All-weaker, All-get_or, filter_passes}
+use Rattle.std.proofs.lemmas.List.Elements.{All-append, All-cons, All-nil, All-get_or, filter_passes}
 use Rattle.std.proofs.lemmas.Grind.{common_steps}
 use Rattle.integers.specs.Numbers.{tabulate}
 use Rattle.pool_model.specs.Network.{Net}
@@ -14,7 +14,7 @@ use Rattle.box_space.specs.declared.coordinates.Form.{Form}
 use Rattle.box_space.specs.declared.boxes.BoxEnds.{BoxEnds}
 use Rattle.branching.specs.Rows.{row_at, no_row, IsRow, AreRows}
 use Rattle.branching.specs.declared.view.CoordRow.{CoordRow}
-use Rattle.branching.proofs.Pushed.{AreRows-nil, AreRows-push}
+use Rattle.branching.proofs.Pushed.{AreRows-push}
 use Rattle.dual_rounding.proofs.FormRows.{passes_more, fails_more, All-numbers}
 use Rattle.leaf_cuts.specs.Views.{form_coords, IsRowOf, AreRowsOf}
 
@@ -34,9 +34,6 @@ pub record AreSoFar (n : Net) (form : Form) (e : BoxEnds) (count : ℕ) (rows : 
   pub ends : All (HasEnds n e) rows
   pub are : AreRows rows
   pub below : (i : ℕ) → i < length rows → (row_at rows i).coord < count
-
-pub so_far-nil : (n : Net) (form : Form) (e : BoxEnds) → AreSoFar n form e 0 []
-so_far-nil n form e = record { coords = refl; ends = All-nil (HasEnds n e); are = AreRows-nil; below = λ i h. absurd (omega arith) }
 
 pub so_far-push : (n : Net) (form : Form) (e : BoxEnds) (count : ℕ) (rows : List CoordRow) (r : CoordRow) → AreSoFar n form e count rows
     → cuts_at n form count ≡ true → r.coord ≡ count → IsRow r → HasEnds n e r → AreSoFar n form e (count + 1) (rows ++ r ∷ [])
@@ -60,9 +57,6 @@ so_far-pass n form e count rows so uncut = record {
   are = so.are;
   below = λ i h. let b = so.below i h in omega arith;
 }
-
-pub so_far-done : (n : Net) (form : Form) (e : BoxEnds) (rows : List CoordRow) (b : Box) → AreSoFar n form e (coords n) rows → AreEndsOf n b e → AreRowsOf n form b rows
-so_far-done n form e rows b so is = record { coords = so.coords; ends = All-weaker (HasEnds n e) (IsRowOf n b) (λ r h. h b is) rows so.ends }
 
 -- ---- the coordinates of rows
 

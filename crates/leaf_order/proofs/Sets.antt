@@ -89,12 +89,6 @@ same-leaves xs ys are too same =
     (λ h. (contains-is s leaf).1 ((same leaf).1 ((contains-is t leaf).0 h))))
     leaf_exact
 
--- ---- one leaf in, one leaf out
-
--- a leaf is the one that is asked for, or another one
-abbrev pub IsAt : OpenLeaf → OpenLeaf → Bool → Type 0
-IsAt leaf other b = is_at (leaf_cmp leaf) other ≡ b
-
 at-itself : (leaf other : OpenLeaf) → leaf ≡ other → is_at (leaf_cmp leaf) other ≡ true
 at-itself leaf other e = subst (λ (o : OpenLeaf). is_at (leaf_cmp leaf) o ≡ true) e (ap (λ (o : Ordering). is_eq o) (tied_itself leaf_total leaf))
 
@@ -148,17 +142,6 @@ taken-out s n leaf has q = elim (cases_Bool (is_at (leaf_cmp leaf) q)) [
     λ h. kept-other s n leaf false has q e h.0,
   )
 ]
-
--- a leaf that is put in and was not there before
-pub new-leaf : (s : BTreeSet OpenLeaf) (put : Option OpenLeaf) (leaf : OpenLeaf) → put ≡ Some leaf → true ≡ not (sorted.contains leaf_cmp s leaf) → IsNew put s.keys leaf
-new-leaf s put leaf is e = record { is = is; absent = λ h. false≢true (sym (e ∙ ap not ((contains-is s leaf).1 h))) }
-
--- no leaf is put in, or none taken out
-pub none-put : (leaves : List OpenLeaf) → IsPut None leaves leaves
-none-put leaves leaf = (λ h. inr h, λ h. elim h [ inl e ↦ absurd (none-some leaf e) | inr k ↦ k ])
-
-pub none-out : (leaves : List OpenLeaf) → IsTakenOut None leaves leaves
-none-out leaves leaf = (λ h. (h, none-some leaf), λ h. h.0)
 
 -- ---- two leaves in
 

@@ -1,8 +1,8 @@
 -- What the look-ups of a table of names say of the list of names.
-use Rattle.std.proofs.Common.{◌≡◌, ℕ, ◌+◌, ◌<◌, ◌≤◌, suc, take, get_or, List, [], ◌∷◌, ◌++◌, length, map, Bool, true, false, not, cond, nat_lt, Some, None}
+use Rattle.std.proofs.Common.{◌≡◌, ℕ, ◌+◌, ◌<◌, suc, take, get_or, List, [], ◌∷◌, ◌++◌, length, map, Bool, true, false, not, cond, nat_lt, Some, None}
 use Rattle.std.proofs.Common.{option_map, if◌then◌else◌, position, bytes_eq, Contains, Bor, refl, sym, ap, ◌∙◌, arith}
 use Rattle.std.specs.List.{list_any, position_or_len}
-use Rattle.std.proofs.lemmas.List.{map-append, append_assoc, take_all, take_more}
+use Rattle.std.proofs.lemmas.List.{map-append, append_assoc, take_more}
 use Rattle.std.proofs.lemmas.Map.Views.{Contains-from_any, list_any-from_Contains}
 use Rattle.std.proofs.lemmas.Cmp.{nat_list_eq_equiv}
 use Rattle.std.proofs.lemmas.Bool.{false≢true}
@@ -60,9 +60,3 @@ added_more old now new names n name is h at e =
 
 pub fresh_more : (old now names : List (List ℕ)) (n : ℕ) (name : List ℕ) → now ≡ old ++ take n names → get_or names n [] ≡ name → ¬ Contains now name → ¬ IsRepeatAt old names n
 fresh_more old now names n name is at absent repeat = absent (rw (is, ← at) repeat.1)
-
-pub repeat_here : (old now names : List (List ℕ)) (n : ℕ) (name : List ℕ) → now ≡ old ++ take n names → n < length names → get_or names n [] ≡ name → Contains now name → IsRepeatAt old names n
-repeat_here old now names n name is h at there = (h, rw (← is, at) there)
-
-pub added_all : (old now names : List (List ℕ)) (n : ℕ) → now ≡ old ++ take n names → length names ≤ n → now ≡ old ++ names
-added_all old now names n is h = is ∙ ap (λ xs. old ++ xs) (take_all n names h)

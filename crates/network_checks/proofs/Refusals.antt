@@ -1,5 +1,5 @@
 -- From what one check answers to the first fault of the rows.
-use Rattle.std.proofs.Common.{◌≡◌, ◌≢◌, ℕ, ◌<◌, ◌≤◌, List, [], ◌∷◌, ◌++◌, length, map, get_or, string_bytes, inl, inr, Result, Ok, Err, IfErr, refl, sym, ap, subst, ◌∙◌, arith}
+use Rattle.std.proofs.Common.{◌≡◌, ◌≢◌, ℕ, ◌<◌, List, [], ◌++◌, length, map, get_or, string_bytes, Result, Ok, Err, IfErr, refl, sym, ap, subst, ◌∙◌, arith}
 use Rattle.std.specs.Result.{IsErrAnd}
 use Rattle.std.proofs.lemmas.List.{length-map}
 use Rattle.std.proofs.lemmas.Simd.{map-map}
@@ -8,10 +8,9 @@ use Rattle.network_parts.specs.declared.parts.SourceRow.{SourceRow}
 use Rattle.network_parts.specs.declared.parts.PoolRow.{PoolRow}
 use Rattle.network_parts.specs.declared.parts.ProductRow.{ProductRow}
 use Rattle.network_parts.specs.Parts.{source_row, pool_row, product_row}
-use Rattle.network_parts.specs.Faults.{row_count, row_limit, IsName, IsBadAt, IsBadName, IsRepeatAt, IsDuplicateName, row_names, names_before}
-use Rattle.network_parts.specs.FirstFault.{number, kind_number, about, Holds, IsFirstFault, LacksEarlier}
-use Rattle.faults.specs.First.{IsBelow, IsFirstOf}
-use Rattle.faults.proofs.First.{first-of}
+use Rattle.network_parts.specs.Faults.{IsName, IsBadAt, IsBadName, IsRepeatAt, IsDuplicateName, row_names, names_before}
+use Rattle.network_parts.specs.FirstFault.{number, about, Holds, IsFirstFault, LacksEarlier}
+use Rattle.faults.specs.First.{IsFirstOf}
 use Rattle.network_parts.specs.declared.fault.Kind.{Kind}
 use Rattle.network_parts.specs.declared.fault.Kind.TheVariants.{Source, Pool, Product, Quality, Arc}
 use Rattle.network_parts.specs.declared.fault.NetFault.{NetFault}
@@ -69,30 +68,6 @@ all_kinds r make s p x q a Arc = a
 -- a fault about a list that is too long, whatever the number
 abbrev pub many : Kind → ℕ → NetFault
 many kind n = TooMany kind
-
-none_below : (r : Rows) (g : NetFault) → number g < 1 → ¬ Holds r g
-none_below r (TooMany k) less = absurd (omega (arith, less))
-none_below r g less = absurd (omega (arith, less))
-
-none_beside : (r : Rows) (kind : Kind) → LacksKinds r many kind → (g : NetFault) → number g ≡ 1 → IsBelow (about g) (kind_number kind ∷ []) → ¬ Holds r g
-none_beside r kind lacks (TooMany k) e below = elim below [ inl less ↦ lacks k less 0 | inr h ↦ absurd h.1 ]
-none_beside r kind lacks g e below = absurd (omega (arith, e))
-
-pub many_first : (r : Rows) (kind : Kind) (count : ℕ) (f : NetFault) → count ≡ row_count r kind → LacksKinds r many kind → (f ≡ TooMany kind) × (row_limit kind < count) → IsFirstFault r f
-many_first r kind count f same lacks found =
-    let holds : row_limit kind < row_count r kind = subst (λ n. row_limit kind < n) same found.1 in
-    subst (IsFirstFault r) (sym found.0) (λ _. first-of (TooMany kind) holds record { none = none_below r } (none_beside r kind lacks))
-
-pub few_rows : (r : Rows) (kind : Kind) (count : ℕ) → count ≡ row_count r kind → count ≤ row_limit kind → (n : ℕ) → ¬ Holds r (many kind n)
-few_rows r kind count same few n more = omega (arith, same, few, more)
-
-few_of : (r : Rows) → ((kind : Kind) (n : ℕ) → ¬ Holds r (many kind n)) → LacksEarlier r (BadName Source 0)
-few_of r few (TooMany k) less = few k 0
-few_of r few g less = absurd (omega (arith, less))
-
-pub few_next : (r : Rows) → ((n : ℕ) → ¬ Holds r (many Source n)) → ((n : ℕ) → ¬ Holds r (many Pool n)) → ((n : ℕ) → ¬ Holds r (many Product n))
-    → ((n : ℕ) → ¬ Holds r (many Quality n)) → ((n : ℕ) → ¬ Holds r (many Arc n)) → LacksEarlier r (BadName Source 0)
-few_next r s p x q a = few_of r (all_kinds r many s p x q a)
 
 -- ---- names
 

@@ -2,4 +2,3 @@ pub mod Unlimited
 pub mod Bytes
 pub mod Widths
 pub mod Found
-pub mod OneNetwork

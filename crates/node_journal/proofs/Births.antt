@@ -37,10 +37,6 @@ torn_first text (b ∷ file) c unborn own marked torn =
     by (inr (inr (inl half))) = other_birth half.version text half.birth (torn_byte 0 (b ∷ file) c (omega arith) torn).0 half.rest (b ∷ file) half.shut half.parts
     by (inr (inr (inr (list, kept)))) = absurd (born_not (born_in kept.history) text (history_bytes kept.history ++ kept.rest) (b ∷ file) kept.holds.parts unborn)
 
--- byte 0 as it is written
-pub written_first : (file : List ℕ) → written file 0 (0 ∷ []) ≡ 0 ∷ drop 1 file
-written_first file = refl
-
 pub zeroed_first : (file : List ℕ) → IsZeroed file → file ≡ 0 ∷ drop 1 file
 zeroed_first file z = cons_first file z.there ∙ ap (λ (b : ℕ). b ∷ drop 1 file) z.zero
 

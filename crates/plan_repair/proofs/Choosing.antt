@@ -106,12 +106,6 @@ pub limit-is : (n : Net) (best : Written) (o : Option Cost) → IsSomeAnd o (IsC
 limit-is n best None is = absurd is
 limit-is n best (Some c) is = is
 
-pub limit-base : (n : Net) (best : Option Written) (o : Option Cost) → IsLimit n best o → ForSome o (λ c. 0 < c.base)
-limit-base n None None is c e = absurd (none-some c e)
-limit-base n None (Some l) is c e = absurd is
-limit-base n (Some b) None is c e = absurd is
-limit-base n (Some b) (Some l) is c e = some_at (λ d. 0 < d.base) l (subst (λ (m : ℕ). 0 < m) (sym is.base) is.obeys.denominator) c e
-
 -- ---- the choice
 
 -- what is chosen obeys, and is no dearer than the plain plan; nothing is chosen only where the plain plan is refused

@@ -1,12 +1,8 @@
 -- How large a quality of a source is, and how large sums of qualities in parts of the scale can get.
-use Rattle.std.proofs.Common.{ℕ, ◌*◌, ◌≤◌, ◌^◌, ℤ, unsigned_abs, arith}
-use Rattle.std.proofs.lemmas.Int.{ints}
+use Rattle.std.proofs.Common.{ℕ, ◌*◌, ◌≤◌, ◌^◌, arith}
 use Rattle.integers.specs.Sums.{sum_at}
-use Rattle.pool_model.specs.Network.{Net, IsWithin}
+use Rattle.pool_model.specs.Network.{Net}
 use Rattle.pool_model.specs.Plan.{Plan, product_inflow}
-
-pub abs-within : (size : ℕ) (z : ℤ) → IsWithin size z → unsigned_abs z ≤ size
-abs-within size z h = omega (arith, ints, h.0, h.1)
 
 -- qualities in parts of the scale for so much flow
 pub room-parts : (flow : ℕ) → flow ≤ 2 ^ 76 → 10 ^ 14 * flow ≤ 2 ^ 123

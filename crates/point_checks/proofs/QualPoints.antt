@@ -1,5 +1,5 @@
 -- What the tests of a point of P show of it, and how large its numbers are.
-use Rattle.std.proofs.Common.{◌≡◌, ℕ, ◌+◌, ◌*◌, ◌/◌, ◌%◌, ◌<◌, ◌≤◌, ◌^◌, ◌↔◌, Bool, IsTrue, get_or, ℤ, pos, neg_ℤ, ◌*ℤ◌, ◌≤ℤ◌, unsigned_abs, arith, sym, ap, subst, ◌∙◌}
+use Rattle.std.proofs.Common.{◌≡◌, ℕ, ◌*◌, ◌<◌, ◌≤◌, ◌^◌, ◌↔◌, Bool, IsTrue, ℤ, pos, neg_ℤ, ◌*ℤ◌, ◌≤ℤ◌, unsigned_abs, arith, sym, ap, subst, ◌∙◌}
 use Rattle.std.proofs.Math.Nat.{mul-le-mul, mul-le-mul_right, le_of_mul-le-mul_left}
 use Rattle.std.proofs.lemmas.Int.{ints, unsigned_abs-mul}
 use Rattle.integers.proofs.Ring.{neg-mul}
@@ -86,9 +86,6 @@ all-point n s shape between products carries keeps limits = record {
     high = λ l k pool quality. (between l pool k quality).high;
   };
 }
-
-pub point-between : (n : Net) (s : QualSlices) → IsQualPoint n s → (l : ℕ) → l < n.pools → (k : ℕ) → k < n.qualities → LiesBetween n (seen n s) l k
-point-between n s h l pool k quality = record { low = h.point.low l k pool quality; high = h.point.high l k pool quality }
 
 pub point-limits : (n : Net) (s : QualSlices) → IsQualPoint n s → (j : ℕ) → j < n.products → (k : ℕ) → k < n.qualities → KeepsLimits n (seen n s) j k
 point-limits n s h j product k quality = record { at_most = λ u set. h.point.at_most j k u product quality set; at_least = λ u set. h.point.at_least j k u product quality set }

@@ -1,13 +1,11 @@
 -- Facts on digits.
-use Rattle.std.proofs.Common.{◌≡◌, ℕ, suc, ◌+◌, ◌-◌, ◌*◌, ◌^◌, ◌<◌, ◌≤◌, Bool, true, false, cond, List, [], ◌∷◌, length, get_or, take, refl, sym, ap, subst, ◌∙◌, arith, add-one}
+use Rattle.std.proofs.Common.{◌≡◌, ℕ, suc, ◌+◌, ◌-◌, ◌*◌, ◌^◌, ◌<◌, ◌≤◌, Bool, true, false, cond, List, [], ◌∷◌, length, get_or, take, refl, sym, ap, subst, ◌∙◌, arith}
 use Rattle.std.specs.List.{list_all, prefix_len}
 use Rattle.std.specs.Char.{is_ascii_digit}
-use Rattle.std.proofs.Math.Seq.{take-suc}
-use Rattle.std.proofs.Math.Nat.{pow-suc, pow-le-pow_right, one-le-pow, mul-lt-mul_of_pos_right}
+use Rattle.std.proofs.Math.Nat.{pow-le-pow_right, one-le-pow, mul-lt-mul_of_pos_right}
 use Rattle.std.proofs.lemmas.Nat.{pow-add}
-use Rattle.std.proofs.lemmas.List.Sums.{fold-append, AllPass-from_list_all}
+use Rattle.std.proofs.lemmas.List.Sums.{AllPass-from_list_all}
 use Rattle.std.proofs.lemmas.Grind.{common_steps}
-use Rattle.pool_model.specs.Quantity.{number}
 
 -- what a digit is
 pub digit_range : (c : ℕ) → is_ascii_digit c ≡ true → (48 ≤ c) × (c ≤ 57)
@@ -16,20 +14,6 @@ digit_range c h = grind (arith, common_steps)
 -- each of them is a digit
 pub digit_at : (ds : List ℕ) (i : ℕ) → list_all is_ascii_digit ds ≡ true → i < length ds → (48 ≤ get_or ds i 0) × (get_or ds i 0 ≤ 57)
 digit_at ds i h lt = digit_range (get_or ds i 0) (AllPass-from_list_all is_ascii_digit ds h i 0 lt)
-
-pub number-more : (ds : List ℕ) (i : ℕ) → i < length ds → number (take (i + 1) ds) ≡ number (take i ds) * 10 + (get_or ds i 0 - 48)
-number-more ds i lt = rw (add-one, take-suc ds i 0) (fold-append (λ n d. n * 10 + (d - 48)) 0 (take i ds) (get_or ds i 0 ∷ []))
-
-pub ten-more : (i : ℕ) → 10 ^ (i + 1) ≡ 10 * 10 ^ i
-ten-more i = rw (add-one, pow-suc) (omega arith)
-
--- the step of the loop
-pub number_step : (ds : List ℕ) (i n : ℕ) → list_all is_ascii_digit ds ≡ true → i < length ds → n ≡ number (take i ds) → number (take i ds) < 10 ^ i
-    → (n * 10 + (get_or ds i 0 - 48) ≡ number (take (i + 1) ds)) × (number (take (i + 1) ds) < 10 ^ (i + 1))
-number_step ds i n h lt is below =
-    let more = number-more ds i lt in
-    let digit = digit_at ds i h lt in
-    (omega (arith, more), omega (arith, more, digit, ten-more i))
 
 prefix_at : (b : Bool) (c : ℕ) (cs : List ℕ) → is_ascii_digit c ≡ b → list_all is_ascii_digit (take (prefix_len is_ascii_digit cs) cs) ≡ true
     → list_all is_ascii_digit (take (cond b (1 + prefix_len is_ascii_digit cs) 0) (c ∷ cs)) ≡ true

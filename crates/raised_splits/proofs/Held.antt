@@ -1,18 +1,14 @@
 -- What was told of a half whose ends are held.
-use Rattle.std.proofs.Common.{◌≡◌, ℕ, get_or, Option, None, Some, option_map, ℤ, pos, ap, subst, sym, ◌∙◌, refl}
-use Rattle.std.specs.Option.{ForSome}
+use Rattle.std.proofs.Common.{◌≡◌, ℕ, get_or, Option, None, Some, option_map, ℤ, pos, ap, subst, sym, ◌∙◌}
 use Rattle.pool_model.specs.Network.{Net}
 use Rattle.row_model.specs.Boxes.{Box, Agree}
 use Rattle.row_model.specs.Multipliers as multipliers
-use Rattle.row_model.specs.Multipliers.{Proof, IsInOrder, shown_by}
+use Rattle.row_model.specs.Multipliers.{Proof, shown_by}
 use Rattle.row_model.specs.Trees.{raised}
 use Rattle.box_space.specs.Views.{shown_box, shown_box_ends, AreEndsOf}
 use Rattle.box_space.specs.declared.boxes.BoxEnds.{BoxEnds}
 use Rattle.box_space.specs.declared.boxes.BoxView.{BoxView}
 use Rattle.box_space.specs.declared.coordinates.Form.{Form}
-use Rattle.row_book.specs.Faults.{IsFirstFault}
-use Rattle.row_book.specs.declared.fault.ProofFault.{ProofFault}
-use Rattle.row_book.proofs.AgreedFaults.{no-fault}
 use Rattle.leaf_marks.specs.Marks.{IsMark}
 use Rattle.leaf_marks.specs.declared.mark.Mark.{Mark}
 use Rattle.tight_leaf.specs.Ends.{ComesOf}
@@ -30,15 +26,7 @@ module _ (n : Net) (v : BoxView) (ends : BoxEnds) (low : v.low.now ≡ ends.low.
   raised-held form above pivots old new least mark e is comes same =
       subst (λ (k : Option ℤ). IsMarked n form b pivots k old new) (sym e) (mark, record { seen = shown_box v; agree = agreed; says = is; comes = comes }, same)
 
--- a half that holds no plan keeps its proof
-pub kept-held : (n : Net) (form : Form) (b : Box) (above : Option ℤ) (pivots : ℕ) (proof : Option Proof) → half_bound n b above proof ≡ None → IsRaisedHalf n form b pivots above proof proof
-kept-held n form b above pivots proof e = subst (λ (k : Option ℤ). IsMarked n form b pivots k proof proof) (sym e) refl
-
 -- the bound of a half, by what was told of its proof
 pub bound-told : (n : Net) (b : Box) (above known : Option ℤ) (told : Option multipliers.Shown) (proof : Option Proof) → known ≡ raised above told → told ≡ option_map (shown_by n b) proof
     → half_bound n b above proof ≡ known
 bound-told n b above known told proof e f = sym (e ∙ ap (λ (s : Option multipliers.Shown). raised above s) f)
-
--- a proof in order has no fault
-pub no-fault-here : (n : Net) (b : Box) (proof : Proof) (fault : ProofFault) → ForSome (Some proof) (IsInOrder n b) → IsFirstFault n b proof fault → ⊥
-no-fault-here n b proof fault order h = no-fault n b proof fault (order proof refl) h.holds

@@ -113,11 +113,6 @@ so_far-moments n text first last e old mid new begins are more before step =
     (leaves-weaker old mid (IsBetween n text first last) (IsBetween n text first (last ++ e ∷ [])) (λ k is. between-later n text first last e k is) before)
     (leaves-weaker mid new (IsBeforeOrAfter text last e) (IsBetween n text first (last ++ e ∷ [])) (λ k is. between-recorded n text first last e k begins are more is) step)
 
--- ---- entries that are replayed
-
-pub none_out : (n : Net) → AreInOrder n []
-none_out n = tt
-
 -- the entry that a tree of those before it refuses
 pub out_of_order : (n : Net) (s : Searched) (front : List Entry) (e : Entry) (rest list : List Entry) (k : ℕ) → list ≡ front ++ e ∷ rest → k ≡ length front → AreInOrder n front → s ≡ made_by front
     → ¬ IsEntryInOrder n s e → IsFirstOutOfOrder n list k

@@ -1,27 +1,9 @@
 -- Tests of orders, in the words of what is tested.
-use Rattle.std.proofs.Common.{◌≡◌, ℕ, ◌<◌, ◌↔◌, IsTrue, ℤ, pos, ◌+ℤ◌, ◌*ℤ◌, ◌≤ℤ◌, ◌<ℤ◌, Ordering, arith, refl, ap, ◌∙◌}
+use Rattle.std.proofs.Common.{ℕ, ◌<◌, ℤ, pos, ◌+ℤ◌, ◌*ℤ◌, ◌≤ℤ◌, ◌<ℤ◌, arith}
 use Rattle.std.specs.Prelude.{Result, Ok, Err, OnErr}
-use Rattle.std.specs.Ordering.{int_cmp, is_le}
-use Rattle.std.specs.declared.cmp.Ordering.TheVariants.{Less, Equal, Greater}
-use Rattle.std.proofs.lemmas.Bool.{false≢true}
-use Rattle.std.proofs.lemmas.Cmp.{int_ranked}
-use Rattle.integers.proofs.Ring.{additive, linear}
+use Rattle.integers.proofs.Ring.{additive}
 use Rattle.integers.proofs.Order.{le-mul_pos, lt-cancel}
 use Rattle.integers.proofs.Ring.{mul_comm_ℤ}
-
-le_by : (x y : ℤ) (r : Ordering) → r ≡ int_cmp x y → IsTrue (is_le r) ↔ (x ≤ℤ y)
-le_by x y Less e = (λ t. let lt : x <ℤ y = int_ranked x y Less e in omega (arith, additive), λ h. refl)
-le_by x y Equal e = (λ t. let same : x ≡ y = int_ranked x y Equal e in omega (arith, additive), λ h. refl)
-le_by x y Greater e = (λ t. absurd (false≢true t), λ h. absurd (let lt : y <ℤ x = int_ranked x y Greater e in omega (arith, additive)))
-
-times_one : (x : ℤ) → x *ℤ pos 1 ≡ x
-times_one x = omega (arith, linear)
-
-pub le_left : (low value base : ℤ) (r : Ordering) → r ≡ int_cmp (low *ℤ base) (value *ℤ pos 1) → IsTrue (is_le r) ↔ ((low *ℤ base) ≤ℤ value)
-le_left low value base r e = le_by (low *ℤ base) value r (e ∙ ap (int_cmp (low *ℤ base)) (times_one value))
-
-pub le_right : (high value base : ℤ) (r : Ordering) → r ≡ int_cmp (value *ℤ pos 1) (high *ℤ base) → IsTrue (is_le r) ↔ (value ≤ℤ (high *ℤ base))
-le_right high value base r e = le_by value (high *ℤ base) r (e ∙ ap (λ x. int_cmp x (high *ℤ base)) (times_one value))
 
 -- a number rounded down is at most a bound exactly where the number is below the next one
 pub below-next : (floor cost bound : ℤ) (base : ℕ) → 0 < base → (floor *ℤ pos base) ≤ℤ cost → cost <ℤ ((floor +ℤ pos 1) *ℤ pos base)

@@ -1,5 +1,5 @@
 -- The weight of a proof, variable by variable and part by part.
-use Rattle.std.proofs.Common.{◌≡◌, ℕ, zero, suc, ◌+◌, ◌*◌, List, [], ◌∷◌, map, ℤ, unsigned_abs, Result, Ok, Err, OnErr, arith, refl, ap, ◌∙◌}
+use Rattle.std.proofs.Common.{◌≡◌, ℕ, zero, suc, ◌+◌, ◌*◌, List, [], ◌∷◌, ℤ, unsigned_abs, Result, Ok, Err, OnErr, arith, refl, ap, ◌∙◌}
 use Rattle.std.specs.List.{sum_by}
 use Rattle.std.proofs.lemmas.List.Sums.{sum_by-cons}
 use Rattle.integers.specs.Sums.{sum_below}
@@ -9,10 +9,6 @@ use Rattle.row_model.specs.Multipliers.{Part}
 sum_below-add : (f g : ℕ → ℕ) (n : ℕ) → sum_below (λ i. f i + g i) n ≡ sum_below f n + sum_below g n
 sum_below-add f g zero = refl
 sum_below-add f g (suc n) = omega (arith, sum_below-add f g n)
-
-pub sum_by-map : {X Y : Type 0} (f : Y → ℕ) (g : X → Y) (xs : List X) → sum_by f (map g xs) ≡ sum_by (λ x. f (g x)) xs
-sum_by-map f g [] = refl
-sum_by-map f g (x ∷ xs) = omega (arith, sum_by-cons f (g x) (map g xs), sum_by-cons (λ x. f (g x)) x xs, sum_by-map f g xs)
 
 -- costs, ends' sizes, coefficients by row and variable, and constants by row
 module _ (cost : ℕ → ℤ) (ends : ℕ → ℕ) (coef : ℕ → ℕ → ℤ) (constant : ℕ → ℤ) (variables scale : ℕ) where

@@ -1,5 +1,5 @@
 -- A cost that is at most a gap above a bound.
-use Rattle.std.proofs.Common.{◌≡◌, ℕ, ◌^◌, ◌↔◌, Bool, false, IsTrue, ℤ, pos, ◌+ℤ◌, ◌-ℤ◌, ◌*ℤ◌, ◌≤ℤ◌, Option, Some, None, FitsSigned, arith, refl, sym, ap, subst, ◌∙◌}
+use Rattle.std.proofs.Common.{◌≡◌, ℕ, ◌^◌, ◌↔◌, Bool, IsTrue, ℤ, pos, ◌+ℤ◌, ◌-ℤ◌, ◌*ℤ◌, ◌≤ℤ◌, Option, Some, None, FitsSigned, arith, refl, sym, ap, subst, ◌∙◌}
 use Rattle.std.proofs.lemmas.Int.{ints, by_lt_z}
 use mir.Syntax.{w128}
 use Rattle.std.proofs.lemmas.Option.{none-some}
@@ -81,26 +81,10 @@ module _ (n : Net) (gap least : ℤ) where
           subst (λ (x : Cost). IsWithinGap x least gap) (some-same d c at)
           (near-cost w d of (subst (λ (z : ℤ). IsNear n gap z w) bound (subst (λ (v : Written). IsNear n gap is.least v) (sym plan) is.near)))
 
--- there is no plan
-pub not-closed : (n : Net) (gap : ℤ) (k : Kept) → IsKeptCost n k.best k.cost → k.cost ≡ None → ¬ IsClosed n gap (searched_of k)
-not-closed n gap k kept at is = from k.best k.cost refl kept at
-  where
-    from : (best : Option Written) (cost : Option Cost) → k.best ≡ best → IsKeptCost n best cost → cost ≡ None → ⊥
-    from None cost e of at = none-some is.plan (sym e ∙ is.best)
-    from (Some w) None e of at = of
-    from (Some w) (Some d) e of at = none-some d (sym at)
-
 -- both ways, where there is a plan
 pub closed-where : (n : Net) (gap least : ℤ) (k : Kept) (c : Cost) (b : Bool) → IsKeptCost n k.best k.cost → k.cost ≡ Some c → tree_bound n (searched_of k).tree ≡ Some least
     → (IsTrue b ↔ IsWithinGap c least gap) → (IsTrue b ↔ IsClosed n gap (searched_of k))
 closed-where n gap least k c b kept at bounded h = (λ t. closed-from n gap least k c kept at bounded (h.0 t), λ is. h.1 (closed-to n gap least k c kept at bounded is))
-
--- and where there is none
-pub closed-nowhere : (n : Net) (gap : ℤ) (k : Kept) → IsKeptCost n k.best k.cost → k.cost ≡ None → (IsTrue false ↔ IsClosed n gap (searched_of k))
-closed-nowhere n gap k kept at = (λ t. absurd (untrue t), λ is. absurd (not-closed n gap k kept at is))
-  where
-    untrue : IsTrue false → ⊥
-    untrue t = cc
 
 -- a gap that may be asked for fits 128 bits
 pub gap-fits : (gap : ℤ) → pos 0 ≤ℤ gap → gap ≤ℤ pos (10 ^ 24) → FitsSigned w128 gap

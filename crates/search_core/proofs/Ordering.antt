@@ -1,26 +1,22 @@
 -- What comes next is in order on the tree.
-use Rattle.std.proofs.Common.{ℕ, ◌<◌, ◌≤◌, length, Option, ℤ, ◌<ℤ◌, arith, refl, sym, subst}
+use Rattle.std.proofs.Common.{ℕ, ◌<◌, ◌≤◌, length, Option, ℤ, ◌<ℤ◌, arith, sym, subst}
 use denote.Ref.{Bor}
 use Rattle.pool_model.specs.Network.{Net, IsLimited}
 use Rattle.pool_model.specs.Plan.{Written}
 use Rattle.row_model.specs.Multipliers.{Proof}
 use Rattle.row_model.specs.Trees.{most_splits, box_of}
-use Rattle.row_model.specs.Entries.{Searched, IsPlanInOrder, IsRootInOrder, IsSplitEntryInOrder}
+use Rattle.row_model.specs.Entries.{Searched, IsPlanInOrder, IsSplitEntryInOrder}
 use Rattle.box_space.specs.Views.{shown_split}
-use Rattle.box_space.specs.declared.coordinates.Form.{Form}
 use Rattle.box_space.specs.declared.coordinates.Split.{Split}
 use Rattle.branching.specs.Rows.{View}
 use Rattle.search_core.specs.declared.options.Options.{Options}
-use Rattle.search_core.specs.Cases.{IsBetterStart, IsRootProof}
+use Rattle.search_core.specs.Cases.{IsBetterStart}
 use Rattle.leaf_cuts.proofs.Middles.{middle-above, middle-below}
 use Rattle.search_core.specs.Next.{IsLeastSplit}
 use Rattle.search_core.proofs.Starting.{start_written}
 
 pub improve-order : (n : Net) (s : Searched) (w : Written) → IsLimited n → IsBetterStart n s w → IsPlanInOrder n s w
 improve-order n s w limited is = record { written = start_written n w limited is.cheapest; obeys = is.cheapest.obeys; cheaper = is.cheaper }
-
-pub root-order : (n : Net) (form : Form) (s : Searched) (p : Proof) → IsRootProof n form s p → IsRootInOrder n s p
-root-order n form s p is = record { shows = is.given.in_order p refl; unproved = is.is_open.0; uncut = is.is_open.1 }
 
 -- ---- splits
 

@@ -1,8 +1,7 @@
 -- Plans that are repaired: what repair answers, said of the tree, and whether a plan was repaired.
 use Rattle.std.proofs.Common.{◌≡◌, List, length, Bool, true, false, not, ◌||◌, Option, Some, None, Result, Ok, Err, IfOk, ℤ, refl, sym, ap, subst, ◌∙◌}
-use Rattle.std.specs.Prelude.{IfSome, IfNone, MatchOption}
-use Rattle.std.specs.Option.{ForSome, option_copied, is_some}
-use Rattle.std.proofs.lemmas.Option.{none-some}
+use Rattle.std.specs.Prelude.{IfSome, IfNone}
+use Rattle.std.specs.Option.{is_some}
 use denote.Ref.{Bor}
 use Rattle.edge_io.specs.declared.Memory.{Memory}
 use Rattle.pool_model.specs.Network.{Net}
@@ -12,26 +11,10 @@ use Rattle.plan_core.specs.declared.plan.WrittenPlan.{WrittenPlan}
 use Rattle.plan_repair.specs.Choices.{shown_best}
 use Rattle.plan_repair.specs.PlainPlan.{plain_plan}
 use Rattle.plan_repair.specs.Repairs.{IsAccepted, IsGain, IsNoDearer}
-use Rattle.row_model.specs.Entries.{Searched, IsSearched, IsPlanInOrder}
+use Rattle.row_model.specs.Entries.{Searched}
 use Rattle.row_model.specs.Variables.{variables}
-use Rattle.box_tree.proofs.Improving.{some_at}
 use Rattle.search_core.specs.Cases.{IsBetterStart, HasNoBetterStart, IsRepair, HasNoRepair, IsRepairedBy}
 use Rattle.search_core.specs.Next.{tried_at}
-
--- ---- the best plan, as it is lent
-
--- where it is lent, it is the tree's
-abbrev pub IsLent : Searched → Option (Bor WrittenPlan) → Type 0
-IsLent s o = MatchOption o (s.best ≡ None) (λ p. s.best ≡ Some (shown_plan p.now))
-
-pub lent-same : (s : Searched) (o : Option (Bor WrittenPlan)) → IsLent s o → shown_best (option_copied o) ≡ s.best
-lent-same s None e = sym e
-lent-same s (Some p) e = sym e
-
-pub lent-accepted : (n : Net) (s : Searched) (o : Option (Bor WrittenPlan)) → IsSearched n s → IsLent s o → ForSome (option_copied o) (λ b. IsAccepted n (shown_plan b))
-lent-accepted n s None is e = λ b at. absurd (none-some b at)
-lent-accepted n s (Some p) is e =
-    some_at (λ (b : WrittenPlan). IsAccepted n (shown_plan b)) p.now record { written = is.written (shown_plan p.now) e; obeys = is.obeys (shown_plan p.now) e }
 
 -- ---- what repair answers
 
@@ -53,21 +36,12 @@ module _ (n : Net) (s : Searched) (best : Option WrittenPlan) (same : shown_best
   repair-none repaired (Ok None) vain = vain-at repaired vain
   repair-none repaired (Err m) vain = tt
 
-pub repair-order : (n : Net) (s : Searched) (point : List ℤ) (w : Written) → IsRepair n s point w → IsPlanInOrder n s w
-repair-order n s point w is = record { written = is.gain.accepted.written; obeys = is.gain.accepted.obeys; cheaper = is.gain.cheaper }
-
 -- ---- whether a plan was repaired
 
 pub repaired-by : (n : Net) (s : Searched) (before new : Bool) → (new ≡ true → HasNoBetterStart n s) → (new ≡ false → ¬ HasNoBetterStart n s) → IsRepairedBy n s before (before || new)
 repaired-by n s true new none some = record { repaired = λ _. refl; started = λ w is. refl }
 repaired-by n s false true none some = record { repaired = λ _. refl; started = λ w is. absurd (none refl w is) }
 repaired-by n s false false none some = record { repaired = λ lacks. absurd (some refl lacks); started = λ w is. refl }
-
--- what holds anyhow holds where there is a plan
-pub repair-clear : (P : Type 0) (r : Result (Option WrittenPlan) Memory) → P → IfOk r (λ o. IfSome o (λ _. P))
-repair-clear P (Ok (Some w)) h = h
-repair-clear P (Ok None) h = tt
-repair-clear P (Err m) h = tt
 
 -- the same where none was repaired before, of a better starting plan that is lent
 pub repaired-now : (n : Net) (s : Searched) (before none : Bool) (o : Option (Bor WrittenPlan)) → before ≡ false → is_some o ≡ not none → IfSome o (λ w. IsBetterStart n s (shown_plan w.now))

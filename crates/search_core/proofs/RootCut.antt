@@ -15,9 +15,6 @@ pub uncut-none : (n : Net) (splits : List Split) → ((t : ℕ) → t < length s
 uncut-none n [] order e = refl
 uncut-none n (s ∷ rest) order e = absurd (none_before s.leaf (list_any (λ z. z.leaf == 0) rest) (order 0 (omega arith)).leaf.there e)
 
-pub none-uncut : (splits : List Split) → splits ≡ [] → is_cut splits 0 ≡ false
-none-uncut splits e = rw e refl
-
 none-shown : (splits : List held.Split) → map shown_split splits ≡ [] → splits ≡ []
 none-shown [] e = refl
 none-shown (s ∷ rest) e = cc

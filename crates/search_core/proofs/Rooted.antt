@@ -28,13 +28,3 @@ module _ (n : Net) (form : Form) (s : Searched) (least : ℤ) (is_open : IsRootO
   root-none (Ok (Some p)) h = tt
   root-none (Ok None) h = λ z opens e. subst (λ (x : ℤ). IsGiven n form (root n) (bound x) None) (some-same least z (sym at ∙ e)) h
   root-none (Err m) h = tt
-
--- where the root is not open, or holds no plan, there is none to be had
-pub cut-none : (n : Net) (form : Form) (s : Searched) → ¬ IsRootOpen s → HasNoRootProof n form s
-cut-none n form s shut = λ z opens e. absurd (shut opens)
-
-none-some : {X : Type 0} (a : X) (o : Option X) → o ≡ None → o ≡ Some a → ⊥
-none-some a o e f = cc
-
-pub bare-none : (n : Net) (form : Form) (s : Searched) → node_bound n s.tree 0 ≡ None → HasNoRootProof n form s
-bare-none n form s none = λ z opens e. absurd (none-some z (node_bound n s.tree 0) none e)

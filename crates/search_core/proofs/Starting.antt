@@ -67,6 +67,3 @@ start-there n o held s shows is at = subst (λ (x : Option Costed). IsStartOf n 
 
 pub none-there : (n : Net) (o : Option Start) (held : Option Costed) → option_map shown_start o ≡ held → IsStartOf n held → o ≡ None → IsStartOf n None
 none-there n o held shows is at = subst (λ (x : Option Costed). IsStartOf n x) (sym shows ∙ ap (λ (x : Option Start). option_map shown_start x) at) is
-
-pub start-base : (n : Net) (s : Costed) → IsStartOf n (Some s) → 0 < s.cost.base
-start-base n s is = subst (λ (m : ℕ). 0 < m) (sym is.1.base) is.1.obeys.denominator

@@ -1,7 +1,6 @@
 -- The innermost nodes that a tree keeps: with one split more, and the ends of a box that they give.
 use Rattle.std.proofs.Common.{◌≡◌, ◌≢◌, ℕ, ◌+◌, ◌-◌, ◌*◌, ◌/◌, ◌%◌, ◌<◌, ◌≤◌, inl, inr, ◌==◌, if◌then◌else◌, List, [], ◌∷◌, ◌++◌, length, get_or, set, ℤ, pos, arith, refl, sym, ap, subst, ◌∙◌, length-append, get_or-set_same, get_or-set_other}
 use Rattle.std.proofs.lemmas.List.{get_or_append_left, length-set}
-use Rattle.std.proofs.lemmas.Nat.{mul-le}
 use Rattle.std.proofs.Math.Seq.{get_or-append_seam}
 use Rattle.integers.proofs.AtKey.{same_or_other, chosen, passed}
 use Rattle.map_versions.specs.Versions.{Versions, IsChanged, count, number_at, most_keys}
@@ -166,14 +165,6 @@ pub span-none : (n : Net) (k : Splits) (coord node found : ℕ) (span : Span) �
     → span.low ≡ (root n).low coord → span.high ≡ (root n).high coord → IsSpanOf (box_of n k.list node) coord span
 span-none n k coord node found span is there innermost none low high =
     span-root n k.list coord node found span none (same-to n k coord node found is (same-first n k.list coord node there) innermost) low high
-
--- ---- coordinates are keys
-
-pub few-coords : (n : Net) → IsLimited n → coords n < most_keys
-few-coords n lim = omega (arith, lim.arcs, mul-le n.pools n.qualities 16 8 lim.pools lim.qualities)
-
-pub have-keys : (n : Net) (k : Splits) → IsLimited n → IsOf n k → HaveKeys k.list
-have-keys n k lim is t lt = omega (arith, (is.in_order t lt).coord, few-coords n lim)
 
 -- ---- the ends of a box, one coordinate after another
 

@@ -1,5 +1,5 @@
 -- The first feed of a pool.
-use Rattle.std.proofs.Common.{◌≡◌, ℕ, ◌<◌, ◌≤◌, true, false, ◌==◌, sym, ◌∙◌, arith}
+use Rattle.std.proofs.Common.{◌≡◌, ℕ, ◌<◌, ◌≤◌, false, ◌==◌, sym, ◌∙◌, arith}
 use Rattle.std.proofs.lemmas.Bool.Decides.{nat_tests}
 use Rattle.integers.proofs.AtKey.{term-le-sum_at}
 use Rattle.pool_model.specs.Network.{Net}
@@ -13,7 +13,3 @@ not_first n e f pool other lt p q same =
   where
     above : (k : ℕ) → 1 ≤ k → (k == 0) ≡ false
     above k h = grind (arith, nat_tests)
-
--- none does
-pub is_first : (k : ℕ) → k ≡ 0 → (k == 0) ≡ true
-is_first k h = grind (arith, nat_tests)

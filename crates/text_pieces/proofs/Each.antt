@@ -33,10 +33,6 @@ front-each text i n old mid new h e front =
 pub more-each : (text : ℕ → List ℕ) (i : ℕ) (old mid new : Option (List ℕ)) → mid ≡ behind old (each_below text i) → new ≡ behind mid (text i) → new ≡ behind old (each_below text (i + 1))
 more-each text i old mid new e f = rw add-one (f ∙ behind-then old mid (each_below text i) (text i) e)
 
--- all texts
-pub all-each : (text : ℕ → List ℕ) (i n : ℕ) (old new : Option (List ℕ)) → i ≡ n → new ≡ behind old (each_below text i) → new ≡ behind old (each_below text n)
-all-each text i n old new is e = e ∙ ap (λ (k : ℕ). behind old (each_below text k)) is
-
 -- the same texts
 pub each_below-same : (f g : ℕ → List ℕ) (n : ℕ) → ((i : ℕ) → i < n → f i ≡ g i) → each_below f n ≡ each_below g n
 each_below-same f g zero h = refl

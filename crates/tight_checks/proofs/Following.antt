@@ -21,7 +21,7 @@ use Rattle.relaxation_points.specs.Views.{shown_point}
 use Rattle.relaxation_points.proofs.Duality.{witness-some, witness-best}
 use Rattle.leaf_order.specs.declared.leaf.OpenLeaf.{OpenLeaf}
 use Rattle.certificate_leaves.specs.Leaves.{LiesInOne}
-use Rattle.leaf_marks.specs.Marks.{IsMark, IsRaised, IsEmptied}
+use Rattle.leaf_marks.specs.Marks.{IsMark, IsRaised}
 use Rattle.leaf_marks.specs.declared.mark.Mark.{Mark}
 use Rattle.leaf_marks.specs.declared.mark.Mark.TheVariants.{Tight, Raised, Empty, Loose}
 use Rattle.tight_texts.specs.declared.marks.LeafMark.{LeafMark}
@@ -47,10 +47,6 @@ greater_is low high h = omega (arith, additive, clamps)
 -- the bound that a raised mark leaves is what its proof shows
 pub left-raised : (n : Net) (form : Form) (b : Box) (low : ℤ) (proof : Proof) (p : Point) (h : IsRaised n form b low proof p) → raised (Some low) (Some (shown_by n b proof)) ≡ Some h.shown
 left-raised n form b low proof p h = ap (λ (s : Shown). raised (Some low) (Some s)) h.shows ∙ ap Some (greater_is low h.shown h.above)
-
--- an empty mark leaves none
-pub left-empty : (n : Net) (form : Form) (b : Box) (low : ℤ) (proof : Proof) → IsEmptied n form b proof → raised (Some low) (Some (shown_by n b proof)) ≡ None
-left-empty n form b low proof h = ap (λ (s : Shown). raised (Some low) (Some s)) h.shows
 
 best-marked : (n : Net) (form : Form) (b : Box) (low : ℤ) (pivots : ℕ) (mark : Mark) → IsMark n form b low pivots mark → IsTrue (is_tight mark || is_raised mark)
     → (z : ℤ) × (bound_with n b (Some low) mark ≡ Some z) × IsBest n form b z

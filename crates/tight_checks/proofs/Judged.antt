@@ -1,5 +1,5 @@
 -- The lines of a text and the leaves that they name, one by one.
-use Rattle.std.proofs.Common.{◌≡◌, ℕ, ◌+◌, ◌<◌, ◌≤◌, ◌⊎◌, inl, inr, List, [], ◌∷◌, ◌++◌, length, map, take, get_or, Option, None, Some, ℤ, arith, sym, ap, subst, ◌∙◌}
+use Rattle.std.proofs.Common.{◌≡◌, ℕ, ◌+◌, ◌<◌, ◌≤◌, ◌⊎◌, inl, inr, List, [], ◌∷◌, ◌++◌, length, map, take, get_or, Option, Some, ℤ, arith, sym, ap, subst, ◌∙◌}
 use Rattle.std.proofs.lemmas.List.{length-map, get_or-map, map_more}
 use Rattle.pool_model.specs.Network.{Net}
 use Rattle.pool_model.specs.Starting.{lesser}
@@ -14,7 +14,7 @@ use Rattle.tight_checks.specs.declared.refusal.TightRefusal.{TightRefusal}
 use Rattle.tight_checks.specs.declared.refusal.TightRefusal.TheVariants.{BadMark}
 use Rattle.tight_checks.specs.Holding.{LineHolds, IsLeast, IsMarkedBound, bound_with, marked_bound, nodes_of, leaf_nodes}
 use Rattle.tight_checks.specs.Judging.{AreFoundOf, IsFirstBad}
-use Rattle.tight_checks.proofs.Least.{least-none, least-more}
+use Rattle.tight_checks.proofs.Least.{least-more}
 use Rattle.tight_checks.proofs.Lists.{same-at}
 
 -- the marks of the first so many lines hold, and this is the least bound that they leave
@@ -113,6 +113,3 @@ module _ (n : Net) (f : Found) (text : TightText) (named : nodes_of text.marks.i
         wrong = line-fails tree is wrong;
         before = before.marks tree is;
       }
-
-pub judged-none : (n : Net) (f : Found) (text : TightText) → AreJudgedTo n f text 0 None
-judged-none n f text = record { marks = λ tree is i d lt. absurd (omega (arith, lt)); bound = λ tree is. least-none }

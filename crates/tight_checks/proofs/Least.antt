@@ -1,7 +1,7 @@
 -- The least of bounds that may be absent.
 use Rattle.std.proofs.Common.{◌≡◌, ◌⊎◌, inl, inr, List, [], ◌∷◌, ◌++◌, Option, None, Some, ℤ, ◌≤ℤ◌, arith, refl, sym, ap, subst, ◌∙◌}
 use Rattle.std.specs.Int.{int_min}
-use Rattle.std.proofs.lemmas.List.Elements.{All-nil, All-push, All-weaker, All-contains, Contains-push, Contains-append_left}
+use Rattle.std.proofs.lemmas.List.Elements.{All-push, All-weaker, All-contains, Contains-push, Contains-append_left}
 use Rattle.std.proofs.lemmas.Int.{clamps}
 use Rattle.integers.proofs.Ring.{additive}
 use Rattle.pool_model.specs.Starting.{lesser}
@@ -12,9 +12,6 @@ some_one x y e = cc
 
 none_some : (x : ℤ) → None ≡ Some x → ⊥
 none_some x e = cc
-
-pub least-none : IsLeast [] None
-least-none = All-nil (λ bound. bound ≡ None)
 
 at_least_none : (low : ℤ) (bound : Option ℤ) → bound ≡ None → IsAtLeast low bound
 at_least_none low bound e b h = absurd (none_some b (sym e ∙ h))

@@ -1,5 +1,5 @@
 -- What a file says of the certificate that is read from it.
-use Rattle.std.proofs.Common.{◌≡◌, ◌≢◌, ℕ, ◌<◌, ◌≤◌, List, length, Option, None, Some, Result, Ok, Err, IfOk, IfErr, OnOk, inl, inr, refl, sym, ap, subst, ◌∙◌, arith}
+use Rattle.std.proofs.Common.{◌≡◌, ℕ, ◌≤◌, List, length, Option, None, Some, Result, Ok, Err, IfOk, IfErr, inl, inr, refl, sym, ap, subst, arith}
 use Rattle.edge_io.specs.Counts.{Grows, Rose}
 use Rattle.shelf_calls.specs.Files.{file_of, HasFile, IsTooLong}
 use Rattle.shelf_calls.specs.Told.{ShelfTold}
@@ -10,7 +10,7 @@ use Rattle.cert_format.specs.Cert.{Cert}
 use Rattle.cert_format.specs.Valid.{IsValid}
 use Rattle.cert_format.specs.Views.{shown_cert}
 use Rattle.cert_writing.specs.declared.certificate.Certificate.{Certificate}
-use Rattle.cert_checker.specs.Answers.{IsAccepted, IsRefused, Spells}
+use Rattle.cert_checker.specs.Answers.{IsAccepted, Spells}
 use Rattle.cert_checker.proofs.Streaming.{spelled-same}
 use Rattle.cert_lengths.specs.Lengths.{most_bytes}
 use Rattle.pool_model.specs.Claim.{Claimed}
@@ -25,7 +25,7 @@ use Rattle.run_status.proofs.Networks.{one_network, some_same}
 use Rattle.run_status.proofs.Parts.{took-part}
 use Rattle.run_status.specs.declared.status.Status.{Status}
 use Rattle.run_status.specs.declared.status.Status.TheVariants as statuses
-use Rattle.tight_commands.specs.Certified.{CertifiedIn, CertifiedUnder, Certifies, IsRefusalOf, IsUncertified, RefusedTextIn, RefusedTextOn, RefusesBytes, RefusesIn, RefusesSome}
+use Rattle.tight_commands.specs.Certified.{CertifiedIn, CertifiedUnder, Certifies, IsRefusalOf, IsUncertified, RefusedTextIn, RefusedTextOn, RefusesBytes, RefusesIn}
 use Rattle.tight_commands.specs.Certified.{UncertifiedUnder, uncertified_by, uncertified_status}
 use Rattle.tight_commands.specs.declared.certified.Uncertified.{Uncertified}
 use Rattle.tight_commands.specs.declared.certified.Uncertified.TheVariants.{Refused, TooLong, Failed, Memory, Unwritten}
@@ -50,14 +50,6 @@ pub want-took : (Answer : Status → List ℕ → Type 0) (taken : Option (List 
     → IfErr answer (λ why. Took Answer (uncertified_status why) taken taken)
 want-took Answer taken (Ok c) h = tt
 want-took Answer taken (Err why) h = subst (λ w. Took Answer (uncertified_status w) taken taken) (sym h) refl
-
-pub want-written : (answer : Result Certificate Uncertified) → IfErr answer (λ why. why ≡ Memory) → answer ≢ Err Unwritten
-want-written (Ok c) h e = cc
-want-written (Err why) h e = cc
-
-pub either-way : {X E P : Type 0} (answer : Result X E) → P → OnOk answer P
-either-way (Ok x) p = p
-either-way (Err e) p = tt
 
 -- what is refused is of no valid certificate
 refuses-none : (n : Net) (bytes : List ℕ) (refusal : Refusal) → RefusesBytes n bytes refusal → (c : Cert) → ¬ Certifies n bytes c

@@ -1,8 +1,7 @@
 -- Leaves that are marked, one after another.
-use Rattle.std.proofs.Common.{◌≡◌, ℕ, ◌+◌, ◌<◌, ◌≤◌, List, [], ◌∷◌, ◌++◌, length, map, get_or, All, Option, None, Some, ℤ, refl, sym, ap, subst, ◌∙◌, arith}
-use Rattle.std.specs.List.{Contains}
+use Rattle.std.proofs.Common.{◌≡◌, ℕ, ◌+◌, ◌<◌, ◌≤◌, List, [], ◌∷◌, ◌++◌, length, map, get_or, All, Option, Some, ℤ, sym, ap, subst, ◌∙◌, arith}
 use Rattle.std.proofs.lemmas.List.{length-map, map-append}
-use Rattle.std.proofs.lemmas.List.Elements.{All-nil, All-push, Contains-get_or}
+use Rattle.std.proofs.lemmas.List.Elements.{All-push, Contains-get_or}
 use Rattle.pool_model.specs.Network.{Net}
 use Rattle.pool_model.specs.Claim.{Claimed, with_gap, with_bound, no_plan}
 use Rattle.row_model.specs.Trees.{Tree, box_of, leaf_bound, nodes}
@@ -18,24 +17,12 @@ use Rattle.tight_leaf.specs.Ends.{ComesOf, IsPlanGiven}
 use Rattle.tight_texts.specs.declared.marks.LeafMark.{LeafMark}
 use Rattle.tight_texts.specs.declared.marks.TightText.{TightText}
 use Rattle.tight_checks.specs.Holding.{IsLeast, IsMarkedBound, LineHolds, NamesLeaves, bound_with, leaf_nodes, marked_bound, nodes_of}
-use Rattle.tight_checks.proofs.Least.{least-more, least-none}
+use Rattle.tight_checks.proofs.Least.{least-more}
 use Rattle.tight_commands.specs.Marked.{AddsMark, AreMarksOf, AreMarksUpTo, IsMarked, claimed_plan}
 
 -- the line of a mark that is added
 abbrev line_of : (leaf : OpenLeaf) (n : Net) (c : Cert) (before after : TightText) → AddsMark n (box_of n c.splits leaf.node) (claimed_plan c.claim) leaf before after → LeafMark
 line_of leaf n c before after a = record { node = leaf.node; mark = a.mark }
-
--- no leaf is marked yet
-pub marked-none : (n : Net) (form : Form) (pivots : ℕ) (c : Cert) (text : TightText) → text.form ≡ form → text.pivots ≡ pivots → text.marks.items ≡ [] → text.bound ≡ None
-    → AreMarksUpTo n form pivots c [] text
-marked-none n form pivots c text form_is pivots_is none no_bound = record {
-  form_is = form_is;
-  pivots_is = pivots_is;
-  named = ap nodes_of none;
-  hold = subst (All (LineHolds n (tree_of c) form pivots)) (sym none) (All-nil (LineHolds n (tree_of c) form pivots));
-  marked = subst (All (IsMarked n form pivots c)) (sym none) (All-nil (IsMarked n form pivots c));
-  bound = subst (λ (lines : List LeafMark). IsMarkedBound n (tree_of c) lines text.bound) (sym none) (subst (IsLeast []) (sym no_bound) least-none);
-}
 
 module _ (n : Net) (form : Form) (pivots : ℕ) (c : Cert) where
   -- what is said of the line that is added

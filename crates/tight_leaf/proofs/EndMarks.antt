@@ -1,5 +1,5 @@
 -- What a run's end gives: a point that meets the box, and a proof that shows the least bound above its cost, or that there is no plan.
-use Rattle.std.proofs.Common.{◌≡◌, ◌≢◌, ◌∙◌, ℕ, ◌<◌, All, ℤ, pos, negsuc, ◌+ℤ◌, ◌*ℤ◌, ◌≤ℤ◌, ◌<ℤ◌, sym, subst, refl, arith}
+use Rattle.std.proofs.Common.{◌≡◌, ◌∙◌, ℕ, ◌<◌, All, ℤ, pos, negsuc, ◌+ℤ◌, ◌*ℤ◌, ◌≤ℤ◌, ◌<ℤ◌, sym, subst, refl, arith}
 use Rattle.std.specs.Int.{int_div_euclid}
 use Rattle.std.proofs.Math.Nat.{div-mul-le_self, lt-div-mul-add}
 use Rattle.integers.proofs.AtKey.{chosen, passed}
@@ -29,14 +29,8 @@ next-above z d h = omega (arith, additive, above z d h, add-mul (int_div_euclid 
 same_bound : (x y : ℤ) → bound x ≡ bound y → x ≡ y
 same_bound x y e = cc
 
-pub no-bound : (x : ℤ) → bound x ≢ no_plan
-no-bound x e = cc
-
 pub scaled-shows : (n : Net) (b : Box) (proof : Proof) → 0 < proof.scale → shown_by n b proof ≡ bound (int_div_euclid (number n b proof) (pos proof.scale))
 scaled-shows n b proof some = passed proof.scale 0 no_plan (bound (int_div_euclid (number n b proof) (pos proof.scale))) (λ e. omega (arith, some, e))
-
-pub scaled-some : (n : Net) (b : Box) (proof : Proof) → 0 < proof.scale → shown_by n b proof ≢ no_plan
-scaled-some n b proof some e = no-bound (int_div_euclid (number n b proof) (pos proof.scale)) (sym (scaled-shows n b proof some) ∙ e)
 
 pub bare-none : (n : Net) (b : Box) (proof : Proof) → proof.scale ≡ 0 → shown_by n b proof ≡ no_plan
 bare-none n b proof none = chosen proof.scale 0 no_plan (bound (int_div_euclid (number n b proof) (pos proof.scale))) none

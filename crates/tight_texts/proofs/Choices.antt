@@ -1,7 +1,7 @@
 -- One of some words, where none of them begins another.
-use Rattle.std.proofs.Common.{◌≡◌, ℕ, true, List, [], ◌∷◌, ◌++◌, Option, Some, None, Result, Ok, refl, ap, subst, ◌∙◌}
+use Rattle.std.proofs.Common.{◌≡◌, ℕ, true, List, [], ◌∷◌, ◌++◌, Option, Some, None, refl, ap, ◌∙◌}
 use Rattle.cert_text.specs.Lines.{first_line}
-use Rattle.cert_text.specs.Reading.{At, ◌>>=◌, found_at, after_word, with_unit, word_at}
+use Rattle.cert_text.specs.Reading.{after_word, with_unit}
 use Rattle.cert_text.proofs.Laws.{Reads}
 use Rattle.cert_text.proofs.PieceLaws.{value_of, some_pair, pair_is, one_line, after_word_is, after_word-within, piece_reads}
 use Rattle.tight_texts.specs.Reading.{as_word, or_else, choice_from, choice_at}
@@ -44,19 +44,3 @@ choice_reads X spell xs o again d = piece_reads X Any spell (choice_from spell x
   within = choice_within X spell xs o;
   some = (d, tt);
 })
-
--- ---- by one word after another
-
--- the first word is found
-pub hit : {X : Type 0} (spell : X → List ℕ) (x : X) (xs : List X) (a b : At) → word_at (spell x) a ≡ Ok (tt, b) → choice_at spell (x ∷ xs) a ≡ Ok (x, b)
-hit {X} spell x xs a b e = by_word (after_word (spell x) a.rest) e
-  where
-    by_word : (o : Option (List ℕ)) → found_at a.line (λ _. spell x) (with_unit o) ≡ Ok (tt, b) → found_at a.line spell (or_else (as_word x o) (choice_from spell xs a.rest)) ≡ Ok (x, b)
-    by_word None e2 = absurd cc
-    by_word (Some r) e2 = ap (λ (z : Result (Unit {0} × At) ℕ). z >>= λ w. Ok (x, w.1)) e2
-
--- the first word isn't found
-pub pass : {X : Type 0} (spell : X → List ℕ) (x : X) (xs : List X) (a b : At) (r : Result (X × At) ℕ) → (b ≡ a) × (after_word (spell x) a.rest ≡ None)
-    → choice_at spell xs b ≡ r → choice_at spell (x ∷ xs) a ≡ r
-pass spell x xs a b r t e =
-    ap (λ (o : Option (List ℕ)). found_at a.line spell (or_else (as_word x o) (choice_from spell xs a.rest))) t.1 ∙ subst (λ (c : At). choice_at spell xs c ≡ r) t.0 e

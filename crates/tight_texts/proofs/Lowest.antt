@@ -1,23 +1,17 @@
 -- Whether two numbers are those of a fraction in lowest terms.
-use Rattle.std.proofs.Common.{◌≡◌, ℕ, ◌*◌, ◌<◌, ◌^◌, ◌-◌, Bool, true, false, cond, List, Option, Some, None, Result, Ok, Err, refl, sym, ap, subst, ◌∙◌, arith}
+use Rattle.std.proofs.Common.{◌≡◌, ℕ, ◌*◌, ◌<◌, ◌-◌, Bool, true, false, Result, Err, refl, sym, ap, subst, ◌∙◌, arith}
 use Rattle.std.specs.Prelude.{ℤ, pos, negsuc, ◌*ℤ◌, ◌≤ℤ◌, ◌<ℤ◌, ◌↔◌, unsigned_abs, IsErrOf, FitsSigned}
 use Rattle.std.specs.Int.{w128}
 use Rattle.std.proofs.lemmas.Int.{ints, unsigned_abs-mul}
 use Rattle.integers.proofs.Order.{same-cancel}
 use Rattle.integers.proofs.Ring.{sorted}
-use Rattle.exact_num.specs.Fraction.{Fraction, IsSame, IsShort, LeavesRange, ratio_of}
+use Rattle.exact_num.specs.Fraction.{IsSame, IsShort, LeavesRange, ratio_of}
 use Rattle.exact_num.specs.Views.{shown_frac}
 use Rattle.exact_num.specs.declared.frac.Frac.{Frac}
 use Rattle.exact_num.specs.declared.frac.FracFault.{FracFault}
 use Rattle.exact_num.specs.declared.frac.FracFault.TheVariants as faults
 use Rattle.exact_num.proofs.Laws.{least_terms}
-use Rattle.cert_text.specs.declared.fault.Stop.{Stop}
-use Rattle.cert_text.specs.declared.fault.Stop.TheVariants.{Text, Source}
-use Rattle.cert_text.specs.declared.pieces.Ends.{Ends}
-use Rattle.cert_text.specs.Reading.{At, Stops, found_at, number_at, number_from, number_spelling, kept, end_of}
-use Rattle.cert_text.proofs.Laws.{ok_is}
-use Rattle.tight_texts.specs.Reading.{is_lowest, den_at}
-use Rattle.tight_texts.specs.Results.{over}
+use Rattle.tight_texts.specs.Reading.{is_lowest}
 use Rattle.tight_texts.proofs.Fractions.{lowest_is, lowest_again}
 
 pub lowest_yes : (f : Frac) (num den : ℤ) → f.num ≡ num → pos f.den ≡ den → (is_lowest num (unsigned_abs den) ≡ true) × (shown_frac f ≡ record { num = num; den = unsigned_abs den })
@@ -73,37 +67,3 @@ lowest_fault r e is num den x y ex ey z w = fault_is e num den
     (subst (λ (q : Result Frac FracFault). IsErrOf q faults.ZeroDivisor ↔ (den ≡ pos 0)) is (subst (λ (v : ℤ). IsErrOf r faults.ZeroDivisor ↔ (v ≡ pos 0)) ey z))
     (subst (λ (q : Result Frac FracFault). IsErrOf q faults.Wide → LeavesRange (ratio_of num den)) is
     (λ h. subst (λ (v : ℤ). LeavesRange (ratio_of v den)) ex (subst (λ (v : ℤ). LeavesRange (ratio_of x v)) ey (w h))))
-
--- ---- a denominator that was read
-
-pub den_found : (ends : Ends) (num : ℤ) (a b : At) (d : ℕ) (x : Fraction) → number_at (2 ^ 127 - 1) (end_of ends) a ≡ Ok (d, b) → is_lowest num d ≡ true → x ≡ record { num = num; den = d }
-    → over num (den_at ends num a) ≡ Ok (x, b)
-den_found ends num a b d x e t s = by_opt (number_from (2 ^ 127 - 1) (end_of ends) a.rest) e
-  where
-    by_test : (p : ℕ × List ℕ) (u : Bool) → u ≡ true → found_at a.line (number_spelling (end_of ends)) (Some p) ≡ Ok (d, b)
-        → over num (found_at a.line (number_spelling (end_of ends)) (cond u (Some p) None)) ≡ Ok (x, b)
-    by_test p true h f = ap (over num) f ∙ ap (λ (y : Fraction). Ok (y, b)) (sym s)
-    by_test p false h f = absurd cc
-
-    by_opt : (o : Option (ℕ × List ℕ)) → found_at a.line (number_spelling (end_of ends)) o ≡ Ok (d, b) → over num (found_at a.line (number_spelling (end_of ends)) (kept (is_lowest num) o)) ≡ Ok (x, b)
-    by_opt None f = absurd cc
-    by_opt (Some p) f = let k : p.0 ≡ d = ap (λ (q : ℕ × At). q.0) (ok_is _ _ f) in by_test p (is_lowest num p.0) (ap (is_lowest num) k ∙ t) f
-
-pub den_refused : (ends : Ends) (num : ℤ) (a b : At) (d : ℕ) → number_at (2 ^ 127 - 1) (end_of ends) a ≡ Ok (d, b) → is_lowest num d ≡ false → over num (den_at ends num a) ≡ Err a.line
-den_refused ends num a b d e t = by_opt (number_from (2 ^ 127 - 1) (end_of ends) a.rest) e
-  where
-    by_test : (p : ℕ × List ℕ) (u : Bool) → u ≡ false → over num (found_at a.line (number_spelling (end_of ends)) (cond u (Some p) None)) ≡ Err a.line
-    by_test p true h = absurd cc
-    by_test p false h = refl
-
-    by_opt : (o : Option (ℕ × List ℕ)) → found_at a.line (number_spelling (end_of ends)) o ≡ Ok (d, b) → over num (found_at a.line (number_spelling (end_of ends)) (kept (is_lowest num) o)) ≡ Err a.line
-    by_opt None f = absurd cc
-    by_opt (Some p) f = let k : p.0 ≡ d = ap (λ (q : ℕ × At). q.0) (ok_is _ _ f) in by_test p (is_lowest num p.0) (ap (is_lowest num) k ∙ t)
-
-pub den_stops : (ends : Ends) (num : ℤ) (a : At) (s : Stop) (broken : Bool) → Stops s broken (number_at (2 ^ 127 - 1) (end_of ends) a) → Stops s broken (over num (den_at ends num a))
-den_stops ends num a Source broken h = h
-den_stops ends num a (Text t) broken h = by_opt (number_from (2 ^ 127 - 1) (end_of ends) a.rest) h
-  where
-    by_opt : (o : Option (ℕ × List ℕ)) → found_at a.line (number_spelling (end_of ends)) o ≡ Err t.line → over num (found_at a.line (number_spelling (end_of ends)) (kept (is_lowest num) o)) ≡ Err t.line
-    by_opt None f = ap (over num) f
-    by_opt (Some p) f = absurd cc

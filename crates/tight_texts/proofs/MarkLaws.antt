@@ -30,7 +30,7 @@ use Rattle.tight_texts.specs.declared.kinds.MarkKind.TheVariants as kinds
 use Rattle.tight_texts.specs.declared.kinds.ReasonKind.{ReasonKind}
 use Rattle.tight_texts.specs.declared.kinds.ReasonKind.TheVariants as causes
 use Rattle.tight_texts.specs.Texts.{Values, Operated, Reason, unended, wide, coarse, heavy_proof, heavy_point, Mark, tight, raised, empty, loose, LeafMark, Marks}
-use Rattle.tight_texts.specs.Texts.{AreValues, IsProof, IsFraction, IsReason, IsMark, IsLeafMark, AreMarks, point_fields, proof_fields, fraction_fields, operation_word, wide_fields, reason_fields}
+use Rattle.tight_texts.specs.Texts.{AreValues, IsProof, IsFraction, IsReason, IsMark, IsLeafMark, AreMarks, point_fields, proof_fields, operation_word, wide_fields, reason_fields}
 use Rattle.tight_texts.specs.Texts.{mark_word, mark_fields, mark_line, mark_lines, form_word, form_line, bound_line, marks_text}
 use Rattle.tight_texts.specs.Reading.{form_spelling, form_at, kind_spelling, kind_at, cause_spelling, cause_at, operation_spelling, operation_at, fraction_at, point_at, count_ends, proof_at}
 use Rattle.tight_texts.specs.Reading.{wide_at, told_at, reason_at, carried_at, leaf_at, leaves_at, bound_at, pivots_at, marks_at}
@@ -223,12 +223,6 @@ wide_reads =
     (λ x z h. ap (λ (v : Operated). v.left) h.1))
     (λ o z h. ap (λ (v : Operated). v.operation) h.1.1))
     (λ z h. (h.1.0, h.1.1.0)) (λ z h. (tt, (h.0, (h.1, refl)))) (λ z h. refl)
-
-fraction_same : (x : Fraction) → 32 ∷ fraction_spelling Line x ≡ flat_map field (fraction_fields x) ++ 10 ∷ []
-fraction_same x = regroup (signed_decimal x.num) (decimal x.den)
-  where
-    regroup : (a b : List ℕ) → 32 ∷ ((a ++ 32 ∷ []) ++ ((b ++ 10 ∷ []) ++ [])) ≡ ((32 ∷ a) ++ ((32 ∷ b) ++ [])) ++ 10 ∷ []
-    regroup a b = simp append_assoc
 
 wide_same : (w : Operated) → 32 ∷ wide_spelling w ≡ flat_map field (wide_fields w) ++ 10 ∷ []
 wide_same w = regroup (operation_word w.operation) (signed_decimal w.left.num) (decimal w.left.den) (signed_decimal w.right.num) (decimal w.right.den)

@@ -11,9 +11,9 @@ use Rattle.std.proofs.lemmas.Option.{none-some}
 use Rattle.std.proofs.Math.Nat.{mul-le-mul}
 use Rattle.pool_model.specs.Network.{Net, counts_of, IsLimited}
 use Rattle.pool_model.specs.Plan.{Written, IsWritten, Obeys, cost_of, plan_of}
-use Rattle.pool_model.specs.Claim.{Claimed, with_gap, HasNoPlan, IsBound}
+use Rattle.pool_model.specs.Claim.{Claimed, HasNoPlan, IsBound}
 use Rattle.row_model.specs.Catalogue.{rows}
-use Rattle.row_model.specs.Multipliers.{Part, Proof}
+use Rattle.row_model.specs.Multipliers.{Proof}
 use Rattle.row_model.specs.Trees.{Split, Tree, IsTree, nodes, tree_bound}
 use Rattle.pool_model.specs.Starting.{reach_bound}
 use Rattle.plan_core.specs.Faults.{IsCostOf, IsFirstFault}
@@ -27,7 +27,7 @@ use Rattle.cert_checker.proofs.Lowest.{AtLeast, tree-above}
 use Rattle.row_book.proofs.Rising.{no_more}
 use Rattle.cert_format.specs.Cert.{Cert, NodeProof, ClaimFits, IsShaped}
 use Rattle.cert_format.specs.Valid.{IsShown, IsValid, tree_of}
-use Rattle.tree_certificate.specs.Certificates.{cert_of, claim_of, gap_of, node_proofs}
+use Rattle.tree_certificate.specs.Certificates.{cert_of, claim_of, node_proofs}
 use Rattle.tree_certificate.proofs.Lines.{all_lines, few_lines, lines_rise, proofs_back}
 
 none_there : (o : Option Proof) → ((p : Proof) → ¬ (o ≡ Some p)) → o ≡ None
@@ -58,11 +58,6 @@ found_valid n s limited is =
       claim = subst (λ (t : Tree). IsShown n t (claim_of n s.best (tree_bound n s.tree))) back (claim_shown n s.tree s.best (tree_bound n s.tree) refl is.written is.obeys);
     }
 
--- ---- lengths
-
-no_part : Part
-no_part = record { row = 0; mult = pos 0 }
-
 -- a proof in order has no more parts than there are rows
 few_parts : (n : Net) (tree : Tree) (node : ℕ) (p : Proof) → rows n ≤ 13424 → IsTree n tree → tree.proof node ≡ Some p → length p.parts < 2 ^ 32
 few_parts n tree node p few is e =
@@ -92,9 +87,6 @@ cert_same c d e f g h =
     ∙ ap (λ (x : Claimed). record { shape = d.shape; claim = x; splits = c.splits; proofs = c.proofs }) f
     ∙ ap (λ (x : List Split). record { shape = d.shape; claim = d.claim; splits = x; proofs = c.proofs }) g
     ∙ ap (λ (x : List NodeProof). record { shape = d.shape; claim = d.claim; splits = d.splits; proofs = x }) h
-
-pub claim_same : (n : Net) (w : Written) (z num g : ℤ) (b : ℕ) → num ≡ cost_of n (plan_of n w) → b ≡ w.flow_base * w.base → g ≡ num -ℤ z *ℤ pos b → with_gap w num b z g ≡ gap_of n w z
-claim_same n w z num g b costs over between = rw between (rw costs (rw over refl))
 
 -- ---- sizes
 

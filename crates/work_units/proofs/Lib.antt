@@ -9,4 +9,3 @@ pub mod Judgements
 pub mod DeskBounds
 pub mod Handing
 pub mod Cutting
-pub mod Marks
