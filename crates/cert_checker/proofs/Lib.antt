@@ -1,5 +1,4 @@
 -- Lemmas behind the checker.
-pub mod Lowest
 pub mod Within
 pub mod Taking
 pub mod Order

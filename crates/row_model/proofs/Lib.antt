@@ -17,5 +17,6 @@ pub mod CatalogueRows
 pub mod Duality
 pub mod TreeLaw
 pub mod TreeBound
+pub mod Lowest
 pub mod EntryLaw
 pub mod Agreement

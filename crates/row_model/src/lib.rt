@@ -16,9 +16,9 @@
 //!
 //! Proofs above may cite the lemmas behind them, in `proofs/`: `RootBox` and `Halves`; `Numbering` and `PathSums` (coordinates,
 //! variables and paths by number); `Agreement` (what a proof shows rests on the ends of its box alone) and `Duality`; `TreeLaw`,
-//! `TreeBound` and `EntryLaw`. Beside them: `PRows` and `QRows` (the rows of P and of Q hold at the point of each plan that obeys),
-//! `RowSums` (sums of coefficients times variables, where most coefficients are 0), `Brought` (what reaches a product of a quality, in
-//! parts of the scale) and `Shares` (a feed's share of its pool).
+//! `TreeBound`, `Lowest` (a tree's bound is at least the reach bound) and `EntryLaw`. Beside them: `PRows` and `QRows` (the rows of P and
+//! of Q hold at the point of each plan that obeys), `RowSums` (sums of coefficients times variables, where most coefficients are 0),
+//! `Brought` (what reaches a product of a quality, in parts of the scale) and `Shares` (a feed's share of its pool).
 #![tactic(auto)]
 
 mod laws;
