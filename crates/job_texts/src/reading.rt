@@ -12,14 +12,15 @@ ghost use Rattle.work_units.specs.Views.{shown_answer};
 ghost use Rattle.job_texts.specs.Texts.{AreJobs, AreWritten, Jobs, answers_text, jobs_text};
 ghost use Rattle.job_texts.specs.Reading.{answer_at, answer_list_at, answers_at, half_at, head_at, job_line_at, job_lines_at, jobs_at, rest_at};
 ghost use Rattle.job_texts.specs.Views.{place_of, shown_answers, shown_jobs};
-ghost use Rattle.job_texts.specs.Results.{Closes, Comes, IsFaultIn, IsReadAs, Yields};
+ghost use Rattle.cert_text.specs.Results.{Closes, Comes, IsFaultIn, IsReadAs, Yields};
 
-use crate::fault::{Halt, ReadFault};
 use crate::jobs::JobsText;
 use box_space::{Part, Proof, Split};
 use box_tree::Entry;
 use cert_format::reading::{part, shape, split_line};
-use cert_text::{Ends, SliceSource, Source, Stop, TextFault, i64_then, u32_then, u64_then, word};
+use cert_text::{
+    Ends, Halt, ReadFault, SliceSource, Source, Stop, TextFault, i64_then, u32_then, u64_then, word,
+};
 use std::alloc::Global;
 use work_units::{Answer, Job};
 

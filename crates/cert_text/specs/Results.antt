@@ -1,11 +1,11 @@
--- What reading jobs or answers may give.
+-- What readers that take memory may give.
 use Rattle.std.specs.Prelude.{◌≡◌, ℕ, Bool, List, Result, Ok, Err}
 use Rattle.cert_text.specs.Lines.{IsFaultyLine}
 use Rattle.cert_text.specs.Reading.{At, Stops}
-use Rattle.job_texts.specs.declared.fault.Halt.{Halt}
-use Rattle.job_texts.specs.declared.fault.Halt.TheVariants as halts
-use Rattle.job_texts.specs.declared.fault.ReadFault.{ReadFault}
-use Rattle.job_texts.specs.declared.fault.ReadFault.TheVariants.{Memory, Line}
+use Rattle.cert_text.specs.declared.fault.Halt.{Halt}
+use Rattle.cert_text.specs.declared.fault.Halt.TheVariants as halts
+use Rattle.cert_text.specs.declared.fault.ReadFault.{ReadFault}
+use Rattle.cert_text.specs.declared.fault.ReadFault.TheVariants.{Memory, Line}
 
 -- what was read is this, unless memory ran out
 abbrev pub IsReadAs : {X Y : Type 0} → (X → Y) → Y → Result X ReadFault → Type 0

@@ -4,11 +4,11 @@ use Rattle.std.specs.Prelude.{IfOk, IfErr}
 use Rattle.cert_text.specs.Reading.{At, whole, each_at}
 use Rattle.cert_text.proofs.Each.{with_front, each-stops}
 use Rattle.cert_text.proofs.Laws.{Reads, ok_is, whole_found, whole_again, whole_fault}
-use Rattle.job_texts.specs.declared.fault.Halt.{Halt}
-use Rattle.job_texts.specs.declared.fault.Halt.TheVariants as halts
-use Rattle.job_texts.specs.declared.fault.ReadFault.{ReadFault}
-use Rattle.job_texts.specs.declared.fault.ReadFault.TheVariants.{Memory, Line}
-use Rattle.job_texts.specs.Results.{IsReadAs, IsFaultIn, Halts, Comes}
+use Rattle.cert_text.specs.declared.fault.Halt.{Halt}
+use Rattle.cert_text.specs.declared.fault.Halt.TheVariants as halts
+use Rattle.cert_text.specs.declared.fault.ReadFault.{ReadFault}
+use Rattle.cert_text.specs.declared.fault.ReadFault.TheVariants.{Memory, Line}
+use Rattle.cert_text.specs.Results.{IsReadAs, IsFaultIn, Halts, Comes}
 
 -- an item of a list stops
 pub each-halts : {X : Type 0} (r : ℕ → At → Result (X × At) ℕ) (n i : ℕ) (front : List X) (a : At) (e : Halt) (broken : Bool)
