@@ -7,7 +7,7 @@
 //!
 //! - `write_cert`: writes the text to a sink. Its contract says which bytes it writes, by `text_of` in `specs/Text.antt`, line by
 //!   line.
-//! - `cert_law`: a certificate that is held has a text.
+//! - `cert_law`: a certificate that is held has a text; and of `ranges` the same for what other texts have of it.
 //! - `Certificate`, `Claim`, `NodeProof`, which `specs/Views.antt` sees without where they lie in memory.
 //!
 //! `specs/Cert.antt` says what a certificate is, with the lengths and ranges that it needs to have a text. How the text is read, and
@@ -15,7 +15,7 @@
 #![tactic(auto)]
 
 mod certificate;
-mod ranges;
+pub mod ranges;
 mod writing;
 
 pub use certificate::{Certificate, Claim, NodeProof};
