@@ -15,7 +15,7 @@ use Rattle.cert_format.specs.declared.reading.Kind.TheVariants as kinds
 use Rattle.cert_stream.specs.declared.fault.ItemFault.{ItemFault}
 use Rattle.cert_items.specs.declared.items.State.{State}
 use Rattle.cert_items.specs.declared.items.State.TheVariants as states
-use Rattle.cert_stream.specs.Items.{Field, kind as kind_item, shape as shape_item, splits, cut, kind_number, plan_items}
+use Rattle.cert_stream.specs.Items.{Field, kind as kind_item, shape as shape_item, splits, cut, plan_items}
 use Rattle.cert_stream.specs.Items.{claim_items, items_of, shaped_state}
 use Rattle.cert_stream.specs.Streams.{IsAtEnd}
 use Rattle.proof_lines.specs.declared.refusal.Refusal.{Refusal}
@@ -29,7 +29,6 @@ use Rattle.cert_checker.specs.declared.opening.Opening.TheVariants as openings
 use Rattle.proof_lines.specs.Refusals.{IsFirstRefusal}
 use Rattle.proof_lines.specs.Trees.{IsBoundOf, IsFirstSplit}
 use Rattle.cert_checker.specs.Claims.{IsClaimCost}
-use Rattle.proof_lines.specs.Grammar.{kind_of}
 use Rattle.proof_lines.specs.Runs.{Moment, Run, Failed, Halts, IsReady}
 
 -- no refusal
@@ -44,11 +43,10 @@ pub record IsList (item : ℕ → Field) (count : ℕ) (next : State) (xs : List
 
 -- ---- what is claimed, before its numbers
 
--- the number of a kind, and the network's counts
-pub record IsBegun (n : Net) (number : ℕ) (items : List Field) (state : State) : Type 0 where
-  pub items_are : items ≡ kind_item number ∷ shape_item (counts_of n) ∷ []
-  pub known : kind_number (kind_of number) ≡ number
-  pub next_is : state ≡ shaped_state (kind_of number) (counts_of n)
+-- a kind, and the network's counts
+pub record IsBegun (n : Net) (kind : Kind) (items : List Field) (state : State) : Type 0 where
+  pub items_are : items ≡ kind_item kind ∷ shape_item (counts_of n) ∷ []
+  pub next_is : state ≡ shaped_state kind (counts_of n)
 
 -- the items of a plan with the network's counts
 pub record IsPlan (n : Net) (plan : Written) (items : List Field) (state : State) : Type 0 where

@@ -6,12 +6,13 @@ ghost use Rattle.cert_format.specs.declared.reading.Kind.TheVariants as kinds;
 ghost use Rattle.plan_core.specs.Views.{shown_plan};
 ghost use Rattle.cert_items.specs.declared.items.State.TheVariants as states;
 ghost use Rattle.cert_stream.specs.Items.{weight as weight_item, outflow as outflow_item, direct as direct_item, directs_left, shaped_state};
-ghost use Rattle.proof_lines.specs.Grammar.{kind_of, weights_left, outflows_left};
+ghost use Rattle.proof_lines.specs.Grammar.{weights_left, outflows_left};
 ghost use Rattle.proof_lines.specs.Parts.{Takes};
 ghost use Rattle.cert_checker.specs.Parts.{Never, IsList, IsPlan, IsOpening, IsWrongPlan, opening_cost};
 ghost use Rattle.proof_lines.specs.Runs.{moment, IsReady};
 
 use blend_network::Network;
+use cert_format::reading::Kind;
 use cert_stream::CertReader;
 use plan_core::{Cost, WrittenPlan, check_plan};
 use proof_lines::steps::{base_pair, direct, outflow, weight};
@@ -43,24 +44,24 @@ impl Opening {
 pub(crate) fn read_opening<S: Shelf>(
     alloc: Global,
     net: &Network,
-    kind: u8,
+    kind: Kind,
     reader: &mut CertReader,
     shelf: &mut S,
 ) -> Result<Opening, StreamRefusal>
-    requires ready { IsReady (moment reader.old (S.told shelf.old)) (shaped_state (kind_of kind) (counts_of (net_of net.now))) }
-    ensures { Takes (IsOpening (net_of net.now) (kind_of kind)) (IsWrongPlan (net_of net.now) (kind_of kind))
+    requires ready { IsReady (moment reader.old (S.told shelf.old)) (shaped_state kind (counts_of (net_of net.now))) }
+    ensures { Takes (IsOpening (net_of net.now) kind) (IsWrongPlan (net_of net.now) kind)
         (moment reader.old (S.told shelf.old)) (moment reader.new (S.told shelf.new)) result }
 {
     match kind {
-        0 => {
+        Kind::Gap => {
             let plan = plan(alloc, net, reader, shelf)?;
             match check_plan(net, &plan) {
                 Ok(cost) => Ok(Opening::Gap(plan, cost)),
                 Err(fault) => Err(StreamRefusal::Refused(Refusal::Plan(fault))),
             }
         }
-        1 => Ok(Opening::Bound),
-        _ => Ok(Opening::NoPlan),
+        Kind::Bound => Ok(Opening::Bound),
+        Kind::NoPlan => Ok(Opening::NoPlan),
     }
 }
 

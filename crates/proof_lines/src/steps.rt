@@ -9,6 +9,7 @@ ghost use Rattle.proof_lines.specs.Grammar.{bases_item, cut_item, head_item, par
 ghost use Rattle.proof_lines.specs.Runs.{moment};
 
 use box_space::{Part, Split};
+use cert_format::reading::Kind;
 use cert_stream::{CertReader, Item, ItemFault};
 use shelf_calls::Shelf;
 
@@ -30,8 +31,8 @@ fn next<S: Shelf>(reader: &mut CertReader, shelf: &mut S) -> Result<Item, ItemFa
     reader.next_item(shelf)
 }
 
-/// The number of the kind that is claimed.
-pub fn kind<S: Shelf>(reader: &mut CertReader, shelf: &mut S) -> Result<u8, ItemFault>
+/// The kind of what is claimed.
+pub fn kind<S: Shelf>(reader: &mut CertReader, shelf: &mut S) -> Result<Kind, ItemFault>
     requires asks { reader.old.state ≡ states.Begin }
     requires used_up { IsTrue reader.old.ended → IsUsedUp (S.told shelf.old).rest }
     ensures { Reads items.kind (λ x. behind_item reader.old.state (items.kind x)) (moment reader.old (S.told shelf.old)) (moment reader.new (S.told shelf.new)) result }
