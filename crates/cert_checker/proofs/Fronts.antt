@@ -13,7 +13,7 @@ use Rattle.split_tree.specs.Splits.{Splits, IsOf}
 use Rattle.cert_format.specs.Cert.{Cert, NodeProof, FitsShape, IsCert}
 use Rattle.cert_format.specs.declared.reading.Kind.{Kind}
 use Rattle.cert_format.specs.Valid.{no_proof}
-use Rattle.cert_stream.specs.Items.{Field, kind, shape, splits, cut, proofs, head, claimed_kind, proof_items, items_of}
+use Rattle.cert_stream.specs.Items.{Field, kind, shape, splits, cut, proofs, head, proof_items, items_of}
 use Rattle.proof_lines.specs.declared.refusal.Refusal.{Refusal}
 use Rattle.proof_lines.specs.declared.refusal.Refusal.TheVariants.{Shape, Split as SplitAt, ProofPlace, Proof as ProofOf, Memory}
 use Rattle.cert_checker.specs.declared.opening.Opening.{Opening}

@@ -1,5 +1,5 @@
 -- The item that comes is one that the text may go on with.
-use Rattle.std.proofs.Common.{◌≡◌, ◌≢◌, ◌⊎◌, ℕ, ◌-◌, inl, Bool, true, false, cond, eqb, ◌^◌, [], ◌∷◌, ◌++◌, Result, Ok, Err, IsTrue, refl, sym, ap, subst}
+use Rattle.std.proofs.Common.{◌≡◌, ◌≢◌, ◌⊎◌, ℕ, ◌-◌, inl, Bool, true, false, cond, eqb, ◌^◌, [], ◌++◌, Result, Ok, Err, IsTrue, refl, sym, ap, subst}
 use Rattle.std.specs.Prelude.{codes}
 use Rattle.std.specs.Prelude.{IfOk, OnOk}
 use Rattle.edge_io.specs.Counts.{Rose, RoseBy}
@@ -20,7 +20,7 @@ use Rattle.cert_stream.specs.Items.{shown_item, cuts_left, proofs_left, parts_le
 use Rattle.cert_stream.specs.Items.{weight_words_at, begin_at, shape_step_at, bases_step_at, weight_step_at, outflow_step_at, direct_step_at, head_step_at}
 use Rattle.cert_stream.specs.Items.{claim_step_at, next_at}
 use Rattle.cert_stream.specs.Streams.{at_of, GivesItem, GivesFault, IsMore, TookMore}
-use Rattle.proof_lines.specs.Runs.{Moment, Run}
+use Rattle.proof_lines.specs.Runs.{Moment}
 use Rattle.proof_lines.specs.Grammar.{outflows_left, weights_left, MayCome, behind_item, Came}
 use Rattle.cert_stream.proofs.Calls.{ran-one, told-quiet, fault-quiet}
 use Rattle.proof_lines.proofs.Running.{fault-later}
