@@ -7,7 +7,7 @@ pub mod Followed
 pub mod Fields
 pub mod Openings
 pub mod Fronts
-pub mod Listing
+pub mod Planning
 pub mod Claiming
 pub mod Cutting
 pub mod Streaming

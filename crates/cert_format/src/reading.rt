@@ -23,7 +23,7 @@ use plan_core::WrittenPlan;
 use std::alloc::Global;
 
 /// What a certificate claims.
-#[derive(Clone, Copy)]
+#[derive(Clone, Copy, Debug, PartialEq)]
 pub enum Kind {
     Gap,
     Bound,
