@@ -1,12 +1,14 @@
 -- Lemmas behind the laws.
 pub mod Shares
 pub mod PathSums
+pub mod Families
 pub mod Numbering
 pub mod RootBox
 pub mod Halves
 pub mod VariableEnds
 pub mod PointCost
 pub mod RowSums
+pub mod FormRows
 pub mod NetworkRows
 pub mod Brought
 pub mod EnvelopeLaw

@@ -1,7 +1,7 @@
 -- Rows in lists of families.
 use Rattle.std.proofs.Common.{◌≡◌, ℕ, ◌+◌, ◌-◌, ◌<◌, ◌≤◌, nat_lt, Bool, true, false, if◌then◌else◌, List, [], ◌∷◌, ◌++◌, refl, arith, sym, ap, ◌∙◌, zero-add}
 use Rattle.std.proofs.lemmas.Bool.Decides.{nat_tests}
-use Rattle.row_model.specs.Catalogue.{Family, Row, row_count, row_in}
+use Rattle.row_model.specs.Catalogue.{Family, HoldsOfEach, Row, row_count, row_in}
 
 pub test_true : (i m : ℕ) → i < m → nat_lt i m ≡ true
 test_true i m h = grind (arith, nat_tests)
@@ -42,10 +42,7 @@ row_in-behind (f ∷ fs) gs i h =
     place : i - f.count - row_count fs ≡ i - (f.count + row_count fs)
     place = omega arith
 
--- what holds of each row of each family
-abbrev pub HoldsOfEach : (Row → Type 0) → List Family → Type 0
-HoldsOfEach P [] = Unit {0}
-HoldsOfEach P (f ∷ fs) = ((i : ℕ) → i < f.count → P (f.row i)) × HoldsOfEach P fs
+-- ---- what holds of each row of each family
 
 pub each_row : (P : Row → Type 0) (fs : List Family) → HoldsOfEach P fs → (i : ℕ) → i < row_count fs → P (row_in fs i)
 each_row P [] h i lt = absurd (omega arith)
@@ -58,3 +55,11 @@ each_row P (f ∷ fs) h i lt = cases (λ past. each_row P fs h.1 (i - f.count) (
 pub each-append : (P : Row → Type 0) (fs gs : List Family) → HoldsOfEach P fs → HoldsOfEach P gs → HoldsOfEach P (fs ++ gs)
 each-append P [] gs h k = k
 each-append P (f ∷ fs) gs h k = (h.0, each-append P fs gs h.1 k)
+
+pub each-front : (P : Row → Type 0) (fs gs : List Family) → HoldsOfEach P (fs ++ gs) → HoldsOfEach P fs
+each-front P [] gs h = tt
+each-front P (f ∷ fs) gs h = (h.0, each-front P fs gs h.1)
+
+pub each-behind : (P : Row → Type 0) (fs gs : List Family) → HoldsOfEach P (fs ++ gs) → HoldsOfEach P gs
+each-behind P [] gs h = h
+each-behind P (f ∷ fs) gs h = each-behind P fs gs h.1
