@@ -15,7 +15,6 @@
 mod fault;
 mod kinds;
 mod laws;
-mod lines;
 mod marks;
 mod reading;
 mod writing;
