@@ -4,4 +4,3 @@ pub mod Heads
 pub mod AnswerLaws
 pub mod Wholes
 mod Outcomes
-mod Pieces

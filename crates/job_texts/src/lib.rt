@@ -14,7 +14,6 @@
 mod fault;
 mod jobs;
 mod laws;
-mod lines;
 mod reading;
 mod writing;
 
