@@ -13,7 +13,6 @@
 
 mod jobs;
 mod laws;
-mod lines;
 mod reading;
 mod writing;
 

@@ -14,7 +14,6 @@
 
 mod kinds;
 mod laws;
-mod lines;
 mod marks;
 mod reading;
 mod writing;
