@@ -1,5 +1,5 @@
 -- Which row the known rules pick.
-use Rattle.std.specs.Prelude.{ℕ, ◌<◌, List, ◌*ℤ◌, ◌<ℤ◌}
+use Rattle.std.specs.Prelude.{ℕ, ◌<◌, List, get_or, ◌*ℤ◌, ◌<ℤ◌}
 use Rattle.branching.specs.declared.view.CoordRow.{CoordRow}
 use Rattle.branching.specs.Rows.{row_at, width_of, IsOpenAt}
 
@@ -22,6 +22,10 @@ IsNarrower r s = (width_of r *ℤ s.root_width) <ℤ (width_of s *ℤ r.root_wid
 abbrev pub IsLessMissed : CoordRow → CoordRow → Type 0
 IsLessMissed r s = r.miss < s.miss
 
+-- how many splits a list says are on a row's coordinate: none where it is shorter
+abbrev pub listed_cuts : List ℕ → CoordRow → ℕ
+listed_cuts cuts r = get_or cuts r.coord 0
+
 -- more splits are on a row's coordinate than on another's
-abbrev pub IsMoreCut : CoordRow → CoordRow → Type 0
-IsMoreCut r s = s.cuts < r.cuts
+abbrev pub IsMoreCut : List ℕ → CoordRow → CoordRow → Type 0
+IsMoreCut cuts r s = listed_cuts cuts s < listed_cuts cuts r

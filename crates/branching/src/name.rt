@@ -1,4 +1,4 @@
-//! The names of the known rules.
+//! The names of the four rules.
 
 /// Which coordinate of a box is cut.
 #[derive(Clone, Copy, Debug, PartialEq, Eq)]

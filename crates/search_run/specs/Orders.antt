@@ -21,17 +21,17 @@ abbrev pub options_of : Orders → Options
 options_of o = record { form = o.form; nodes = o.nodes; gap = o.gap; pivots = 10000; looks = looks_of o.rule }
 
 -- The row that the rule of a name picks: the first open one, or of the open ones the first of the widest, of the most violated, or of
--- those with the fewest splits on their coordinate.
-abbrev pub IsPickedBy : RuleName → List CoordRow → ℕ → Type 0
-IsPickedBy First rows i = IsFirstOpen rows i
-IsPickedBy Widest rows i = IsFirstGreatest IsNarrower rows i
-IsPickedBy Violated rows i = IsFirstGreatest IsLessMissed rows i
-IsPickedBy Fewest rows i = IsFirstGreatest IsMoreCut rows i
+-- those with the fewest splits by these counts.
+abbrev pub IsPickedBy : RuleName → List ℕ → List CoordRow → ℕ → Type 0
+IsPickedBy First cuts rows i = IsFirstOpen rows i
+IsPickedBy Widest cuts rows i = IsFirstGreatest IsNarrower rows i
+IsPickedBy Violated cuts rows i = IsFirstGreatest IsLessMissed rows i
+IsPickedBy Fewest cuts rows i = IsFirstGreatest (IsMoreCut cuts) rows i
 
 -- what the rule of a name may answer at a view
-abbrev pub picked : RuleName → Bor View → ℕ → Type 0
-picked rule v i = IsPickedBy rule v.now.rows i
+abbrev pub picked : RuleName → List ℕ → Bor View → ℕ → Type 0
+picked rule cuts v i = IsPickedBy rule cuts v.now.rows i
 
 -- a closure, by what it may answer, keeps to the rule of a name
-pub record Keeps (rule : RuleName) (post : Bor View → ℕ → Type 0) : Type 0 where
-  pub keeps : (v : Bor View) (i : ℕ) → HasOpen v.now.rows → post v i → picked rule v i
+pub record Keeps (rule : RuleName) (cuts : List ℕ) (post : Bor View → ℕ → Type 0) : Type 0 where
+  pub keeps : (v : Bor View) (i : ℕ) → HasOpen v.now.rows → post v i → picked rule cuts v i
