@@ -5,7 +5,7 @@
 //! answers the place of an open one; [`CutRule::new`] asks for that fact, so [`CutRule::pick`] rests on it and tests nothing.
 //!
 //! [`first_open`], [`widest`], [`most_violated`] and [`fewest`] are the known rules, for closures to call, and a [`RuleName`] names one of
-//! them. A closure that is boxed has its clauses written:
+//! them and picks by it. A closure that is boxed has its clauses written:
 //!
 //! ```text
 //! let closure = Box::new(alloc, |view: &LeafView| -> usize

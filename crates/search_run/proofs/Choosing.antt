@@ -48,7 +48,7 @@ use Rattle.box_space.specs.declared.coordinates.Form.{Form}
 use Rattle.box_space.specs.declared.coordinates.Split.{Split}
 use Rattle.branching.specs.Rows.{View, row_at, no_row, width_of, IsOpenAt}
 use Rattle.branching.specs.Rules.{Answers, IsPick}
-use Rattle.branching.specs.Known.{IsFirstOpen, IsFirstGreatest, IsMoreCut, IsNarrower}
+use Rattle.branching.specs.Known.{IsFirstOpen, IsFirstGreatest, IsMoreCut, IsNarrower, IsPickedBy}
 use Rattle.branching.specs.declared.view.CoordRow.{CoordRow}
 use Rattle.dual_rounding.proofs.FormRows.{passes_more, fails_more, All-numbers}
 use Rattle.branching.specs.declared.name.RuleName.{RuleName}
@@ -56,7 +56,7 @@ use Rattle.branching.specs.declared.name.RuleName.TheVariants.{First, Widest, Vi
 use Rattle.leaf_cuts.specs.Views.{form_coords, IsRowOf, AreRowsOf, IsViewOf}
 use Rattle.search_core.specs.Cases.{IsCuttable}
 use Rattle.leaf_cuts.proofs.FormCoords.{cuts_at, row-of}
-use Rattle.search_run.specs.Orders.{IsPickedBy, picked}
+use Rattle.search_run.specs.Orders.{picked}
 use Rattle.search_run.specs.Steps.{width, IsNarrowerAt, IsWidest, IsFewest, IsChosen}
 
 -- ---- the coordinates of a view's rows rise

@@ -4,13 +4,14 @@ ghost use Rattle.std.specs.Prelude.{IfOk};
 ghost use Rattle.pool_model.specs.Network.{net_of};
 ghost use Rattle.row_model.specs.Entries.{IsEntryInOrder};
 ghost use Rattle.box_tree.specs.Views.{shown_entry};
+ghost use Rattle.branching.specs.Known.{IsPickedBy};
 ghost use Rattle.branching.specs.Rows.{HasOpen};
 ghost use Rattle.search_core.specs.Next.{IsAnswer, IsDo};
 ghost use Rattle.search_core.specs.Searches.{searched, IsSearchOf};
-ghost use Rattle.search_run.specs.Orders.{picked, IsPickedBy, Keeps};
+ghost use Rattle.search_run.specs.Orders.{picked, Keeps};
 
 use blend_network::Network;
-use branching::{CutRule, LeafView, RuleName, fewest, first_open, most_violated, widest};
+use branching::{CutRule, LeafView, RuleName};
 use edge_io::Memory;
 use leaf_cuts::KnownAdvice;
 use search_core::{Answer, Search};
@@ -33,7 +34,7 @@ pub fn next_by(
         move |view: &LeafView| -> usize
             requires { HasOpen view.now.rows }
             ensures { IsPickedBy name view.now.rows result }
-        { pick_by(name, view) },
+        { name.pick(view) },
     )?;
     let rule = CutRule::new(closure);
     next_under(alloc, net, name, search, &rule, known)
@@ -54,17 +55,4 @@ fn next_under(
     ensures in_order { IfOk result (λ a. IsDo (λ entry. IsEntryInOrder (net_of net.now) (searched search.now) (shown_entry entry)) a.due) }
 {
     search.next(alloc, net, rule, known)
-}
-
-/// The row that the rule of a name picks.
-fn pick_by(name: RuleName, view: &LeafView) -> usize
-    requires { HasOpen view.now.rows }
-    ensures { IsPickedBy name view.now.rows result }
-{
-    match name {
-        RuleName::First => first_open(view),
-        RuleName::Widest => widest(view),
-        RuleName::Violated => most_violated(view),
-        RuleName::Fewest => fewest(view),
-    }
 }
