@@ -112,7 +112,7 @@ fn arcs_value(alloc: Global, net: &Network, version: Version) -> Result<Value, A
 fn pools_value(alloc: Global, net: &Network, version: Version) -> Result<Value, AllocError>
     ensures { IfOk result (λ v. view v ≡ list_data (pool_data version net.now.qualities) net.now.pools) }
 {
-    let pools = net.sizes().pools;
+    let [_, pools, _, _, _, _, _] = net.counts();
     let mut list = Vec::new(alloc);
     for n in 0..pools {
         list.push(pool_value(alloc, net, version, n)?)?;
@@ -123,7 +123,7 @@ fn pools_value(alloc: Global, net: &Network, version: Version) -> Result<Value, 
 fn products_value(alloc: Global, net: &Network) -> Result<Value, AllocError>
     ensures { IfOk result (λ v. view v ≡ list_data (product_data net.now.qualities) net.now.products) }
 {
-    let products = net.sizes().products;
+    let [_, _, products, _, _, _, _] = net.counts();
     let mut list = Vec::new(alloc);
     for n in 0..products {
         list.push(product_value(alloc, net, n)?)?;
@@ -135,7 +135,7 @@ fn products_value(alloc: Global, net: &Network) -> Result<Value, AllocError>
 fn names_value(alloc: Global, net: &Network) -> Result<Value, AllocError>
     ensures { IfOk result (λ v. view v ≡ list_data string net.now.qualities) }
 {
-    let qualities = net.sizes().qualities;
+    let [_, _, _, qualities, _, _, _] = net.counts();
     let mut list = Vec::new(alloc);
     for k in 0..qualities {
         list.push(name_value(alloc, net, Kind::Quality, k)?)?;
@@ -146,7 +146,7 @@ fn names_value(alloc: Global, net: &Network) -> Result<Value, AllocError>
 fn sources_value(alloc: Global, net: &Network) -> Result<Value, AllocError>
     ensures { IfOk result (λ v. view v ≡ list_data (source_data net.now.qualities) net.now.sources) }
 {
-    let sources = net.sizes().sources;
+    let [sources, _, _, _, _, _, _] = net.counts();
     let mut list = Vec::new(alloc);
     for n in 0..sources {
         list.push(source_value(alloc, net, n)?)?;
