@@ -49,7 +49,7 @@ pub fn answers_to(
     )?;
     let rule = CutRule::new(closure);
     // a network in memory keeps within its limits
-    let _counts = net.counts();
+    let _counts = net.sizes();
     answers_by(alloc, net, form, tree, jobs, &rule)
 }
 

@@ -95,15 +95,15 @@ fn arcs_value(alloc: Global, net: &Network, version: Version) -> Result<Value, A
     ensures made { IsMade net.now }
     ensures limited { IsLimited (net_of net.now) }
 {
-    let [_, _, _, _, feeds, outs, directs] = net.counts();
+    let counts = net.sizes();
     let mut list = Vec::new(alloc);
-    'feeds: for n in 0..feeds {
+    'feeds: for n in 0..counts.feeds {
         list.push(feed_value(alloc, net, version, n)?)?;
     }
-    'outs: for n in 0..outs {
+    'outs: for n in 0..counts.outs {
         list.push(out_value(alloc, net, version, n)?)?;
     }
-    'directs: for n in 0..directs {
+    'directs: for n in 0..counts.directs {
         list.push(direct_value(alloc, net, version, n)?)?;
     }
     Ok(Value::Array(list))
