@@ -1,4 +1,5 @@
 -- Lemmas behind the checker.
+pub mod Lowest
 pub mod Within
 pub mod Taking
 pub mod Order
@@ -7,7 +8,7 @@ pub mod Followed
 pub mod Fields
 pub mod Openings
 pub mod Fronts
-pub mod Planning
+pub mod Listing
 pub mod Claiming
 pub mod Cutting
 pub mod Streaming

@@ -6,4 +6,3 @@ pub mod Steps
 pub mod Each
 pub mod WindowLaws
 pub mod Windows
-pub mod Outcomes

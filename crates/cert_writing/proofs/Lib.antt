@@ -1,2 +1,1 @@
--- Lemmas on lines and lists of texts.
-pub mod Pieces
+mod Lines

@@ -58,8 +58,7 @@ fn plan(plan: &WrittenPlan)
     flows(plan.direct.as_slice());
 }
 
-/// Splits that are held are in range.
-pub fn splits(splits: &[Split])
+fn splits(splits: &[Split])
     ensures { All (λ s. IsSplitInRange (shown_split s)) splits.now }
 {
     for each in splits {
@@ -67,8 +66,7 @@ pub fn splits(splits: &[Split])
     }
 }
 
-/// A split that is held is in range.
-pub fn split(split: &Split)
+fn split(split: &Split)
     ensures { IsSplitInRange (shown_split split.now) }
 {
     let _leaf = split.leaf;
@@ -92,8 +90,7 @@ fn proof(proof: &NodeProof)
     parts(proof.proof.parts.as_slice());
 }
 
-/// Parts that are held are in range.
-pub fn parts(parts: &[Part])
+fn parts(parts: &[Part])
     ensures { All (λ p. IsPartInRange (shown_part p)) parts.now }
 {
     for each in parts {
@@ -108,8 +105,7 @@ fn part(part: &Part)
     let _mult = part.mult;
 }
 
-/// Numbers that are held are in range.
-pub fn numbers(numbers: &[u32])
+fn numbers(numbers: &[u32])
     ensures { All (λ n. n < 2 ^ 32) numbers.now }
 {
     for number in numbers {

@@ -3,3 +3,5 @@ pub mod JobLaws
 pub mod Heads
 pub mod AnswerLaws
 pub mod Wholes
+mod Outcomes
+mod Pieces

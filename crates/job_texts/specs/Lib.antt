@@ -1,3 +1,4 @@
 pub mod Texts
 pub mod Reading
 pub mod Views
+pub mod Results

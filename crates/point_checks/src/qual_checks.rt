@@ -25,12 +25,15 @@ pub(crate) fn has_shape(net: &Network, point: &QualSlices) -> bool
     ensures limited { IsLimited (net_of net.now) }
 {
     let counts = net.sizes();
-    are_bases(point.flows.base, point.qual_base)
-        && point.flows.feeds.len() == counts.feeds as usize
+    if !are_bases(point.flows.base, point.qual_base) {
+        return false;
+    }
+    let flows = point.flows.feeds.len() == counts.feeds as usize
         && point.flows.outs.len() == counts.outs as usize
-        && point.flows.directs.len() == counts.directs as usize
-        && point.quals.len() == cells(counts.pools, counts.qualities)
-        && point.mix.len() == cells(counts.outs, counts.qualities)
+        && point.flows.directs.len() == counts.directs as usize;
+    let qualities = point.quals.len() == cells(counts.pools, counts.qualities)
+        && point.mix.len() == cells(counts.outs, counts.qualities);
+    flows && qualities
 }
 
 /// How many cells a grid has.

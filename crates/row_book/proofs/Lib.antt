@@ -1,4 +1,5 @@
 -- Lemmas behind the proofs.
+pub mod Families
 pub mod NearEnds
 pub mod RowSizes
 pub mod Placing
