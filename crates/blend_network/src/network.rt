@@ -124,6 +124,7 @@ impl Network {
         ensures counts { AreCounts (net_of self.now) result }
         ensures limited { IsLimited (net_of self.now) }
         ensures paths { length (paths_of (net_of self.now)) ≤ 512 }
+        ensures made { IsMade self.now }
     {
         let [sources, pools, products, qualities, feeds, outs, directs] = self.counts();
         Counts {

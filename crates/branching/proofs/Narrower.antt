@@ -1,11 +1,11 @@
--- The orders of the known rules.
+-- The order of the widest rows.
 use Rattle.std.proofs.Common.{ℕ, ℤ, pos, ◌*ℤ◌, ◌≤ℤ◌, ◌<ℤ◌, ◌-ℤ◌, ◌+ℤ◌, List, arith}
 use Rattle.std.proofs.lemmas.Int.{ints}
 use Rattle.integers.proofs.Ring.{sorted, additive}
 use Rattle.integers.proofs.Order.{le-mul, lt-mul, lt-cancel}
 use Rattle.branching.specs.declared.view.CoordRow.{CoordRow}
 use Rattle.branching.specs.Rows.{row_at, width_of, IsOpenAt, AreRows}
-use Rattle.branching.specs.Known.{IsNarrower, IsMoreCut}
+use Rattle.branching.specs.Known.{IsNarrower}
 use Rattle.branching.proofs.Greatest.{IsWeakOrder}
 
 -- a/x is at most b/y, and that is below c/z
@@ -29,10 +29,4 @@ narrower_is rows are = record {
   trans = λ i j k at_i at_j at_k most less.
       le_then_lt (width_of (row_at rows i)) (row_at rows i).root_width (width_of (row_at rows j)) (row_at rows j).root_width (width_of (row_at rows k)) (row_at rows k).root_width
       (root_wide rows i are at_i) (root_wide rows j are at_j) (root_wide rows k are at_k) (not_lt _ _ most) less;
-}
-
-pub more_cut_is : (cuts : List ℕ) (rows : List CoordRow) → IsWeakOrder (IsMoreCut cuts) rows
-more_cut_is cuts rows = record {
-  asymmetric = λ i j here there less more. omega arith;
-  trans = λ i j k at_i at_j at_k most less. grind arith;
 }

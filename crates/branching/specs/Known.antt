@@ -1,5 +1,7 @@
 -- Which row the known rules pick.
-use Rattle.std.specs.Prelude.{ℕ, ◌<◌, List, get_or, ◌*ℤ◌, ◌<ℤ◌}
+use Rattle.std.specs.Prelude.{ℕ, ◌<◌, List, ◌*ℤ◌, ◌<ℤ◌}
+use Rattle.branching.specs.declared.name.RuleName.{RuleName}
+use Rattle.branching.specs.declared.name.RuleName.TheVariants.{First, Widest, Violated, Fewest}
 use Rattle.branching.specs.declared.view.CoordRow.{CoordRow}
 use Rattle.branching.specs.Rows.{row_at, width_of, IsOpenAt}
 
@@ -22,10 +24,14 @@ IsNarrower r s = (width_of r *ℤ s.root_width) <ℤ (width_of s *ℤ r.root_wid
 abbrev pub IsLessMissed : CoordRow → CoordRow → Type 0
 IsLessMissed r s = r.miss < s.miss
 
--- how many splits a list says are on a row's coordinate: none where it is shorter
-abbrev pub listed_cuts : List ℕ → CoordRow → ℕ
-listed_cuts cuts r = get_or cuts r.coord 0
-
 -- more splits are on a row's coordinate than on another's
-abbrev pub IsMoreCut : List ℕ → CoordRow → CoordRow → Type 0
-IsMoreCut cuts r s = listed_cuts cuts s < listed_cuts cuts r
+abbrev pub IsMoreCut : CoordRow → CoordRow → Type 0
+IsMoreCut r s = s.cuts < r.cuts
+
+-- The row that the rule of a name picks: the first open one, or of the open ones the first of the widest, of the most violated, or of
+-- those with the fewest splits on their coordinate.
+abbrev pub IsPickedBy : RuleName → List CoordRow → ℕ → Type 0
+IsPickedBy First rows i = IsFirstOpen rows i
+IsPickedBy Widest rows i = IsFirstGreatest IsNarrower rows i
+IsPickedBy Violated rows i = IsFirstGreatest IsLessMissed rows i
+IsPickedBy Fewest rows i = IsFirstGreatest IsMoreCut rows i

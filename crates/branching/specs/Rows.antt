@@ -10,7 +10,7 @@ pub record View : Type 0 where
 
 -- what stands behind the last row
 abbrev pub no_row : CoordRow
-no_row = record { coord = 0; low = pos 0; high = pos 0; root_width = pos 0; miss = 0 }
+no_row = record { coord = 0; cuts = 0; low = pos 0; high = pos 0; root_width = pos 0; miss = 0 }
 
 abbrev pub row_at : List CoordRow → ℕ → CoordRow
 row_at rows i = get_or rows i no_row
@@ -18,7 +18,7 @@ row_at rows i = get_or rows i no_row
 abbrev pub width_of : CoordRow → ℤ
 width_of r = r.high -ℤ r.low
 
--- The ends are in order, at most 2^61 from 0, and no further apart than in the root box. The last two are so of every row that
+-- The ends are in order, at most 2^61 from 0, and no further apart than in the root box. The last three are so of every row that
 -- a program can hold.
 pub record IsRow (r : CoordRow) : Type 0 where
   pub in_order : r.low ≤ℤ r.high
@@ -26,6 +26,7 @@ pub record IsRow (r : CoordRow) : Type 0 where
   pub high : r.high ≤ℤ pos (2 ^ 61)
   pub within : width_of r ≤ℤ r.root_width
   pub numbered : r.coord < 2 ^ 32
+  pub counted : r.cuts < 2 ^ 32
   pub missed : r.miss < 2 ^ 64
 
 -- each is a row, and no two are of one coordinate

@@ -1,15 +1,15 @@
-//! Four rules.
+//! The known rules.
 
 ghost use Rattle.std.specs.Prelude.{◌≡◌, ◌↔◌, IsTrue, ◌*ℤ◌};
 ghost use Rattle.branching.specs.Rows.{HasOpen, IsOpen, IsRow};
-ghost use Rattle.branching.specs.Known.{IsFirstGreatest, IsFirstOpen, IsLessMissed, IsMoreCut, IsNarrower, listed_cuts};
+ghost use Rattle.branching.specs.Known.{IsFirstGreatest, IsFirstOpen, IsLessMissed, IsMoreCut, IsNarrower};
 
 use crate::view::{CoordRow, LeafView};
 
 /// The first open row.
 pub fn first_open(view: &LeafView) -> usize
     requires { HasOpen view.now.rows }
-    // Promise: The four known rules pick the first open, the first of the widest, the first of the most missed row, and the first of those
+    // Promise: The known rules pick the first open, the first of the widest, the first of the most missed row, and the first of those
     //   with the fewest splits on their coordinate
     ensures { IsFirstOpen view.now.rows result }
 {
@@ -25,7 +25,7 @@ pub fn first_open(view: &LeafView) -> usize
 /// The open row that is the widest, measured by its width in the root box: the first of the widest.
 pub fn widest(view: &LeafView) -> usize
     requires { HasOpen view.now.rows }
-    // Promise: The four known rules pick the first open, the first of the widest, the first of the most missed row, and the first of those
+    // Promise: The known rules pick the first open, the first of the widest, the first of the most missed row, and the first of those
     //   with the fewest splits on their coordinate
     ensures { IsFirstGreatest IsNarrower view.now.rows result }
 {
@@ -51,7 +51,7 @@ fn is_narrower(row: &CoordRow, other: &CoordRow) -> bool
 /// The open row of the greatest `miss`: the first of the greatest.
 pub fn most_violated(view: &LeafView) -> usize
     requires { HasOpen view.now.rows }
-    // Promise: The four known rules pick the first open, the first of the widest, the first of the most missed row, and the first of those
+    // Promise: The known rules pick the first open, the first of the widest, the first of the most missed row, and the first of those
     //   with the fewest splits on their coordinate
     ensures { IsFirstGreatest IsLessMissed view.now.rows result }
 {
@@ -65,32 +65,21 @@ pub fn most_violated(view: &LeafView) -> usize
     best
 }
 
-/// The open row with the fewest splits on its coordinate: the first of the fewest. `cuts` has the number of splits for each
-/// coordinate, and a coordinate past its end has none.
-pub fn fewest(view: &LeafView, cuts: &[u32]) -> usize
+/// The open row with the fewest splits on its coordinate: the first of the fewest.
+pub fn fewest(view: &LeafView) -> usize
     requires { HasOpen view.now.rows }
-    // Promise: The four known rules pick the first open, the first of the widest, the first of the most missed row, and the first of those
+    // Promise: The known rules pick the first open, the first of the widest, the first of the most missed row, and the first of those
     //   with the fewest splits on their coordinate
-    ensures { IsFirstGreatest (IsMoreCut cuts.now) view.now.rows result }
+    ensures { IsFirstGreatest IsMoreCut view.now.rows result }
 {
     let rows = view.rows();
     let mut best = first_open(view);
     for (place, row) in rows.iter().enumerate() {
-        if row.is_open() && cuts_on(cuts, row) < cuts_on(cuts, &rows[best]) {
+        if row.is_open() && row.cuts < rows[best].cuts {
             best = place;
         }
     }
     best
-}
-
-/// How many splits are on a row's coordinate.
-fn cuts_on(cuts: &[u32], row: &CoordRow) -> u32
-    ensures { result ≡ listed_cuts cuts.now row.now }
-{
-    match cuts.get(row.coord as usize) {
-        Some(count) => *count,
-        None => 0,
-    }
 }
 
 fn product(width: i64, root_width: i64) -> i128

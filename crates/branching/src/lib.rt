@@ -4,8 +4,8 @@
 //! closure that answers the place of a row. [`CutRule`] keeps such a closure beside the fact that on every view with an open row it
 //! answers the place of an open one; [`CutRule::new`] asks for that fact, so [`CutRule::pick`] rests on it and tests nothing.
 //!
-//! [`first_open`], [`widest`], [`most_violated`] and [`fewest`] are four rules, for closures to call; the last one goes by counts that
-//! its closure carries. A [`RuleName`] names one of them. A closure that is boxed has its clauses written:
+//! [`first_open`], [`widest`], [`most_violated`] and [`fewest`] are the known rules, for closures to call, and a [`RuleName`] names one of
+//! them and picks by it. A closure that is boxed has its clauses written:
 //!
 //! ```text
 //! let closure = Box::new(alloc, |view: &LeafView| -> usize
@@ -18,7 +18,7 @@
 //! ```
 //!
 //! `specs/Rows.antt` says what a view is, `specs/Rules.antt` what is kept of a rule and what a pick is, `specs/Known.antt` which row
-//! the four rules answer. Which leaf is cut, and how the rows of its view come about, is left to the crates above.
+//! the known rules answer. Which leaf is cut, and how the rows of its view come about, is left to the crates above.
 //!
 //! Proofs above may cite `proofs/Pushed.antt`: the rows of a view, with one more behind them.
 #![tactic(auto)]

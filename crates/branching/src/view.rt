@@ -10,6 +10,8 @@ use std::marker::Model;
 pub struct CoordRow {
     /// The number of the coordinate.
     pub coord: u32,
+    /// How many splits of the tree are on it.
+    pub cuts: u32,
     /// The ends in the leaf's box.
     pub low: i64,
     pub high: i64,

@@ -13,7 +13,7 @@ use Rattle.split_tree.specs.Splits.{Splits, IsOf}
 use Rattle.cert_format.specs.Cert.{Cert, NodeProof, FitsShape, IsCert}
 use Rattle.cert_format.specs.declared.reading.Kind.{Kind}
 use Rattle.cert_format.specs.Valid.{no_proof}
-use Rattle.cert_stream.specs.Items.{Field, kind, shape, splits, cut, proofs, head, kind_number, claimed_kind, proof_items, items_of}
+use Rattle.cert_stream.specs.Items.{Field, kind, shape, splits, cut, proofs, head, proof_items, items_of}
 use Rattle.proof_lines.specs.declared.refusal.Refusal.{Refusal}
 use Rattle.proof_lines.specs.declared.refusal.Refusal.TheVariants.{Shape, Split as SplitAt, ProofPlace, Proof as ProofOf, Memory}
 use Rattle.cert_checker.specs.declared.opening.Opening.{Opening}
@@ -27,7 +27,7 @@ use Rattle.cert_checker.proofs.Order.{shape-refused, plan-refused, tree-refused}
 use Rattle.cert_checker.proofs.Within.{order-within}
 use Rattle.proof_lines.proofs.Outcomes.{splits-of, proof-tree}
 use Rattle.cert_checker.proofs.Fields.{lines-front, lines-same, line-head}
-use Rattle.cert_checker.proofs.Openings.{behind_plan, behind_lines, kind-same, begins-kind, begins-plan, begins-opening, begins-splits, all-splits, begins-lines}
+use Rattle.cert_checker.proofs.Openings.{behind_plan, behind_lines, begins-kind, begins-plan, begins-opening, begins-splits, all-splits, begins-lines}
 
 -- ---- fronts of lists
 
@@ -77,16 +77,16 @@ place-front count node lines rest p at placed wrong =
 
 -- ---- refusals
 
-pub shape-front : (n : Net) (k : ℕ) (sh : List ℕ) → sh ≢ counts_of n → IsRefusedFront n (kind k ∷ shape sh ∷ []) Shape
+pub shape-front : (n : Net) (k : Kind) (sh : List ℕ) → sh ≢ counts_of n → IsRefusedFront n (kind k ∷ shape sh ∷ []) Shape
 shape-front n k sh other c more is e =
     let b = begins-kind c k sh more e in
     shape-refused n c (λ same. other (sym b.1 ∙ same))
 
 -- the plan of the claim breaks the rule
-pub plan-front : (n : Net) (k : Kind) (items : List Field) (r : Refusal) → IsWrongPlan n k items r → IsRefusedFront n (kind (kind_number k) ∷ shape (counts_of n) ∷ items) r
+pub plan-front : (n : Net) (k : Kind) (items : List Field) (r : Refusal) → IsWrongPlan n k items r → IsRefusedFront n (kind k ∷ shape (counts_of n) ∷ items) r
 plan-front n k items r w c more is e =
-    let b = begins-kind c (kind_number k) (counts_of n) (items ++ more) e in
-    let gap = kind-same (claimed_kind c.claim) k b.0 ∙ w.kind_is in
+    let b = begins-kind c k (counts_of n) (items ++ more) e in
+    let gap = b.0 ∙ w.kind_is in
     let p = begins-plan c w.plan more is gap (subst (λ (s : List ℕ). FitsShape s w.plan) (sym b.1) w.fits) (b.2 ∙ ap (λ (l : List Field). l ++ more) w.items_are) in
     plan-refused n c r b.1 record { fault = w.fault; is = w.is; has = subst (λ (x : Claimed). HasPlanFault n x w.fault) (sym p.4) w.first }
 
@@ -100,13 +100,12 @@ claim-cost n _ _ planned is = absurd is
 module _ (n : Net) (o : Opening) (planned : IsPlanned n o) where
   -- the items up to the plan
   abbrev Front : List Field → List Field
-  Front more = kind (kind_number (opening_kind o)) ∷ shape (counts_of n) ∷ (opening_items o ++ more)
+  Front more = kind (opening_kind o) ∷ shape (counts_of n) ∷ (opening_items o ++ more)
 
   opened : (c : Cert) (more : List Field) → IsCert c → items_of c ≡ Front more → (c.shape ≡ counts_of n) × IsClaimCost n c.claim (opening_cost o) × (behind_plan c ≡ more)
   opened c more is e =
-      let b = begins-kind c (kind_number (opening_kind o)) (counts_of n) (opening_items o ++ more) e in
-      let k = kind-same (claimed_kind c.claim) (opening_kind o) b.0 in
-      let p = begins-opening n c o more is k b.1 planned b.2 in
+      let b = begins-kind c (opening_kind o) (counts_of n) (opening_items o ++ more) e in
+      let p = begins-opening n c o more is b.0 b.1 planned b.2 in
       (b.1, claim-cost n o c.claim planned p.0, p.1)
 
   pub split-refused : (items more : List Field) (r : Refusal) (c : Cert) → IsWrongSplitList n items r → IsCert c → items_of c ≡ Front (items ++ more) → IsFirstRefusal n c r

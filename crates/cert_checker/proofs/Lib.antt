@@ -1,5 +1,4 @@
 -- Lemmas behind the checker.
-pub mod Lowest
 pub mod Within
 pub mod Taking
 pub mod Order
@@ -8,7 +7,7 @@ pub mod Followed
 pub mod Fields
 pub mod Openings
 pub mod Fronts
-pub mod Listing
+pub mod Planning
 pub mod Claiming
 pub mod Cutting
 pub mod Streaming

@@ -10,7 +10,7 @@ use Rattle.plan_core.specs.Views.{shown_plan}
 use Rattle.cert_format.specs.Cert.{Cert, FitsShape, ClaimFits, IsCert}
 use Rattle.cert_format.specs.declared.reading.Kind.{Kind}
 use Rattle.cert_format.specs.declared.reading.Kind.TheVariants as kinds
-use Rattle.cert_stream.specs.Items.{Field, kind, shape, weight, outflow, direct, splits, cut, proofs, end_is, kind_number, claimed_kind, plan_items}
+use Rattle.cert_stream.specs.Items.{Field, kind, shape, weight, outflow, direct, splits, cut, proofs, end_is, claimed_kind, plan_items}
 use Rattle.cert_stream.specs.Items.{claimed_plan_items, proof_items, claim_items, items_of}
 use Rattle.cert_checker.specs.declared.opening.Opening.{Opening}
 use Rattle.cert_checker.specs.declared.opening.Opening.TheVariants as openings
@@ -30,18 +30,7 @@ behind_plan c = splits (length c.splits) ∷ (map cut c.splits ++ behind_splits 
 
 -- ---- the kind and the shape
 
-pub kind-same : (k j : Kind) → kind_number k ≡ kind_number j → k ≡ j
-kind-same kinds.Gap kinds.Gap e = refl
-kind-same kinds.Bound kinds.Bound e = refl
-kind-same kinds.NoPlan kinds.NoPlan e = refl
-kind-same kinds.Gap kinds.Bound e = absurd (omega (arith, e))
-kind-same kinds.Gap kinds.NoPlan e = absurd (omega (arith, e))
-kind-same kinds.Bound kinds.Gap e = absurd (omega (arith, e))
-kind-same kinds.Bound kinds.NoPlan e = absurd (omega (arith, e))
-kind-same kinds.NoPlan kinds.Gap e = absurd (omega (arith, e))
-kind-same kinds.NoPlan kinds.Bound e = absurd (omega (arith, e))
-
-pub begins-kind : (c : Cert) (k : ℕ) (sh : List ℕ) (more : List Field) → items_of c ≡ kind k ∷ shape sh ∷ more → (kind_number (claimed_kind c.claim) ≡ k) × (c.shape ≡ sh)
+pub begins-kind : (c : Cert) (k : Kind) (sh : List ℕ) (more : List Field) → items_of c ≡ kind k ∷ shape sh ∷ more → (claimed_kind c.claim ≡ k) × (c.shape ≡ sh)
     × (claimed_plan_items c.claim ++ behind_plan c ≡ more)
 begins-kind c k sh more e = (cc, cc, cc)
 
@@ -140,9 +129,8 @@ claim-same counts _ _ us vs fx fy k e = absurd cc
 
 pub items-same : (c d : Cert) → IsCert c → ClaimFits d.shape d.claim → items_of c ≡ items_of d → c ≡ d
 items-same c d is fits e =
-    let b = begins-kind c (kind_number (claimed_kind d.claim)) d.shape (claimed_plan_items d.claim ++ behind_plan d) e in
-    let cl = claim-same c.shape c.claim d.claim (behind_plan c) (behind_plan d) is.shaped.claim (subst (λ (s : List ℕ). ClaimFits s d.claim) (sym b.1) fits)
-    (kind-same (claimed_kind c.claim) (claimed_kind d.claim) b.0) b.2 in
+    let b = begins-kind c (claimed_kind d.claim) d.shape (claimed_plan_items d.claim ++ behind_plan d) e in
+    let cl = claim-same c.shape c.claim d.claim (behind_plan c) (behind_plan d) is.shaped.claim (subst (λ (s : List ℕ). ClaimFits s d.claim) (sym b.1) fits) b.0 b.2 in
     let ss = all-splits c d.splits (behind_splits d) cl.1 in
     let pl = begins-lines c (length d.proofs) (flat_map proof_items d.proofs ++ behind_lines d) ss.1 in
     let ps = lines-same c.proofs d.proofs (behind_lines c) (behind_lines d) pl.0 pl.1 in

@@ -14,7 +14,7 @@ use Rattle.row_model.specs.Trees.{Tree, IsTree, tree_bound}
 use Rattle.row_model.proofs.TreeBound.{tree-bound}
 use Rattle.plan_core.specs.Faults.{IsCostOf}
 use Rattle.plan_core.specs.declared.plan.Cost.{Cost}
-use Rattle.cert_checker.proofs.Lowest.{AtLeast, tree-above}
+use Rattle.row_model.proofs.Lowest.{AtLeast, tree-above}
 
 low_of : (r z : ℤ) (m : ℕ) → unsigned_abs r ≤ m → r ≤ℤ z → neg_ℤ (pos m) ≤ℤ z
 low_of r z m h k = omega (arith, ints, h, k)

@@ -12,7 +12,7 @@ use Rattle.cert_format.specs.declared.reading.Kind.{Kind}
 use Rattle.split_tree.specs.Splits.{Splits, IsOf}
 use Rattle.cert_stream.specs.declared.fault.ItemFault.{ItemFault}
 use Rattle.cert_items.specs.declared.items.State.TheVariants as states
-use Rattle.cert_stream.specs.Items.{Field, kind, shape, splits, cut, proofs, end_is, kind_number, claimed_kind, plan_items, claimed_plan_items, proof_items}
+use Rattle.cert_stream.specs.Items.{Field, kind, shape, splits, cut, proofs, end_is, claimed_kind, plan_items, claimed_plan_items, proof_items}
 use Rattle.cert_stream.specs.Items.{claim_items, items_of, claim_state, shaped_state}
 use Rattle.cert_stream.specs.Streams.{IsAtEnd}
 use Rattle.cert_checker.specs.declared.opening.Opening.{Opening}
@@ -20,7 +20,6 @@ use Rattle.cert_checker.specs.declared.opening.Opening.TheVariants as openings
 use Rattle.proof_lines.specs.declared.refusal.Refusal.TheVariants.{Shape}
 use Rattle.proof_lines.specs.declared.stream_refusal.StreamRefusal.{StreamRefusal}
 use Rattle.proof_lines.specs.declared.stream_refusal.StreamRefusal.TheVariants.{Refused}
-use Rattle.proof_lines.specs.Grammar.{kind_of}
 use Rattle.proof_lines.specs.Parts.{IsTaken, AreProofs, AreWrongProofs}
 use Rattle.cert_checker.specs.Parts.{IsBegun, IsOpening, IsPlanned, IsWrongPlan, IsSplitList, IsWrongSplitList}
 use Rattle.cert_checker.specs.Parts.{IsClaimOf, IsClaimRead, IsRefusedFront, IsWalked, opening_kind, opening_items, opening_cost}
@@ -33,7 +32,7 @@ use Rattle.proof_lines.proofs.Running.{run-then, halts-then, failed-then, failed
 -- ---- the kind and the shape
 
 -- the counts are others than the network's
-pub shape-halts : (n : Net) (m j : Moment) (k : ℕ) (sh : List ℕ) → Run m j (kind k ∷ shape sh ∷ []) → IsReady j (shaped_state (kind_of k) sh) → sh ≢ counts_of n
+pub shape-halts : (n : Net) (m j : Moment) (k : Kind) (sh : List ℕ) → Run m j (kind k ∷ shape sh ∷ []) → IsReady j (shaped_state k sh) → sh ≢ counts_of n
     → Halts (IsRefusedFront n) m j (Refused Shape)
 shape-halts n m j k sh run ready other = record {
   kept = run.kept;
@@ -41,27 +40,27 @@ shape-halts n m j k sh run ready other = record {
   cause = record {
     items = kind k ∷ shape sh ∷ [];
     run = run;
-    going = λ over. shaped-going (kind_of k) sh (sym ready.at ∙ over);
+    going = λ over. shaped-going k sh (sym ready.at ∙ over);
     used_up = ready.used_up;
     found = shape-front n k sh other;
   };
 }
 
-pub begun : (n : Net) (m j : Moment) (k : ℕ) (sh : List ℕ) → Run m j (kind k ∷ shape sh ∷ []) → IsReady j (shaped_state (kind_of k) sh) → kind_number (kind_of k) ≡ k
+pub begun : (n : Net) (m j : Moment) (k : Kind) (sh : List ℕ) → Run m j (kind k ∷ shape sh ∷ []) → IsReady j (shaped_state k sh)
     → sh ≡ counts_of n → IsTaken (IsBegun n) m j k
-begun n m j k sh run ready known same = record {
+begun n m j k sh run ready same = record {
   items = kind k ∷ shape (counts_of n) ∷ [];
-  state = shaped_state (kind_of k) (counts_of n);
+  state = shaped_state k (counts_of n);
   run = subst (λ (s : List ℕ). Run m j (kind k ∷ shape s ∷ [])) same run;
-  ready = subst (λ (s : List ℕ). IsReady j (shaped_state (kind_of k) s)) same ready;
-  is = record { items_are = refl; known = known; next_is = refl };
+  ready = subst (λ (s : List ℕ). IsReady j (shaped_state k s)) same ready;
+  is = record { items_are = refl; next_is = refl };
 }
 
 -- ---- the plan
 
 -- the items up to the plan
 abbrev up_to_plan : Net → Opening → List Field → List Field
-up_to_plan n o more = kind (kind_number (opening_kind o)) ∷ shape (counts_of n) ∷ (opening_items o ++ more)
+up_to_plan n o more = kind (opening_kind o) ∷ shape (counts_of n) ∷ (opening_items o ++ more)
 
 -- all up to the plan was read
 pub record IsOpenTo (n : Net) (m l : Moment) (o : Opening) : Type 0 where
@@ -69,22 +68,21 @@ pub record IsOpenTo (n : Net) (m l : Moment) (o : Opening) : Type 0 where
   pub run : Run m l (up_to_plan n o [])
   pub ready : IsReady l (states.Splits (opening_kind o))
 
-pub open-to : (n : Net) (m j l : Moment) (k : ℕ) (o : Opening) → IsTaken (IsBegun n) m j k → IsTaken (IsOpening n (kind_of k)) j l o → IsOpenTo n m l o
+pub open-to : (n : Net) (m j l : Moment) (k : Kind) (o : Opening) → IsTaken (IsBegun n) m j k → IsTaken (IsOpening n k) j l o → IsOpenTo n m l o
 open-to n m j l k o a b =
-    let same : k ≡ kind_number (opening_kind o) = sym a.is.known ∙ ap kind_number (sym b.is.kind_is) in
     let both : Run m l ((kind k ∷ shape (counts_of n) ∷ []) ++ opening_items o) = run-then m j l (kind k ∷ shape (counts_of n) ∷ []) (opening_items o)
     (subst (Run m j) a.is.items_are a.run) (subst (Run j l) b.is.items_are b.run) in
     record {
       planned = b.is.planned;
-      run = subst (λ (i : ℕ). Run m l (kind i ∷ shape (counts_of n) ∷ (opening_items o ++ []))) same
+      run = subst (λ (i : Kind). Run m l (kind i ∷ shape (counts_of n) ∷ (opening_items o ++ []))) (sym b.is.kind_is)
           (subst (λ (x : List Field). Run m l (kind k ∷ shape (counts_of n) ∷ x)) (sym (append-nil (opening_items o))) both);
       ready = subst (IsReady l) (b.is.next_is ∙ ap states.Splits (sym b.is.kind_is)) b.ready;
     }
 
-pub plan-refused-front : (n : Net) (m j l : Moment) (k : ℕ) (r : StreamRefusal) → IsTaken (IsBegun n) m j k → Halts (IsWrongPlan n (kind_of k)) j l r → Halts (IsRefusedFront n) m l r
+pub plan-refused-front : (n : Net) (m j l : Moment) (k : Kind) (r : StreamRefusal) → IsTaken (IsBegun n) m j k → Halts (IsWrongPlan n k) j l r → Halts (IsRefusedFront n) m l r
 plan-refused-front n m j l k r a b =
-    halts-then (IsWrongPlan n (kind_of k)) (IsRefusedFront n) m j l (kind k ∷ shape (counts_of n) ∷ []) r
-    (λ items c w. subst (λ (i : ℕ). IsRefusedFront n (kind i ∷ shape (counts_of n) ∷ items) c) a.is.known (plan-front n (kind_of k) items c w)) (subst (Run m j) a.is.items_are a.run) b
+    halts-then (IsWrongPlan n k) (IsRefusedFront n) m j l (kind k ∷ shape (counts_of n) ∷ []) r
+    (plan-front n k) (subst (Run m j) a.is.items_are a.run) b
 
 -- ---- the splits
 
@@ -93,7 +91,7 @@ module _ (n : Net) (m l : Moment) (o : Opening) (opened : IsOpenTo n m l o) wher
   split-halts q r b =
       halts-then (IsWrongSplitList n) (IsRefusedFront n) m l q (up_to_plan n o []) r
       (λ items c w cert more is e. split-refused n o opened.planned items more c cert w is
-      (e ∙ ap (λ (x : List Field). kind (kind_number (opening_kind o)) ∷ shape (counts_of n) ∷ x)
+      (e ∙ ap (λ (x : List Field). kind (opening_kind o) ∷ shape (counts_of n) ∷ x)
       (ap (λ (x : List Field). (x ++ items) ++ more) (append-nil (opening_items o)) ∙ append_assoc (opening_items o) items more))) opened.run b
 
 -- the items of the splits
@@ -111,7 +109,7 @@ pub cut-to : (n : Net) (m l q : Moment) (o : Opening) (tree : Splits) → IsOpen
 cut-to n m l q o tree a b = record {
   planned = a.planned;
   is = b.is.is;
-  run = subst (λ (x : List Field). Run m q (kind (kind_number (opening_kind o)) ∷ shape (counts_of n) ∷ (x ++ split_items tree))) (append-nil (opening_items o))
+  run = subst (λ (x : List Field). Run m q (kind (opening_kind o) ∷ shape (counts_of n) ∷ (x ++ split_items tree))) (append-nil (opening_items o))
       (run-then m l q (up_to_plan n o []) (split_items tree) a.run (subst (Run l q) b.is.items_are b.run));
   ready = subst (IsReady q) b.is.next_is b.ready;
 }
@@ -127,7 +125,7 @@ module _ (n : Net) (m q : Moment) (o : Opening) (tree : Splits) (done : IsCutTo 
   proof-halts h r b =
       halts-then (AreWrongProofs n tree.list) (IsRefusedFront n) m q h (up_to_plan n o (split_items tree)) r
       (λ items c w cert more is e. line-refused n o done.planned tree done.is w.count w.behind more c cert w.wrong is
-      (e ∙ ap (λ (x : List Field). kind (kind_number (opening_kind o)) ∷ shape (counts_of n) ∷ x)
+      (e ∙ ap (λ (x : List Field). kind (opening_kind o) ∷ shape (counts_of n) ∷ x)
       (regroup items more ∙ ap (λ (x : List Field). opening_items o ++ (split_items tree ++ (x ++ more))) w.items_are))) done.run b
 
 -- all up to the proofs was read
@@ -146,7 +144,7 @@ proved-to n m q h o tree bound a b =
       planned = a.planned;
       lines = b.is.lines;
       is = b.is.tree;
-      run = subst (λ (x : List Field). Run m h (kind (kind_number (opening_kind o)) ∷ shape (counts_of n) ∷ x)) (append_assoc (opening_items o) (split_items tree) items)
+      run = subst (λ (x : List Field). Run m h (kind (opening_kind o) ∷ shape (counts_of n) ∷ x)) (append_assoc (opening_items o) (split_items tree) items)
           (run-then m q h (up_to_plan n o (split_items tree)) items a.run (subst (Run q h) b.is.items_are b.run));
       ready = subst (IsReady h) b.is.next_is b.ready;
     }
@@ -173,7 +171,7 @@ claim-fits n _ _ planned is = absurd is
 
 -- the items of a whole certificate, from its parts
 whole-items : (n : Net) (o : Opening) (claim : Claimed) (tree : Splits) (lines : List NodeProof) → IsClaimOf o claim
-    → kind (kind_number (opening_kind o)) ∷ shape (counts_of n) ∷ (((opening_items o ++ (split_items tree ++ proofs (length lines) ∷ flat_map proof_items lines)) ++ claim_items claim) ++ end_is ∷ [])
+    → kind (opening_kind o) ∷ shape (counts_of n) ∷ (((opening_items o ++ (split_items tree ++ proofs (length lines) ∷ flat_map proof_items lines)) ++ claim_items claim) ++ end_is ∷ [])
     ≡ items_of record { shape = counts_of n; claim = claim; splits = tree.list; proofs = lines }
 whole-items n o claim tree lines is =
     let proved : List Field = proofs (length lines) ∷ flat_map proof_items lines in
@@ -181,16 +179,16 @@ whole-items n o claim tree lines is =
     let tail : ((opening_items o ++ (split_items tree ++ proved)) ++ claim_items claim) ++ end_is ∷ [] ≡ opening_items o ++ (split_items tree ++ (proved ++ last)) =
     append_assoc (opening_items o ++ (split_items tree ++ proved)) (claim_items claim) (end_is ∷ []) ∙ append_assoc (opening_items o) (split_items tree ++ proved) last
     ∙ ap (λ (x : List Field). opening_items o ++ x) (append_assoc (split_items tree) proved last) in
-    ap (λ (x : List Field). kind (kind_number (opening_kind o)) ∷ shape (counts_of n) ∷ x) tail
-    ∙ ap (λ (x : List Field). kind (kind_number (opening_kind o)) ∷ shape (counts_of n) ∷ (x ++ (split_items tree ++ (proved ++ last)))) (sym (claim-plan o claim is))
-    ∙ ap (λ (k : Kind). kind (kind_number k) ∷ shape (counts_of n) ∷ (claimed_plan_items claim ++ (split_items tree ++ (proved ++ last)))) (sym (claim-kind o claim is))
+    ap (λ (x : List Field). kind (opening_kind o) ∷ shape (counts_of n) ∷ x) tail
+    ∙ ap (λ (x : List Field). kind (opening_kind o) ∷ shape (counts_of n) ∷ (x ++ (split_items tree ++ (proved ++ last)))) (sym (claim-plan o claim is))
+    ∙ ap (λ (k : Kind). kind k ∷ shape (counts_of n) ∷ (claimed_plan_items claim ++ (split_items tree ++ (proved ++ last)))) (sym (claim-kind o claim is))
 
 module _ (n : Net) (m h : Moment) (o : Opening) (tree : Splits) (bound : Option ℤ) (done : IsProvedTo n m h o tree bound) where
   pub claim-halts : (p : Moment) (fault : ItemFault) → Failed h p fault → Halts (IsRefusedFront n) m p (of_fault fault)
   claim-halts p fault why = failed-halts (IsRefusedFront n) m p fault (failed-then m h p _ fault done.run why)
 
   module _ (p : Moment) (claim : Claim) (read : IsClaimRead o h p claim) where
-    claimed_run : Run m p (kind (kind_number (opening_kind o)) ∷ shape (counts_of n)
+    claimed_run : Run m p (kind (opening_kind o) ∷ shape (counts_of n)
         ∷ ((opening_items o ++ (split_items tree ++ proofs (length done.lines) ∷ flat_map proof_items done.lines)) ++ claim_items (shown_claim claim)))
     claimed_run = run-then m h p _ (claim_items (shown_claim claim)) done.run read.run
 

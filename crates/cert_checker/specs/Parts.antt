@@ -15,7 +15,7 @@ use Rattle.cert_format.specs.declared.reading.Kind.TheVariants as kinds
 use Rattle.cert_stream.specs.declared.fault.ItemFault.{ItemFault}
 use Rattle.cert_items.specs.declared.items.State.{State}
 use Rattle.cert_items.specs.declared.items.State.TheVariants as states
-use Rattle.cert_stream.specs.Items.{Field, kind as kind_item, shape as shape_item, splits, cut, kind_number, plan_items}
+use Rattle.cert_stream.specs.Items.{Field, kind as kind_item, shape as shape_item, weight, outflow, direct, splits, cut, plan_items}
 use Rattle.cert_stream.specs.Items.{claim_items, items_of, shaped_state}
 use Rattle.cert_stream.specs.Streams.{IsAtEnd}
 use Rattle.proof_lines.specs.declared.refusal.Refusal.{Refusal}
@@ -29,26 +29,25 @@ use Rattle.cert_checker.specs.declared.opening.Opening.TheVariants as openings
 use Rattle.proof_lines.specs.Refusals.{IsFirstRefusal}
 use Rattle.proof_lines.specs.Trees.{IsBoundOf, IsFirstSplit}
 use Rattle.cert_checker.specs.Claims.{IsClaimCost}
-use Rattle.proof_lines.specs.Grammar.{kind_of}
 use Rattle.proof_lines.specs.Runs.{Moment, Run, Failed, Halts, IsReady}
 
 -- no refusal
 abbrev pub Never : List Field → Refusal → Type 0
 Never items r = ⊥
 
--- a list of so many numbers, one item each
-pub record IsList (item : ℕ → Field) (count : ℕ) (next : State) (xs : List ℕ) (items : List Field) (state : State) : Type 0 where
-  pub items_are : items ≡ map item xs
-  pub long : length xs ≡ count
-  pub next_is : state ≡ next
-
 -- ---- what is claimed, before its numbers
 
--- the number of a kind, and the network's counts
-pub record IsBegun (n : Net) (number : ℕ) (items : List Field) (state : State) : Type 0 where
-  pub items_are : items ≡ kind_item number ∷ shape_item (counts_of n) ∷ []
-  pub known : kind_number (kind_of number) ≡ number
-  pub next_is : state ≡ shaped_state (kind_of number) (counts_of n)
+-- a kind, and the network's counts
+pub record IsBegun (n : Net) (kind : Kind) (items : List Field) (state : State) : Type 0 where
+  pub items_are : items ≡ kind_item kind ∷ shape_item (counts_of n) ∷ []
+  pub next_is : state ≡ shaped_state kind (counts_of n)
+
+-- a plan with a weight or a flow more
+abbrev pub with_number : Written → Field → Written
+with_number p (weight w) = record { base = p.base; flow_base = p.flow_base; weights = p.weights ++ w ∷ []; outflows = p.outflows; direct = p.direct }
+with_number p (outflow f) = record { base = p.base; flow_base = p.flow_base; weights = p.weights; outflows = p.outflows ++ f ∷ []; direct = p.direct }
+with_number p (direct f) = record { base = p.base; flow_base = p.flow_base; weights = p.weights; outflows = p.outflows; direct = p.direct ++ f ∷ [] }
+with_number p _ = p
 
 -- the items of a plan with the network's counts
 pub record IsPlan (n : Net) (plan : Written) (items : List Field) (state : State) : Type 0 where
@@ -159,11 +158,3 @@ pub record IsWalked (n : Net) (m k : Moment) (w : Walked) : Type 0 where
 abbrev pub Walks : Net → Moment → Moment → Result Walked StreamRefusal → Type 0
 Walks n m k (Ok w) = IsWalked n m k w
 Walks n m k (Err r) = Halts (IsRefusedFront n) m k r
-
--- ---- parts that are read in a loop
-
--- so many items of a list were read, and the text goes on with a state
-pub record IsListed {X : Type 0} (item : X → Field) (m k : Moment) (xs : List X) (count : ℕ) (next : State) : Type 0 where
-  pub run : Run m k (map item xs)
-  pub long : length xs ≡ count
-  pub ready : IsReady k next

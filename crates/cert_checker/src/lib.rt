@@ -12,9 +12,8 @@
 //! comes. Here `specs/Answers.antt` says what an answer says of a text, and `specs/Streams.antt` what one says of a file.
 //!
 //! Proofs above may cite, of `proofs/`: `Followed` (what a valid certificate claims follows), `Order` (the first cause to refuse a
-//! certificate, and that a valid one has none), `Streaming` (the answer of a stream, from what was walked), `Lowest` (a tree's
-//! bound is at least the reach bound), `Taking` (splits that are taken one after another) and `Within` (the first splits of a list are in
-//! order as they are in the whole list).
+//! certificate, and that a valid one has none), `Streaming` (the answer of a stream, from what was walked), `Taking` (splits that are
+//! taken one after another) and `Within` (the first splits of a list are in order as they are in the whole list).
 #![tactic(auto)]
 
 mod checking;

@@ -13,6 +13,7 @@ ghost use Rattle.proof_lines.specs.Runs.{moment, IsReady};
 use crate::opening::{Opening, read_opening};
 use blend_network::Network;
 use cert_format::Claim;
+use cert_format::reading::Kind;
 use cert_stream::{CertReader, ItemFault};
 use plan_core::Cost;
 use proof_lines::steps::{bound_number, cost_pair, cut, end, gap_number, kind, shape, splits};
@@ -52,12 +53,12 @@ pub(crate) fn walk<S: Shelf>(
     Ok(Walked { claim, cost, bound })
 }
 
-/// The number of the kind that is claimed, of a certificate with the network's counts.
+/// The kind of what is claimed, of a certificate with the network's counts.
 fn begin<S: Shelf>(
     net: &Network,
     reader: &mut CertReader,
     shelf: &mut S,
-) -> Result<u8, StreamRefusal>
+) -> Result<Kind, StreamRefusal>
     requires ready { IsReady (moment reader.old (S.told shelf.old)) states.Begin }
     ensures limited { OnOk result (IsLimited (net_of net.now)) }
     ensures begun { Takes (IsBegun (net_of net.now)) (IsRefusedFront (net_of net.now)) (moment reader.old (S.told shelf.old)) (moment reader.new (S.told shelf.new)) result }

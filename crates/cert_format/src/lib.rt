@@ -4,8 +4,8 @@
 //! alone, or that no plan obeys; and the splits and proofs of the tree of boxes that shows it. Its text is plain lines, one
 //! text for each certificate and one certificate for each text. `cert_writing` has the certificate, `text_of`, which spells its
 //! text line by line, and `write_cert`, which writes it to a sink; they are passed on here. `read_cert` reads it back, and names
-//! the first faulty line of what is no certificate's text. The readers of single lines stand in `reading`, for a reader of the
-//! text in pieces.
+//! the first faulty line of what is no certificate's text. The readers of single lines and lists stand in `reading`, for a reader of the
+//! text in pieces and for other texts.
 //!
 //! Whether what a certificate claims is true is left to the checker; `specs/Valid.antt` says when it is.
 //!
@@ -13,12 +13,10 @@
 //! (what the readers come to; no certificate's text begins another's).
 #![tactic(auto)]
 
-mod fault;
 mod laws;
 pub mod reading;
 
-pub use cert_text::TextFault;
+pub use cert_text::{ReadFault, TextFault};
 pub use cert_writing::{Certificate, Claim, NodeProof, cert_law, write_cert};
-pub use fault::ReadCert;
 pub use laws::text_law;
 pub use reading::read_cert;

@@ -6,24 +6,24 @@ ghost use Rattle.std.specs.Prelude.{◌≡◌, ◌-◌, ◌^◌, length, get_or,
 ghost use Rattle.box_space.specs.Views.{shown_part, shown_split};
 ghost use Rattle.plan_core.specs.Views.{shown_plan};
 ghost use Rattle.cert_text.specs.Reading.{Gives, finished, whole, each_at};
-ghost use Rattle.cert_format.specs.Answers.{IsReadAs, IsTextFault, Yields, Closes, Comes};
+ghost use Rattle.cert_text.specs.Results.{Closes, Comes, IsFaultIn, IsReadAs, Yields};
 ghost use Rattle.cert_writing.specs.Cert.{Cert, IsCert};
 ghost use Rattle.cert_format.specs.Reading.{kind_word_at, kind_at, shape_at, u32s_at, u64s_at, list_word_at, weights_at, flows_at, plan_at, opened, opened_at};
 ghost use Rattle.cert_format.specs.Reading.{split_line_at, splits_at, part_at, proof_line_at, proofs_at, bound_at, gap_at, claim_at, cert_at};
 ghost use Rattle.cert_writing.specs.Views.{shown_claim, shown_node_proof, shown_cert};
 ghost use Rattle.cert_writing.specs.Text.{text_of};
 
-use crate::fault::{Halt, ReadCert};
 use box_space::{Part, Proof, Split};
 use cert_text::{
-    Ends, SliceSource, Source, Stop, TextFault, i64_then, i128_then, same, u32_then, u64_then, word,
+    Ends, Halt, ReadFault, SliceSource, Source, Stop, TextFault, i64_then, i128_then, same,
+    u32_then, u64_then, word,
 };
 use cert_writing::{Certificate, Claim, NodeProof};
 use plan_core::WrittenPlan;
 use std::alloc::Global;
 
 /// What a certificate claims.
-#[derive(Clone, Copy)]
+#[derive(Clone, Copy, Debug, PartialEq)]
 pub enum Kind {
     Gap,
     Bound,
@@ -202,7 +202,7 @@ fn split_list<S: Source>(alloc: Global, src: &mut S, n: u32) -> Result<Vec<Split
 
 /// The count of the splits, and their lines.
 #[tactic(auto, unfolding(crate::specs::Reading::splits_at))]
-fn splits<S: Source>(alloc: Global, src: &mut S) -> Result<Vec<Split>, Halt>
+pub fn splits<S: Source>(alloc: Global, src: &mut S) -> Result<Vec<Split>, Halt>
     ensures { Yields (λ v. map shown_split v.items) result (S.at src.new) (S.broken src.new) (splits_at (S.at src.old)) }
 {
     word(src, b"splits ")?;
@@ -221,7 +221,7 @@ pub fn part<S: Source>(src: &mut S, others: u32) -> Result<Part, Stop>
 }
 
 /// n parts, to the end of the line.
-fn part_list<S: Source>(alloc: Global, src: &mut S, n: u32) -> Result<Vec<Part>, Halt>
+pub fn part_list<S: Source>(alloc: Global, src: &mut S, n: u32) -> Result<Vec<Part>, Halt>
     ensures { Yields (λ v. map shown_part v.items) result (S.at src.new) (S.broken src.new) (each_at part_at n (S.at src.old)) }
 {
     let mut parts = Vec::new(alloc);
@@ -348,34 +348,34 @@ fn to_the_end<S: Source>(alloc: Global, src: &mut S) -> Result<Certificate, Halt
 }
 
 /// All of the bytes: a certificate and nothing behind it.
-fn all(alloc: Global, bytes: &[u8]) -> Result<Certificate, ReadCert>
+fn all(alloc: Global, bytes: &[u8]) -> Result<Certificate, ReadFault>
     ensures { Comes shown_cert result (whole cert_at bytes.now) }
 {
     let mut src = SliceSource::new(bytes);
     match to_the_end(alloc, &mut src) {
         Ok(cert) => Ok(cert),
-        Err(Halt::Read(Stop::Text(fault))) => Err(ReadCert::Text(fault)),
+        Err(Halt::Read(Stop::Text(fault))) => Err(ReadFault::Line(fault.line)),
         Err(Halt::Read(Stop::Source)) => unreachable!(),
-        Err(Halt::Memory) => Err(ReadCert::Memory),
+        Err(Halt::Memory) => Err(ReadFault::Memory),
     }
 }
 
 /// The certificate that has this text.
 ///
-/// `Text` comes exactly where no certificate has this text, with the first faulty line, from 1: the first such that no
+/// `Line` comes exactly where no certificate has this text, with the first faulty line, from 1: the first such that no
 /// certificate's text begins with the lines up to it. Where there is none, and the text isn't whole or goes on behind the
 /// certificate's, it is the number of the rest behind the last line feed. `Memory` is want of memory; none is taken ahead
 /// of what is read.
-pub fn read_cert(alloc: Global, bytes: &[u8]) -> Result<Certificate, ReadCert>
+pub fn read_cert(alloc: Global, bytes: &[u8]) -> Result<Certificate, ReadFault>
     // What is read has this text.
     // Promise: What is read of a text is the certificate that has it
     ensures found { IfOk result (λ c. IsCert (shown_cert c) × (bytes.now ≡ text_of (shown_cert c))) }
     // What is the text of a certificate is read as that certificate, unless memory runs out.
     // Promise: The text of a certificate is read as that certificate, or memory ran out
-    ensures only { (c : Cert) → IsCert c → bytes.now ≡ text_of c → IsReadAs c result }
+    ensures only { (c : Cert) → IsCert c → bytes.now ≡ text_of c → IsReadAs shown_cert c result }
     // A fault is that of the first faulty line.
     // Promise: A text that no certificate has is refused at its first faulty line
-    ensures fault { IfErr result (IsTextFault bytes.now) }
+    ensures fault { IfErr result (IsFaultIn Cert IsCert text_of bytes.now) }
 {
     all(alloc, bytes)
 }

@@ -20,7 +20,7 @@ use Rattle.cert_format.specs.Text.{text_of}
 use Rattle.cert_format.specs.Reading.{Opened, with_plan, bound_alone, none, kind_at, shape_at, list_word_at, weights_at, flows_at, plan_at, opened_at}
 use Rattle.cert_format.specs.Reading.{split_line_at, splits_at, part_at, proof_line_at, proofs_at, bound_at, gap_at, claim_at, cert_at}
 use Rattle.cert_items.specs.Items.{Field, kind, shape, bases, weight, outflow, direct, splits, cut, proofs, head, one_part, cost_is, bound_is, gap_is, end_is}
-use Rattle.cert_items.specs.Items.{kind_number, plan_items, proof_items, items_of, claim_state, cuts_left, proofs_left, parts_left, directs_left}
+use Rattle.cert_items.specs.Items.{plan_items, proof_items, items_of, claim_state, cuts_left, proofs_left, parts_left, directs_left}
 use Rattle.cert_items.specs.Items.{direct_words_at, outflow_words_at, weight_words_at, begin_at, shape_step_at, bases_step_at, weight_step_at, outflow_step_at}
 use Rattle.cert_items.specs.Items.{direct_step_at, head_step_at, claim_step_at, next_at, Gave}
 use Rattle.cert_format.proofs.CertLaws.{cert_reads}
@@ -106,7 +106,7 @@ abbrev shape_rest : Kind → At → Read
 shape_rest k a = shape_at a >>= λ s. prefixed (shape s.0 ∷ []) (shaped_rest k s.0 s.1)
 
 abbrev begin_rest : At → Read
-begin_rest a = word_at (codes "poolcert 1\n") a >>= λ w. kind_at w.1 >>= λ k. prefixed (kind (kind_number k.0) ∷ []) (shape_rest k.0 k.1)
+begin_rest a = word_at (codes "poolcert 1\n") a >>= λ w. kind_at w.1 >>= λ k. prefixed (kind k.0 ∷ []) (shape_rest k.0 k.1)
 
 unfoldable pub rest_at : State → At → Read
 rest_at states.Begin a = begin_rest a
@@ -337,7 +337,7 @@ opened_items none = []
 
 -- the items before the splits, before the proofs, and before the claim
 abbrev opened_front : Opened → List ℕ → List Field
-opened_front o sh = kind (kind_number (opened_kind o)) ∷ shape sh ∷ opened_items o
+opened_front o sh = kind (opened_kind o) ∷ shape sh ∷ opened_items o
 
 abbrev cuts_front : Opened → List ℕ → List Split → List Field
 cuts_front o sh ss = opened_front o sh ++ (splits (length ss) ∷ map cut ss)
@@ -397,10 +397,10 @@ after_plan sh o = splits_at o.1 >>= λ ss. proofs_at ss.1 >>= λ ps. tail_at sh 
 abbrev plan_is : ℕ → ℕ → List ℕ → List ℕ → List ℕ → Written
 plan_is b f ws os ds = record { base = b; flow_base = f; weights = ws; outflows = os; direct = ds }
 
-gap_part : (sh : List ℕ) (a : At) → as_items (plan_at sh a >>= λ p. after_plan sh (with_plan p.0, p.1)) ≡ prefixed (kind 0 ∷ shape sh ∷ []) (shaped_rest kinds.Gap sh a)
+gap_part : (sh : List ℕ) (a : At) → as_items (plan_at sh a >>= λ p. after_plan sh (with_plan p.0, p.1)) ≡ prefixed (kind kinds.Gap ∷ shape sh ∷ []) (shaped_rest kinds.Gap sh a)
 unfolding plan_at weights_at flows_at
 gap_part sh a =
-    let front : List Field = kind 0 ∷ shape sh ∷ [] in
+    let front : List Field = kind kinds.Gap ∷ shape sh ∷ [] in
     let go : Written × At → Result (Cert × At) ℕ = λ p. after_plan sh (with_plan p.0, p.1) in
     bind_out_first (word_at (codes "plan ") a) _ go front _ (λ w _. bind_out_first (u32_at Space w.1) _ go front _ (λ b _. bind_out_first (u32_at Line b.1) _ go front _ (λ f _.
     list_part weight (list_word_at (codes "weights") (get_or sh 4 0) f.1) (λ v. each_at (λ k. u32_at (ends_before k)) (get_or sh 4 0) v.1) _ go (front ++ (bases b.0 f.0 ∷ []))
@@ -411,10 +411,10 @@ gap_part sh a =
     (((front ++ (bases b.0 f.0 ∷ [])) ++ map weight ws.0) ++ map outflow os.0)
     (splits_rest kinds.Gap) (λ ds.
     splits_part (with_plan (plan_is b.0 f.0 ws.0 os.0 ds.0)) sh ds.1
-    ∙ ap (λ (is : List Field). prefixed (kind 0 ∷ shape sh ∷ bases b.0 f.0 ∷ is) (splits_rest kinds.Gap ds.1)) (sym (append_assoc (map weight ws.0) (map outflow os.0) (map direct ds.0))))))
+    ∙ ap (λ (is : List Field). prefixed (kind kinds.Gap ∷ shape sh ∷ bases b.0 f.0 ∷ is) (splits_rest kinds.Gap ds.1)) (sym (append_assoc (map weight ws.0) (map outflow os.0) (map direct ds.0))))))
     ∙ sym (prefixed_twice front (bases b.0 f.0 ∷ []) (weight_words_rest (get_or sh 4 0) (get_or sh 5 0) (get_or sh 6 0) f.1)))))
 
-plan_part : (k : Kind) (sh : List ℕ) (a : At) → as_items (opened_at k sh a >>= after_plan sh) ≡ prefixed (kind (kind_number k) ∷ shape sh ∷ []) (shaped_rest k sh a)
+plan_part : (k : Kind) (sh : List ℕ) (a : At) → as_items (opened_at k sh a >>= after_plan sh) ≡ prefixed (kind k ∷ shape sh ∷ []) (shaped_rest k sh a)
 unfolding opened_at
 plan_part kinds.Gap sh a = ap as_items (bind_assoc (plan_at sh a) _ (after_plan sh)) ∙ gap_part sh a
 plan_part kinds.Bound sh a = splits_part bound_alone sh a
@@ -424,9 +424,9 @@ plan_part kinds.NoPlan sh a = splits_part none sh a
 pub rest-cert : (a : At) → rest_at states.Begin a ≡ as_items (cert_at a)
 unfolding rest_at cert_at
 rest-cert a = sym (bind_out (word_at (codes "poolcert 1\n") a) _ [] _ (λ w _. bind_out (kind_at w.1) _ [] _ (λ k _.
-    bind_out (shape_at k.1) _ (kind (kind_number k.0) ∷ []) (λ s. prefixed (shape s.0 ∷ []) (shaped_rest k.0 s.0 s.1)) (λ s _.
-    plan_part k.0 s.0 s.1 ∙ sym (prefixed_twice (kind (kind_number k.0) ∷ []) (shape s.0 ∷ []) (shaped_rest k.0 s.0 s.1)))
-    ∙ sym (no_items (prefixed (kind (kind_number k.0) ∷ []) (shape_rest k.0 k.1)))))
+    bind_out (shape_at k.1) _ (kind k.0 ∷ []) (λ s. prefixed (shape s.0 ∷ []) (shaped_rest k.0 s.0 s.1)) (λ s _.
+    plan_part k.0 s.0 s.1 ∙ sym (prefixed_twice (kind k.0 ∷ []) (shape s.0 ∷ []) (shaped_rest k.0 s.0 s.1)))
+    ∙ sym (no_items (prefixed (kind k.0 ∷ []) (shape_rest k.0 k.1)))))
     ∙ no_items (begin_rest a))
 
 -- ---- the calls so far

@@ -11,7 +11,7 @@ use Rattle.cert_items.specs.declared.items.State.{State}
 use Rattle.cert_items.specs.declared.items.State.TheVariants as states
 use Rattle.cert_format.specs.Reading.{kind_spelling, kind_at, shape_at, list_word_at, split_line_at, part_at, bound_at}
 use Rattle.cert_items.specs.Items.{kind, shape, bases, weight, outflow, direct, splits, cut, proofs, head, one_part, cost_is, bound_is, gap_is, end_is}
-use Rattle.cert_items.specs.Items.{kind_number, cuts_left, proofs_left, parts_left, directs_left, direct_words_at, outflow_words_at, weight_words_at, begin_at}
+use Rattle.cert_items.specs.Items.{cuts_left, proofs_left, parts_left, directs_left, direct_words_at, outflow_words_at, weight_words_at, begin_at}
 use Rattle.cert_items.specs.Items.{shaped_state, shape_step_at, bases_step_at, weight_step_at, outflow_step_at, direct_step_at, head_step_at, claim_step_at}
 use Rattle.cert_items.specs.Items.{next_at}
 use Rattle.cert_format.proofs.LineLaws.{Any, kind_reads}
@@ -53,8 +53,8 @@ weight_words n o d = piece_bind 8 16 (list_word_at (codes "weights") n)
 
 begin_piece : Piece 1 22 begin_at
 unfolding begin_at
-begin_piece = after_word_piece (codes "poolcert 1\n") 11 (λ a. kind_at a >>= λ k. Ok ((kind (kind_number k.0), states.Shape k.0), k.1)) refl (lit≤ tt)
-    (with_piece 11 kind_at (λ k. (kind (kind_number k), states.Shape k)) kind_piece)
+begin_piece = after_word_piece (codes "poolcert 1\n") 11 (λ a. kind_at a >>= λ k. Ok ((kind k.0, states.Shape k.0), k.1)) refl (lit≤ tt)
+    (with_piece 11 kind_at (λ k. (kind k, states.Shape k)) kind_piece)
 
 -- the numbers of a shape, behind its word
 abbrev counts_at : At → Result (List ℕ × At) ℕ

@@ -21,7 +21,7 @@ use Rattle.cert_format.specs.Text.{text_of}
 
 -- a field of the text, or a group of them
 pub data Field : Type 0 where
-  kind : ℕ → Field
+  kind : Kind → Field
   shape : List ℕ → Field
   bases : ℕ → ℕ → Field
   weight : ℕ → Field
@@ -61,12 +61,6 @@ shown p = (shown_item p.0, p.1)
 
 -- ---- the items of a certificate
 
--- the number of a kind
-abbrev pub kind_number : Kind → ℕ
-kind_number kinds.Gap = 0
-kind_number kinds.Bound = 1
-kind_number kinds.NoPlan = 2
-
 -- the kind of a claim
 abbrev pub claimed_kind : Claimed → Kind
 claimed_kind (with_gap plan cost base bound gap) = kinds.Gap
@@ -95,7 +89,7 @@ claim_items no_plan = []
 
 -- the fields of a certificate's text, in order
 abbrev pub items_of : Cert → List Field
-items_of c = kind (kind_number (claimed_kind c.claim)) ∷ shape c.shape ∷ (claimed_plan_items c.claim
+items_of c = kind (claimed_kind c.claim) ∷ shape c.shape ∷ (claimed_plan_items c.claim
     ++ (splits (length c.splits) ∷ (map cut c.splits
     ++ (proofs (length c.proofs) ∷ (flat_map proof_items c.proofs
     ++ (claim_items c.claim ++ end_is ∷ []))))))
@@ -147,7 +141,7 @@ unfoldable pub begin_at : At → Result ((Field × State) × At) ℕ
 begin_at a = do
   w ← word_at (codes "poolcert 1\n") a
   k ← kind_at w.1
-  Ok ((kind (kind_number k.0), states.Shape k.0), k.1)
+  Ok ((kind k.0, states.Shape k.0), k.1)
 
 -- what comes behind a shape
 abbrev pub shaped_state : Kind → List ℕ → State

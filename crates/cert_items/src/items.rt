@@ -2,7 +2,7 @@
 
 ghost use Rattle.std.specs.Prelude.{◌≡◌, codes};
 ghost use Rattle.cert_text.specs.Reading.{Gives};
-ghost use Rattle.cert_items.specs.Items.{shown, kind_number, next_at, begin_at, shape_step_at, bases_step_at, weight_words_at, outflow_words_at};
+ghost use Rattle.cert_items.specs.Items.{shown, next_at, begin_at, shape_step_at, bases_step_at, weight_words_at, outflow_words_at};
 ghost use Rattle.cert_items.specs.Items.{direct_words_at, weight_step_at, outflow_step_at, direct_step_at, claim_step_at, cuts_left, proofs_left, parts_left};
 ghost use Rattle.cert_items.specs.Items.{claim_state, head_step_at};
 
@@ -13,8 +13,8 @@ use cert_text::{Ends, Source, Stop, TextFault, i128_then, same, u32_then, u64_th
 /// A field of a certificate's text, or a group of them.
 #[derive(Clone, Copy, Debug, PartialEq)]
 pub enum Item {
-    /// What is claimed: 0 for a gap, 1 for a bound, 2 for no plan.
-    Kind(u8),
+    /// What is claimed.
+    Kind(Kind),
     /// How many sources, pools, products, qualities, feeds, outs and directs there are.
     Shape([u32; 7]),
     /// The base and the flow base of the plan.
@@ -84,17 +84,6 @@ pub enum State {
     Ended,
 }
 
-/// The number of a kind.
-fn number_of(kind: Kind) -> u8
-    ensures { result ≡ kind_number kind }
-{
-    match kind {
-        Kind::Gap => 0,
-        Kind::Bound => 1,
-        Kind::NoPlan => 2,
-    }
-}
-
 /// The words before a plan's direct flows, and those before what comes next where there are none.
 #[tactic(auto, unfolding(crate::specs::Items::direct_words_at))]
 fn directs<S: Source>(src: &mut S, n: u32) -> Result<State, Stop>
@@ -141,7 +130,7 @@ fn begin<S: Source>(src: &mut S) -> Result<(Item, State), Stop>
 {
     word(src, b"poolcert 1\n")?;
     let kind = kind_line(src)?;
-    Ok((Item::Kind(number_of(kind)), State::Shape(kind)))
+    Ok((Item::Kind(kind), State::Shape(kind)))
 }
 
 /// The shape.

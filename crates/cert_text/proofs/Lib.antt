@@ -6,3 +6,4 @@ pub mod Steps
 pub mod Each
 pub mod WindowLaws
 pub mod Windows
+pub mod Outcomes

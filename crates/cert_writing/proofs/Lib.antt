@@ -1,1 +1,2 @@
-mod Lines
+-- Lemmas on lines and lists of texts.
+pub mod Pieces

@@ -58,7 +58,8 @@ fn plan(plan: &WrittenPlan)
     flows(plan.direct.as_slice());
 }
 
-fn splits(splits: &[Split])
+/// Splits that are held are in range.
+pub fn splits(splits: &[Split])
     ensures { All (λ s. IsSplitInRange (shown_split s)) splits.now }
 {
     for each in splits {
@@ -66,7 +67,8 @@ fn splits(splits: &[Split])
     }
 }
 
-fn split(split: &Split)
+/// A split that is held is in range.
+pub fn split(split: &Split)
     ensures { IsSplitInRange (shown_split split.now) }
 {
     let _leaf = split.leaf;
@@ -90,7 +92,8 @@ fn proof(proof: &NodeProof)
     parts(proof.proof.parts.as_slice());
 }
 
-fn parts(parts: &[Part])
+/// Parts that are held are in range.
+pub fn parts(parts: &[Part])
     ensures { All (λ p. IsPartInRange (shown_part p)) parts.now }
 {
     for each in parts {
@@ -105,7 +108,8 @@ fn part(part: &Part)
     let _mult = part.mult;
 }
 
-fn numbers(numbers: &[u32])
+/// Numbers that are held are in range.
+pub fn numbers(numbers: &[u32])
     ensures { All (λ n. n < 2 ^ 32) numbers.now }
 {
     for number in numbers {

@@ -1,9 +1,8 @@
 //! The one text of a certificate, written.
 
-ghost use Rattle.std.specs.Prelude.{◌≡◌, [], ◌∷◌, ◌++◌, map, codes, None, OnErr};
-ghost use Rattle.std.specs.Option.{ForSome};
+ghost use Rattle.std.specs.Prelude.{[], ◌∷◌, ◌++◌, length, map, decimal, codes, OnErr};
 ghost use Rattle.std.specs.List.{flat_map};
-ghost use Rattle.box_space.specs.Views.{shown_part, shown_split};
+ghost use Rattle.box_space.specs.Views.{shown_part, shown_proof, shown_split};
 ghost use Rattle.edge_io.specs.Counts.{Grows, Rose};
 ghost use Rattle.edge_io.specs.Writing.{Wrote};
 ghost use Rattle.plan_core.specs.Views.{shown_plan};
@@ -13,107 +12,11 @@ ghost use Rattle.cert_writing.specs.Text.{field, line, kind_of, head_lines, plan
 ghost use Rattle.cert_writing.specs.Text.{proof_lines, gap_lines, number_lines, rest_lines, text_of};
 
 use crate::certificate::{Certificate, Claim, NodeProof};
-use box_space::{Part, Split};
+use crate::lines::{Fields, Line, write_counted, write_fields, write_line};
+use crate::text::{Text, write_list, write_text};
+use box_space::{Part, Proof, Split};
 use edge_io::{Sink, WriteFault, write_whole};
-use itoa::{Buffer, Integer};
 use plan_core::WrittenPlan;
-use text_buffer::TextBuffer;
-
-/// A number, with one space before it.
-fn write_field<K: Sink, N: Integer>(out: &mut K, n: N) -> Result<(), WriteFault>
-    ensures wrote { Wrote result (K.taken out.old) (field (N.text n)) (K.taken out.new) }
-    ensures failed { OnErr result (Rose (K.faults out.old) (K.faults out.new)) }
-    ensures faults_grow { Grows (K.faults out.old) (K.faults out.new) }
-{
-    write_whole(out, b" ")?;
-    let mut buffer = Buffer::new();
-    write_whole(out, buffer.format(n).as_bytes())
-}
-
-/// Numbers, with one space before each, handed on as one piece, or one after another where that is too long.
-fn write_fields<K: Sink, N: Integer>(out: &mut K, numbers: &[N]) -> Result<(), WriteFault>
-    ensures wrote { Wrote result (K.taken out.old) (flat_map field (map N.text numbers.now)) (K.taken out.new) }
-    ensures failed { OnErr result (Rose (K.faults out.old) (K.faults out.new)) }
-    ensures faults_grow { Grows (K.faults out.old) (K.faults out.new) }
-{
-    match short_fields(out, numbers) {
-        Some(written) => written,
-        None => put_fields(out, numbers),
-    }
-}
-
-/// Numbers, with one space before each, as one piece, or nothing where that is too long. No room is held but while it runs.
-#[inline(never)]
-fn short_fields<K: Sink, N: Integer>(out: &mut K, numbers: &[N]) -> Option<Result<(), WriteFault>>
-    ensures wrote { ForSome result (λ r. Wrote r (K.taken out.old) (flat_map field (map N.text numbers.now)) (K.taken out.new)) }
-    ensures nothing { result ≡ None → out.new ≡ out.old }
-    ensures failed { ForSome result (λ r. OnErr r (Rose (K.faults out.old) (K.faults out.new))) }
-    ensures faults_grow { Grows (K.faults out.old) (K.faults out.new) }
-{
-    let mut text = TextBuffer::new();
-    match put_fields(&mut text, numbers) {
-        Ok(()) => Some(write_whole(out, text.text())),
-        Err(_) => None,
-    }
-}
-
-/// Numbers, with one space before each, one after another.
-fn put_fields<K: Sink, N: Integer>(out: &mut K, numbers: &[N]) -> Result<(), WriteFault>
-    ensures wrote { Wrote result (K.taken out.old) (flat_map field (map N.text numbers.now)) (K.taken out.new) }
-    ensures failed { OnErr result (Rose (K.faults out.old) (K.faults out.new)) }
-    ensures faults_grow { Grows (K.faults out.old) (K.faults out.new) }
-{
-    for n in numbers {
-        write_field(out, *n)?;
-    }
-    Ok(())
-}
-
-/// A line of a word and numbers, handed on as one piece.
-fn write_line<K: Sink, N: Integer>(
-    out: &mut K,
-    word: &[u8],
-    numbers: &[N],
-) -> Result<(), WriteFault>
-    ensures wrote { Wrote result (K.taken out.old) (line word.now (map N.text numbers.now)) (K.taken out.new) }
-    ensures failed { OnErr result (Rose (K.faults out.old) (K.faults out.new)) }
-    ensures faults_grow { Grows (K.faults out.old) (K.faults out.new) }
-{
-    match short_line(out, word, numbers) {
-        Some(written) => written,
-        None => put_line(out, word, numbers),
-    }
-}
-
-/// A line of a word and numbers, as one piece, or nothing where that is too long.
-#[inline(never)]
-fn short_line<K: Sink, N: Integer>(
-    out: &mut K,
-    word: &[u8],
-    numbers: &[N],
-) -> Option<Result<(), WriteFault>>
-    ensures wrote { ForSome result (λ r. Wrote r (K.taken out.old) (line word.now (map N.text numbers.now)) (K.taken out.new)) }
-    ensures nothing { result ≡ None → out.new ≡ out.old }
-    ensures failed { ForSome result (λ r. OnErr r (Rose (K.faults out.old) (K.faults out.new))) }
-    ensures faults_grow { Grows (K.faults out.old) (K.faults out.new) }
-{
-    let mut text = TextBuffer::new();
-    match put_line(&mut text, word, numbers) {
-        Ok(()) => Some(write_whole(out, text.text())),
-        Err(_) => None,
-    }
-}
-
-/// A line of a word and numbers, piece by piece.
-fn put_line<K: Sink, N: Integer>(out: &mut K, word: &[u8], numbers: &[N]) -> Result<(), WriteFault>
-    ensures wrote { Wrote result (K.taken out.old) (line word.now (map N.text numbers.now)) (K.taken out.new) }
-    ensures failed { OnErr result (Rose (K.faults out.old) (K.faults out.new)) }
-    ensures faults_grow { Grows (K.faults out.old) (K.faults out.new) }
-{
-    write_whole(out, word)?;
-    put_fields(out, numbers)?;
-    write_whole(out, b"\n")
-}
 
 /// The line of a claim's kind.
 fn write_kind<K: Sink>(out: &mut K, claim: &Claim) -> Result<(), WriteFault>
@@ -164,214 +67,62 @@ fn write_claimed_plan<K: Sink>(out: &mut K, claim: &Claim) -> Result<(), WriteFa
 }
 
 /// The line of a split.
-fn write_split<K: Sink>(out: &mut K, split: &Split) -> Result<(), WriteFault>
-    ensures wrote { Wrote result (K.taken out.old) (split_line (shown_split split.now)) (K.taken out.new) }
-    ensures failed { OnErr result (Rose (K.faults out.old) (K.faults out.new)) }
-    ensures faults_grow { Grows (K.faults out.old) (K.faults out.new) }
-{
-    let fields = [i64::from(split.leaf), i64::from(split.coord), split.cut];
-    put_line(out, b"split", &fields)
-}
+impl Text for Split {
+    ghost text = { λ s. split_line (shown_split s) };
 
-/// The lines of splits, handed on as one piece, or by halves where that is too long.
-fn write_split_list<K: Sink>(out: &mut K, splits: &[Split]) -> Result<(), WriteFault>
-    ensures wrote { Wrote result (K.taken out.old) (flat_map split_line (map shown_split splits.now)) (K.taken out.new) }
-    ensures failed { OnErr result (Rose (K.faults out.old) (K.faults out.new)) }
-    ensures faults_grow { Grows (K.faults out.old) (K.faults out.new) }
-{
-    if let Some(written) = short_split_list(out, splits) {
-        return written;
-    }
-    if splits.len() < 2 {
-        return put_split_list(out, splits);
-    }
-    let (first, second) = splits.split_at(splits.len() / 2);
-    write_split_list(out, first)?;
-    write_split_list(out, second)
-}
-
-/// The lines of splits, as one piece, or nothing where that is too long.
-#[inline(never)]
-fn short_split_list<K: Sink>(out: &mut K, splits: &[Split]) -> Option<Result<(), WriteFault>>
-    ensures wrote { ForSome result (λ r. Wrote r (K.taken out.old) (flat_map split_line (map shown_split splits.now)) (K.taken out.new)) }
-    ensures nothing { result ≡ None → out.new ≡ out.old }
-    ensures failed { ForSome result (λ r. OnErr r (Rose (K.faults out.old) (K.faults out.new))) }
-    ensures faults_grow { Grows (K.faults out.old) (K.faults out.new) }
-{
-    let mut text = TextBuffer::new();
-    match put_split_list(&mut text, splits) {
-        Ok(()) => Some(write_whole(out, text.text())),
-        Err(_) => None,
+    fn put<K: Sink>(&self, out: &mut K) -> Result<(), WriteFault> {
+        let numbers = [i64::from(self.leaf), i64::from(self.coord), self.cut];
+        let line = Line {
+            word: b"split",
+            numbers: &numbers,
+        };
+        line.put(out)
     }
 }
 
-/// The lines of splits, one after another.
-fn put_split_list<K: Sink>(out: &mut K, splits: &[Split]) -> Result<(), WriteFault>
-    ensures wrote { Wrote result (K.taken out.old) (flat_map split_line (map shown_split splits.now)) (K.taken out.new) }
-    ensures failed { OnErr result (Rose (K.faults out.old) (K.faults out.new)) }
-    ensures faults_grow { Grows (K.faults out.old) (K.faults out.new) }
-{
-    for split in splits {
-        write_split(out, split)?;
+/// The fields of a part: its row and its multiplier.
+impl Text for Part {
+    ghost text = { λ p. flat_map field (part_fields (shown_part p)) };
+
+    fn put<K: Sink>(&self, out: &mut K) -> Result<(), WriteFault> {
+        Fields(&[i64::from(self.row), self.mult]).put(out)
     }
-    Ok(())
 }
 
-/// The count of the splits, and their lines.
-fn write_splits<K: Sink>(out: &mut K, splits: &[Split]) -> Result<(), WriteFault>
+/// The fields of a proof: its scale, how many parts it has, and these.
+impl Text for Proof {
+    ghost text = { λ p. flat_map field (decimal (shown_proof p).scale ∷ decimal (length (shown_proof p).parts) ∷ flat_map part_fields (shown_proof p).parts) };
+
+    fn put<K: Sink>(&self, out: &mut K) -> Result<(), WriteFault> {
+        let parts = self.parts.as_slice();
+        write_fields(out, &[self.scale, parts.len() as u64])?;
+        write_list(out, parts)
+    }
+}
+
+/// The line of a node's proof.
+impl Text for NodeProof {
+    ghost text = { λ p. proof_line (shown_node_proof p) };
+
+    fn put<K: Sink>(&self, out: &mut K) -> Result<(), WriteFault> {
+        write_whole(out, b"proof")?;
+        write_fields(out, &[self.node])?;
+        self.proof.put(out)?;
+        write_whole(out, b"\n")
+    }
+
+    fn parts(&self) -> usize {
+        self.proof.parts.len()
+    }
+}
+
+/// Writes the count of splits, and their lines.
+pub fn write_splits<K: Sink>(out: &mut K, splits: &[Split]) -> Result<(), WriteFault>
     ensures wrote { Wrote result (K.taken out.old) (split_lines (map shown_split splits.now)) (K.taken out.new) }
     ensures failed { OnErr result (Rose (K.faults out.old) (K.faults out.new)) }
     ensures faults_grow { Grows (K.faults out.old) (K.faults out.new) }
 {
-    write_line(out, b"splits", &[splits.len()])?;
-    write_split_list(out, splits)
-}
-
-/// The fields of a part.
-fn write_part<K: Sink>(out: &mut K, part: &Part) -> Result<(), WriteFault>
-    ensures wrote { Wrote result (K.taken out.old) (flat_map field (part_fields (shown_part part.now))) (K.taken out.new) }
-    ensures failed { OnErr result (Rose (K.faults out.old) (K.faults out.new)) }
-    ensures faults_grow { Grows (K.faults out.old) (K.faults out.new) }
-{
-    put_fields(out, &[i64::from(part.row), part.mult])
-}
-
-/// The fields of parts, handed on as one piece, or by halves where that is too long.
-fn write_parts<K: Sink>(out: &mut K, parts: &[Part]) -> Result<(), WriteFault>
-    ensures wrote { Wrote result (K.taken out.old) (flat_map field (flat_map part_fields (map shown_part parts.now))) (K.taken out.new) }
-    ensures failed { OnErr result (Rose (K.faults out.old) (K.faults out.new)) }
-    ensures faults_grow { Grows (K.faults out.old) (K.faults out.new) }
-{
-    if let Some(written) = short_parts(out, parts) {
-        return written;
-    }
-    if parts.len() < 2 {
-        return put_parts(out, parts);
-    }
-    let (first, second) = parts.split_at(parts.len() / 2);
-    write_parts(out, first)?;
-    write_parts(out, second)
-}
-
-/// The fields of parts, as one piece, or nothing where that is too long.
-#[inline(never)]
-fn short_parts<K: Sink>(out: &mut K, parts: &[Part]) -> Option<Result<(), WriteFault>>
-    ensures wrote { ForSome result (λ r. Wrote r (K.taken out.old) (flat_map field (flat_map part_fields (map shown_part parts.now))) (K.taken out.new)) }
-    ensures nothing { result ≡ None → out.new ≡ out.old }
-    ensures failed { ForSome result (λ r. OnErr r (Rose (K.faults out.old) (K.faults out.new))) }
-    ensures faults_grow { Grows (K.faults out.old) (K.faults out.new) }
-{
-    let mut text = TextBuffer::new();
-    match put_parts(&mut text, parts) {
-        Ok(()) => Some(write_whole(out, text.text())),
-        Err(_) => None,
-    }
-}
-
-/// The fields of parts, one after another.
-fn put_parts<K: Sink>(out: &mut K, parts: &[Part]) -> Result<(), WriteFault>
-    ensures wrote { Wrote result (K.taken out.old) (flat_map field (flat_map part_fields (map shown_part parts.now))) (K.taken out.new) }
-    ensures failed { OnErr result (Rose (K.faults out.old) (K.faults out.new)) }
-    ensures faults_grow { Grows (K.faults out.old) (K.faults out.new) }
-{
-    for part in parts {
-        write_part(out, part)?;
-    }
-    Ok(())
-}
-
-/// The line of a proof, number by number.
-fn put_proof<K: Sink>(out: &mut K, proof: &NodeProof) -> Result<(), WriteFault>
-    ensures wrote { Wrote result (K.taken out.old) (proof_line (shown_node_proof proof.now)) (K.taken out.new) }
-    ensures failed { OnErr result (Rose (K.faults out.old) (K.faults out.new)) }
-    ensures faults_grow { Grows (K.faults out.old) (K.faults out.new) }
-{
-    let parts = proof.proof.parts.as_slice();
-    write_whole(out, b"proof")?;
-    put_fields(
-        out,
-        &[u64::from(proof.node), proof.proof.scale, parts.len() as u64],
-    )?;
-    put_parts(out, parts)?;
-    write_whole(out, b"\n")
-}
-
-/// The line of a proof that is too long for one piece.
-fn write_proof<K: Sink>(out: &mut K, proof: &NodeProof) -> Result<(), WriteFault>
-    ensures wrote { Wrote result (K.taken out.old) (proof_line (shown_node_proof proof.now)) (K.taken out.new) }
-    ensures failed { OnErr result (Rose (K.faults out.old) (K.faults out.new)) }
-    ensures faults_grow { Grows (K.faults out.old) (K.faults out.new) }
-{
-    let parts = proof.proof.parts.as_slice();
-    write_whole(out, b"proof")?;
-    write_fields(
-        out,
-        &[u64::from(proof.node), proof.proof.scale, parts.len() as u64],
-    )?;
-    write_parts(out, parts)?;
-    write_whole(out, b"\n")
-}
-
-/// The lines of proofs, handed on as one piece, or by halves where that is too long.
-fn write_proof_list<K: Sink>(out: &mut K, proofs: &[NodeProof]) -> Result<(), WriteFault>
-    ensures wrote { Wrote result (K.taken out.old) (flat_map proof_line (map shown_node_proof proofs.now)) (K.taken out.new) }
-    ensures failed { OnErr result (Rose (K.faults out.old) (K.faults out.new)) }
-    ensures faults_grow { Grows (K.faults out.old) (K.faults out.new) }
-{
-    if let Some(written) = short_proof_list(out, proofs) {
-        return written;
-    }
-    if proofs.is_empty() {
-        return Ok(());
-    }
-    if proofs.len() == 1 {
-        return write_proof(out, &proofs[0]);
-    }
-    let (first, second) = proofs.split_at(proofs.len() / 2);
-    write_proof_list(out, first)?;
-    write_proof_list(out, second)
-}
-
-/// The lines of proofs, as one piece, or nothing where that is too long, or where they have so many parts that it hardly fits.
-#[inline(never)]
-fn short_proof_list<K: Sink>(out: &mut K, proofs: &[NodeProof]) -> Option<Result<(), WriteFault>>
-    ensures wrote { ForSome result (λ r. Wrote r (K.taken out.old) (flat_map proof_line (map shown_node_proof proofs.now)) (K.taken out.new)) }
-    ensures nothing { result ≡ None → out.new ≡ out.old }
-    ensures failed { ForSome result (λ r. OnErr r (Rose (K.faults out.old) (K.faults out.new))) }
-    ensures faults_grow { Grows (K.faults out.old) (K.faults out.new) }
-{
-    if proofs.len() > 1 && have_many_parts(proofs) {
-        return None;
-    }
-    let mut text = TextBuffer::new();
-    match put_proof_list(&mut text, proofs) {
-        Ok(()) => Some(write_whole(out, text.text())),
-        Err(_) => None,
-    }
-}
-
-/// How many parts fit one piece, as a rule.
-const PIECE_PARTS: usize = 700;
-
-/// Whether the lines of proofs would hardly fit one piece, so that to try it costs time alone.
-fn have_many_parts(proofs: &[NodeProof]) -> bool {
-    let mut count: usize = 0;
-    for proof in proofs {
-        count = count.saturating_add(proof.proof.parts.len());
-    }
-    count > PIECE_PARTS
-}
-
-/// The lines of proofs, one after another.
-fn put_proof_list<K: Sink>(out: &mut K, proofs: &[NodeProof]) -> Result<(), WriteFault>
-    ensures wrote { Wrote result (K.taken out.old) (flat_map proof_line (map shown_node_proof proofs.now)) (K.taken out.new) }
-    ensures failed { OnErr result (Rose (K.faults out.old) (K.faults out.new)) }
-    ensures faults_grow { Grows (K.faults out.old) (K.faults out.new) }
-{
-    for proof in proofs {
-        put_proof(out, proof)?;
-    }
-    Ok(())
+    write_counted(out, b"splits", splits)
 }
 
 /// The count of the proofs, and their lines.
@@ -380,8 +131,7 @@ fn write_proofs<K: Sink>(out: &mut K, proofs: &[NodeProof]) -> Result<(), WriteF
     ensures failed { OnErr result (Rose (K.faults out.old) (K.faults out.new)) }
     ensures faults_grow { Grows (K.faults out.old) (K.faults out.new) }
 {
-    write_line(out, b"proofs", &[proofs.len()])?;
-    write_proof_list(out, proofs)
+    write_counted(out, b"proofs", proofs)
 }
 
 /// The lines of a cost over a base, a bound, and their gap over that base.
@@ -442,34 +192,16 @@ pub fn write_cert<K: Sink>(cert: &Certificate, out: &mut K) -> Result<(), WriteF
     ensures failed { OnErr result (Rose (K.faults out.old) (K.faults out.new)) }
     ensures faults_grow { Grows (K.faults out.old) (K.faults out.new) }
 {
-    match short_cert(out, cert) {
-        Some(written) => written,
-        None => put_cert(cert, out),
-    }
+    write_text(out, cert)
 }
 
-/// The text of a certificate, as one piece, or nothing where that is too long.
-#[inline(never)]
-fn short_cert<K: Sink>(out: &mut K, cert: &Certificate) -> Option<Result<(), WriteFault>>
-    ensures wrote { ForSome result (λ r. Wrote r (K.taken out.old) (text_of (shown_cert cert.now)) (K.taken out.new)) }
-    ensures nothing { result ≡ None → out.new ≡ out.old }
-    ensures failed { ForSome result (λ r. OnErr r (Rose (K.faults out.old) (K.faults out.new))) }
-    ensures faults_grow { Grows (K.faults out.old) (K.faults out.new) }
-{
-    let mut text = TextBuffer::new();
-    match put_cert(cert, &mut text) {
-        Ok(()) => Some(write_whole(out, text.text())),
-        Err(_) => None,
-    }
-}
+/// The whole text of a certificate.
+impl Text for Certificate {
+    ghost text = { λ c. text_of (shown_cert c) };
 
-/// The text of a certificate, part by part.
-fn put_cert<K: Sink>(cert: &Certificate, out: &mut K) -> Result<(), WriteFault>
-    ensures wrote { Wrote result (K.taken out.old) (text_of (shown_cert cert.now)) (K.taken out.new) }
-    ensures failed { OnErr result (Rose (K.faults out.old) (K.faults out.new)) }
-    ensures faults_grow { Grows (K.faults out.old) (K.faults out.new) }
-{
-    write_head(out, cert)?;
-    write_claimed_plan(out, &cert.claim)?;
-    write_rest(out, cert)
+    fn put<K: Sink>(&self, out: &mut K) -> Result<(), WriteFault> {
+        write_head(out, self)?;
+        write_claimed_plan(out, &self.claim)?;
+        write_rest(out, self)
+    }
 }

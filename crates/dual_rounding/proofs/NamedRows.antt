@@ -10,7 +10,7 @@ use Rattle.row_model.specs.Catalogue.{rows, row_count, network_families}
 use Rattle.row_model.specs.Multipliers.{Part, Proof, Shown}
 use Rattle.box_space.specs.declared.coordinates.Form.{Form}
 use Rattle.box_space.specs.declared.coordinates.Form.TheVariants.{P, Q, Pq}
-use Rattle.row_book.proofs.Families.{test_true}
+use Rattle.row_model.proofs.Families.{test_true}
 use Rattle.linear_program.specs.declared.lp.Lp.{Lp}
 use Rattle.linear_program.specs.declared.lp.LpRow.{LpRow}
 use Rattle.linear_program.specs.declared.advice.Advice.{Advice}

@@ -23,7 +23,7 @@ use Rattle.row_model.specs.Variables.{PerVariable, none, variables, path_count, 
 use Rattle.row_model.specs.Catalogue.{Row, rows, row_at, network_families, p_families, q_families, pq_families, balance_row}
 use Rattle.row_model.specs.Multipliers.{Part, IsInOrder, IsRising, IsSigned, weight, rest_weight, constant_weight, coef}
 use Rattle.row_model.proofs.Numbering.{by_number-each}
-use Rattle.row_book.proofs.Families.{row_count-append, row_in-front}
+use Rattle.row_model.proofs.Families.{row_count-append, row_in-front}
 use Rattle.row_book.proofs.NearEnds.{within, few_least, few_unwrapped, few_if, ends-near}
 use Rattle.row_book.proofs.NetworkRows.{at_balance}
 use Rattle.dual_rounding.specs.Price.{is_nonzero, pool_price, price_part, price_proof}

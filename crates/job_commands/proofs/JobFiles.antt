@@ -16,9 +16,9 @@ use Rattle.cert_text.proofs.Laws.{one_spelling}
 use Rattle.job_texts.specs.Texts.{Jobs, AreJobs, jobs_text}
 use Rattle.job_texts.specs.Reading.{jobs_at}
 use Rattle.job_texts.proofs.JobLaws.{jobs_reads}
-use Rattle.job_texts.specs.Results.{IsFaultIn}
-use Rattle.job_texts.specs.declared.fault.ReadFault.{ReadFault}
-use Rattle.job_texts.specs.declared.fault.ReadFault.TheVariants as read_faults
+use Rattle.cert_text.specs.Results.{IsFaultIn}
+use Rattle.cert_text.specs.declared.fault.ReadFault.{ReadFault}
+use Rattle.cert_text.specs.declared.fault.ReadFault.TheVariants as read_faults
 use Rattle.job_trees.specs.Fitting.{Fits, bare}
 use Rattle.job_trees.specs.declared.fault.JobsFault.{JobsFault}
 use Rattle.job_trees.specs.declared.fault.JobsFault.TheVariants as jobs_faults

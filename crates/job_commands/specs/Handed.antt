@@ -13,8 +13,8 @@ use Rattle.box_tree.specs.Kept.{IsOf, searched_of}
 use Rattle.work_units.specs.Units as units
 use Rattle.work_units.specs.Units.{Answer, node_of}
 use Rattle.job_texts.specs.Texts.{Jobs, AreJobs, AreWritten, answers_text, jobs_text}
-use Rattle.job_texts.specs.declared.fault.ReadFault.{ReadFault}
-use Rattle.job_texts.specs.declared.fault.ReadFault.TheVariants as read_faults
+use Rattle.cert_text.specs.declared.fault.ReadFault.{ReadFault}
+use Rattle.cert_text.specs.declared.fault.ReadFault.TheVariants as read_faults
 use Rattle.job_trees.specs.Fitting.{Fits, bare}
 use Rattle.job_trees.specs.declared.fault.JobsFault.{JobsFault}
 use Rattle.job_trees.specs.declared.fault.JobsFault.TheVariants as jobs_faults

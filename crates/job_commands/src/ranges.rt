@@ -2,16 +2,16 @@
 
 ghost use Rattle.std.specs.Prelude.{◌<◌, ◌^◌, All, length, map, option_map};
 ghost use Rattle.std.specs.Option.{ForSome};
-ghost use Rattle.box_space.specs.Views.{shown_part, shown_proof, shown_split};
+ghost use Rattle.box_space.specs.Views.{shown_proof};
 ghost use Rattle.box_tree.specs.Views.{shown_entry};
-ghost use Rattle.cert_writing.specs.Cert.{IsPartInRange, IsSplitInRange};
 ghost use Rattle.work_units.specs.Views.{shown_answer};
 ghost use Rattle.job_texts.specs.Texts.{AreJobs, AreWritten, HasLines, IsHalfProof, IsJobInRange};
 ghost use Rattle.job_texts.specs.Views.{shown_jobs};
 ghost use Rattle.job_commands.specs.Ranges.{HasFewParts, SplitsWithFew};
 
-use box_space::{Part, Proof, Split};
+use box_space::Proof;
 use box_tree::Entry;
+use cert_writing::ranges::{numbers, parts, split, splits};
 use job_texts::JobsText;
 use work_units::{Answer, Job};
 
@@ -76,45 +76,6 @@ fn proof(proof: &Proof)
 {
     let _scale = proof.scale;
     parts(proof.parts.as_slice());
-}
-
-fn parts(parts: &[Part])
-    ensures { All (λ p. IsPartInRange (shown_part p)) parts.now }
-{
-    for each in parts {
-        part(each);
-    }
-}
-
-fn part(part: &Part)
-    ensures { IsPartInRange (shown_part part.now) }
-{
-    let _row = part.row;
-    let _mult = part.mult;
-}
-
-fn numbers(numbers: &[u32])
-    ensures { All (λ n. n < 2 ^ 32) numbers.now }
-{
-    for n in numbers {
-        let _n = *n;
-    }
-}
-
-fn splits(splits: &[Split])
-    ensures { All (λ s. IsSplitInRange (shown_split s)) splits.now }
-{
-    for each in splits {
-        split(each);
-    }
-}
-
-fn split(split: &Split)
-    ensures { IsSplitInRange (shown_split split.now) }
-{
-    let _leaf = split.leaf;
-    let _coord = split.coord;
-    let _cut = split.cut;
 }
 
 fn jobs(jobs: &[Job])

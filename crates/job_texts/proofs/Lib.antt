@@ -3,5 +3,3 @@ pub mod JobLaws
 pub mod Heads
 pub mod AnswerLaws
 pub mod Wholes
-mod Outcomes
-mod Pieces

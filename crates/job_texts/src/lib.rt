@@ -11,14 +11,12 @@
 //! may cite, of `proofs/`: `JobLaws` and `AnswerLaws` (each line, and the whole, is read as it is spelled).
 #![tactic(auto)]
 
-mod fault;
 mod jobs;
 mod laws;
-mod lines;
 mod reading;
 mod writing;
 
-pub use fault::ReadFault;
+pub use cert_text::ReadFault;
 pub use jobs::JobsText;
 pub use laws::text_law;
 pub use reading::{read_answers, read_jobs};

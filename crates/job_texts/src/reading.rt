@@ -3,47 +3,25 @@
 //! A reader stops with `Stop::Text` where its line is faulty, and with `Stop::Source` only where the source is broken, which a text in memory
 //! never is.
 
-ghost use Rattle.std.specs.Prelude.{◌≡◌, ◌↔◌, Some, map, option_map, false, IfOk, IfErr, IsTrue, List};
-ghost use Rattle.box_space.specs.Views.{shown_part, shown_proof, shown_split};
+ghost use Rattle.std.specs.Prelude.{◌≡◌, ◌↔◌, Some, option_map, false, IfOk, IfErr, IsTrue, List};
+ghost use Rattle.box_space.specs.Views.{shown_proof};
 ghost use Rattle.cert_text.specs.Reading.{Gives, each_at, finished, first_of, whole};
-ghost use Rattle.cert_format.specs.Reading.{part_at, split_line_at, splits_at};
 ghost use Rattle.work_units.specs.Units.{Answer as ShownAnswer};
 ghost use Rattle.work_units.specs.Views.{shown_answer};
 ghost use Rattle.job_texts.specs.Texts.{AreJobs, AreWritten, Jobs, answers_text, jobs_text};
 ghost use Rattle.job_texts.specs.Reading.{answer_at, answer_list_at, answers_at, half_at, head_at, job_line_at, job_lines_at, jobs_at, rest_at};
 ghost use Rattle.job_texts.specs.Views.{place_of, shown_answers, shown_jobs};
-ghost use Rattle.job_texts.specs.Results.{Closes, Comes, IsFaultIn, IsReadAs, Yields};
+ghost use Rattle.cert_text.specs.Results.{Closes, Comes, IsFaultIn, IsReadAs, Yields};
 
-use crate::fault::{Halt, ReadFault};
 use crate::jobs::JobsText;
-use box_space::{Part, Proof, Split};
+use box_space::{Proof, Split};
 use box_tree::Entry;
-use cert_format::reading::{part, shape, split_line};
-use cert_text::{Ends, SliceSource, Source, Stop, TextFault, i64_then, u32_then, u64_then, word};
+use cert_format::reading::{part_list, shape, splits};
+use cert_text::{
+    Ends, Halt, ReadFault, SliceSource, Source, Stop, TextFault, i64_then, u32_then, u64_then, word,
+};
 use std::alloc::Global;
 use work_units::{Answer, Job};
-
-/// The lines of n splits.
-fn split_list<S: Source>(alloc: Global, src: &mut S, n: u32) -> Result<Vec<Split>, Halt>
-    ensures { Yields (λ v. map shown_split v.items) result (S.at src.new) (S.broken src.new) (each_at (λ _. split_line_at) n (S.at src.old)) }
-{
-    let mut splits = Vec::new(alloc);
-    for _ in 0..n {
-        let split = split_line(src)?;
-        splits.push(split)?;
-    }
-    Ok(splits)
-}
-
-/// The count of the splits, and their lines.
-#[tactic(auto, unfolding(cert_format::specs::Reading::splits_at))]
-fn splits<S: Source>(alloc: Global, src: &mut S) -> Result<Vec<Split>, Halt>
-    ensures { Yields (λ v. map shown_split v.items) result (S.at src.new) (S.broken src.new) (splits_at (S.at src.old)) }
-{
-    word(src, b"splits ")?;
-    let n = u32_then(src, Ends::Line)?;
-    split_list(alloc, src, n)
-}
 
 /// The line of a job.
 #[tactic(auto, unfolding(crate::specs::Reading::job_line_at))]
@@ -134,18 +112,6 @@ pub fn read_jobs(alloc: Global, bytes: &[u8]) -> Result<JobsText, ReadFault>
     ensures fault { IfErr result (IsFaultIn Jobs AreJobs jobs_text bytes.now) }
 {
     all_jobs(alloc, bytes)
-}
-
-/// n parts, to the end of the line.
-fn part_list<S: Source>(alloc: Global, src: &mut S, n: u32) -> Result<Vec<Part>, Halt>
-    ensures { Yields (λ v. map shown_part v.items) result (S.at src.new) (S.broken src.new) (each_at part_at n (S.at src.old)) }
-{
-    let mut parts = Vec::new(alloc);
-    for i in 0..n {
-        let part = part(src, n - i - 1)?;
-        parts.push(part)?;
-    }
-    Ok(parts)
 }
 
 /// Whether the next byte is the first of the word for no proof.

@@ -4,65 +4,18 @@ ghost use Rattle.std.specs.Prelude.{[], Some, map, option_map, OnErr};
 ghost use Rattle.std.specs.List.{flat_map};
 ghost use Rattle.edge_io.specs.Counts.{Grows, Rose};
 ghost use Rattle.edge_io.specs.Writing.{Wrote};
-ghost use Rattle.box_space.specs.Views.{shown_part, shown_proof, shown_split};
-ghost use Rattle.cert_writing.specs.Text.{field, part_fields, split_line, split_lines};
+ghost use Rattle.box_space.specs.Views.{shown_proof, shown_split};
 ghost use Rattle.row_model.specs.Entries.{split_of};
 ghost use Rattle.work_units.specs.Views.{shown_answer};
 ghost use Rattle.job_texts.specs.Texts.{answer_line, answer_lines, answer_list, answers_text, entry_lines, half_line, job_line, job_lines, jobs_text};
 ghost use Rattle.job_texts.specs.Views.{shown_jobs};
 
 use crate::jobs::JobsText;
-use crate::lines::{write_fields, write_line};
-use box_space::{Part, Proof, Split};
+use box_space::{Proof, Split};
 use box_tree::Entry;
+use cert_writing::{Text, write_line, write_splits, write_text};
 use edge_io::{Sink, WriteFault, write_whole};
-use text_buffer::TextBuffer;
 use work_units::{Answer, Job};
-
-/// The line of a split.
-fn put_split<K: Sink>(out: &mut K, split: &Split) -> Result<(), WriteFault>
-    ensures wrote { Wrote result (K.taken out.old) (split_line (shown_split split.now)) (K.taken out.new) }
-    ensures failed { OnErr result (Rose (K.faults out.old) (K.faults out.new)) }
-    ensures faults_grow { Grows (K.faults out.old) (K.faults out.new) }
-{
-    let fields = [i64::from(split.leaf), i64::from(split.coord), split.cut];
-    write_line(out, b"split", &fields)
-}
-
-/// The lines of splits.
-fn write_split_list<K: Sink>(out: &mut K, splits: &[Split]) -> Result<(), WriteFault>
-    ensures wrote { Wrote result (K.taken out.old) (flat_map (λ s. split_line (shown_split s)) splits.now) (K.taken out.new) }
-    ensures failed { OnErr result (Rose (K.faults out.old) (K.faults out.new)) }
-    ensures faults_grow { Grows (K.faults out.old) (K.faults out.new) }
-{
-    for split in splits {
-        write_split(out, split)?;
-    }
-    Ok(())
-}
-
-/// The line of a split, as one piece.
-fn write_split<K: Sink>(out: &mut K, split: &Split) -> Result<(), WriteFault>
-    ensures wrote { Wrote result (K.taken out.old) (split_line (shown_split split.now)) (K.taken out.new) }
-    ensures failed { OnErr result (Rose (K.faults out.old) (K.faults out.new)) }
-    ensures faults_grow { Grows (K.faults out.old) (K.faults out.new) }
-{
-    let mut text = TextBuffer::new();
-    match put_split(&mut text, split) {
-        Ok(()) => write_whole(out, text.text()),
-        Err(_) => put_split(out, split),
-    }
-}
-
-/// The count of the splits, and their lines.
-fn write_splits<K: Sink>(out: &mut K, splits: &[Split]) -> Result<(), WriteFault>
-    ensures wrote { Wrote result (K.taken out.old) (split_lines (map shown_split splits.now)) (K.taken out.new) }
-    ensures failed { OnErr result (Rose (K.faults out.old) (K.faults out.new)) }
-    ensures faults_grow { Grows (K.faults out.old) (K.faults out.new) }
-{
-    write_line(out, b"splits", &[splits.len()])?;
-    write_split_list(out, splits)
-}
 
 /// The lines of jobs.
 fn write_job_list<K: Sink>(out: &mut K, jobs: &[Job]) -> Result<(), WriteFault>
@@ -111,36 +64,13 @@ pub fn write_jobs<K: Sink>(jobs: &JobsText, out: &mut K) -> Result<(), WriteFaul
     write_whole(out, b"end\n")
 }
 
-/// The fields of a part.
-fn write_part<K: Sink>(out: &mut K, part: &Part) -> Result<(), WriteFault>
-    ensures wrote { Wrote result (K.taken out.old) (flat_map field (part_fields (shown_part part.now))) (K.taken out.new) }
-    ensures failed { OnErr result (Rose (K.faults out.old) (K.faults out.new)) }
-    ensures faults_grow { Grows (K.faults out.old) (K.faults out.new) }
-{
-    write_fields(out, &[i64::from(part.row), part.mult])
-}
-
-/// The fields of parts.
-fn write_parts<K: Sink>(out: &mut K, parts: &[Part]) -> Result<(), WriteFault>
-    ensures wrote { Wrote result (K.taken out.old) (flat_map (λ p. flat_map field (part_fields (shown_part p))) parts.now) (K.taken out.new) }
-    ensures failed { OnErr result (Rose (K.faults out.old) (K.faults out.new)) }
-    ensures faults_grow { Grows (K.faults out.old) (K.faults out.new) }
-{
-    for part in parts {
-        write_part(out, part)?;
-    }
-    Ok(())
-}
-
 /// The line of a half with a proof, behind its word.
 fn write_proof<K: Sink>(out: &mut K, proof: &Proof) -> Result<(), WriteFault>
     ensures wrote { Wrote result (K.taken out.old) (half_line [] (Some (shown_proof proof.now))) (K.taken out.new) }
     ensures failed { OnErr result (Rose (K.faults out.old) (K.faults out.new)) }
     ensures faults_grow { Grows (K.faults out.old) (K.faults out.new) }
 {
-    let parts = proof.parts.as_slice();
-    write_fields(out, &[proof.scale, parts.len() as u64])?;
-    write_parts(out, parts)?;
+    proof.put(out)?;
     write_whole(out, b"\n")
 }
 
@@ -198,28 +128,20 @@ fn write_halves<K: Sink>(
     write_half(out, b"right", right)
 }
 
-/// The lines of an answer, piece by piece.
-fn put_answer<K: Sink>(out: &mut K, answer: &Answer) -> Result<(), WriteFault>
-    ensures wrote { Wrote result (K.taken out.old) (answer_lines (shown_answer answer.now)) (K.taken out.new) }
-    ensures failed { OnErr result (Rose (K.faults out.old) (K.faults out.new)) }
-    ensures faults_grow { Grows (K.faults out.old) (K.faults out.new) }
-{
-    match &answer.entry {
-        Entry::SplitOf(split, left, right) => write_halves(out, answer.number, split, left, right),
-        Entry::Root(_) | Entry::Improve(_) => write_whole(out, b""),
-    }
-}
+/// An answer, for its lines.
+#[derive(Clone, Copy)]
+struct AnswerText<'a>(&'a Answer);
 
-/// The lines of an answer, handed on as one piece, or piece by piece where that is too long.
-fn write_answer<K: Sink>(out: &mut K, answer: &Answer) -> Result<(), WriteFault>
-    ensures wrote { Wrote result (K.taken out.old) (answer_lines (shown_answer answer.now)) (K.taken out.new) }
-    ensures failed { OnErr result (Rose (K.faults out.old) (K.faults out.new)) }
-    ensures faults_grow { Grows (K.faults out.old) (K.faults out.new) }
-{
-    let mut text = TextBuffer::new();
-    match put_answer(&mut text, answer) {
-        Ok(()) => write_whole(out, text.text()),
-        Err(_) => put_answer(out, answer),
+impl<'a> Text for AnswerText<'a> {
+    ghost text = { λ it. answer_lines (shown_answer it.0.now) };
+
+    fn put<K: Sink>(&self, out: &mut K) -> Result<(), WriteFault> {
+        match &self.0.entry {
+            Entry::SplitOf(split, left, right) => {
+                write_halves(out, self.0.number, split, left, right)
+            }
+            Entry::Root(_) | Entry::Improve(_) => write_whole(out, b""),
+        }
     }
 }
 
@@ -230,7 +152,7 @@ fn write_answer_list<K: Sink>(out: &mut K, answers: &[Answer]) -> Result<(), Wri
     ensures faults_grow { Grows (K.faults out.old) (K.faults out.new) }
 {
     for answer in answers {
-        write_answer(out, answer)?;
+        write_text(out, &AnswerText(answer))?;
     }
     Ok(())
 }

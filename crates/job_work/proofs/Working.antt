@@ -1,15 +1,14 @@
 -- The split of a leaf, put together.
-use Rattle.std.proofs.Common.{◌≡◌, ℕ, ◌<◌, [], List, length, Option, Some, option_map, ℤ, pos, ◌<ℤ◌, refl, sym, subst, ◌∙◌}
+use Rattle.std.proofs.Common.{◌≡◌, ℕ, ◌<◌, List, length, Option, Some, option_map, ℤ, pos, ◌<ℤ◌, refl, sym, subst, ◌∙◌}
 use Rattle.std.specs.Option.{ForSome}
 use Rattle.pool_model.specs.Network.{Net}
 use Rattle.row_model.specs.Boxes.{Box, left_of, right_of}
 use Rattle.row_model.specs.Multipliers.{Proof, IsInOrder, bound}
-use Rattle.row_model.specs.Trees.{box_of, most_splits, IsLeaf}
+use Rattle.row_model.specs.Trees.{Split as Cut, box_of, most_splits, IsLeaf}
 use Rattle.row_model.specs.Entries.{Entry, root_proof, split_of, improve, Searched, IsSplitEntryInOrder}
 use Rattle.box_space.specs.Views.{shown_proof, shown_split}
 use Rattle.box_space.specs.declared.coordinates.Form.{Form}
 use Rattle.box_space.specs.declared.coordinates.Split.{Split}
-use Rattle.box_tree.specs.Counts.{AreCounts}
 use Rattle.branching.specs.Rows.{View, HasOpen}
 use Rattle.branching.specs.Rules.{IsPick}
 use Rattle.branching.specs.declared.name.RuleName.TheVariants.{Widest}
@@ -32,23 +31,23 @@ abbrev pub asks : Form → Options
 asks form = record { form = form; nodes = 0; gap = pos 0; pivots = 0; looks = 0 }
 
 -- where no row is open, the leaf can't be cut
-pub uncut-at : (n : Net) (form : Form) (b : Box) (node : ℕ) (v : View) → IsViewOf n form b node v → ¬ HasOpen v.rows → ¬ CanBeCut n form b
-uncut-at n form b node v seen shut can = closed-uncut n form b node v can.0 seen shut can.1
+pub uncut-at : (n : Net) (form : Form) (splits : List Cut) (b : Box) (node : ℕ) (v : View) → IsViewOf n form splits b node v → ¬ HasOpen v.rows → ¬ CanBeCut n form b
+uncut-at n form splits b node v seen shut can = closed-uncut n form splits b node v can.0 seen shut can.1
 
-module _ (n : Net) (form : Form) (s : Searched) (cuts : List ℕ) (node : ℕ) (view : View) (split : Split) (h : Halving) (least : ℤ)
-    (leaf : IsLeaf s.tree.splits node) (counted : AreCounts n s.tree.splits cuts) (seen : IsViewOf n form (box_of n s.tree.splits node) node view)
-    (pick : IsPick (picked Widest []) view split) (halved : IsHalvingOf n form (box_of n s.tree.splits node) least h) (same : h.coord ≡ split.coord)
+module _ (n : Net) (form : Form) (s : Searched) (node : ℕ) (view : View) (split : Split) (h : Halving) (least : ℤ)
+    (leaf : IsLeaf s.tree.splits node) (seen : IsViewOf n form s.tree.splits (box_of n s.tree.splits node) node view)
+    (pick : IsPick (picked Widest) view split) (halved : IsHalvingOf n form (box_of n s.tree.splits node) least h) (same : h.coord ≡ split.coord)
     (least_is : least ≡ least_at n s.tree node) where
   at : split.leaf ≡ node
   at = pick.split_at.node ∙ seen.node
 
   halving : IsHalving n (asks form) (box_of n s.tree.splits node) least split (option_map shown_proof h.left) (option_map shown_proof h.right)
-  halving = pick-halving n (asks form) (box_of n s.tree.splits node) node view split (picked Widest []) seen pick h least halved same
+  halving = pick-halving n (asks form) s.tree.splits (box_of n s.tree.splits node) node view split (picked Widest) seen pick h least halved same
 
   cut-at : IsWidestCut n form (box_of n s.tree.splits node) split.coord split.cut
   cut-at = record {
     cuttable = halving.cuttable;
-    widest = pick-chosen n form Widest s.tree.splits cuts (box_of n s.tree.splits node) node view split counted seen pick;
+    widest = pick-chosen n form Widest s.tree.splits (box_of n s.tree.splits node) node view split seen pick;
     middle = halving.middle;
   }
 

@@ -1,12 +1,13 @@
 //! Answers to jobs, one after another.
 
-ghost use Rattle.std.specs.Prelude.{[], ℕ, ◌<◌, length, map, IfOk};
+ghost use Rattle.std.specs.Prelude.{ℕ, ◌<◌, length, map, IfOk};
 ghost use Rattle.pool_model.specs.Network.{IsLimited, net_of};
 ghost use Rattle.row_model.specs.Trees.{most_splits, IsLeaf};
 ghost use Rattle.box_tree.specs.Kept.{IsOf, searched_of};
 ghost use Rattle.branching.specs.Rows.{HasOpen};
 ghost use Rattle.branching.specs.declared.name.RuleName.TheVariants as names;
-ghost use Rattle.search_run.specs.Orders.{IsPickedBy, Keeps};
+ghost use Rattle.branching.specs.Known.{IsPickedBy};
+ghost use Rattle.search_run.specs.Orders.{Keeps};
 ghost use Rattle.work_units.specs.Units.{AreJobs, node_of};
 ghost use Rattle.work_units.specs.Views.{shown_answer};
 ghost use Rattle.job_work.specs.Answered.{AreAnswered, AreWorked, FitDesks};
@@ -43,12 +44,12 @@ pub fn answers_to(
         alloc,
         |view: &LeafView| -> usize
             requires { HasOpen view.now.rows }
-            ensures { IsPickedBy names.Widest [] view.now.rows result }
+            ensures { IsPickedBy names.Widest view.now.rows result }
         { widest(view) },
     )?;
     let rule = CutRule::new(closure);
     // a network in memory keeps within its limits
-    let _counts = net.counts();
+    let _counts = net.sizes();
     answers_by(alloc, net, form, tree, jobs, &rule)
 }
 
@@ -65,7 +66,7 @@ fn answers_by(
     requires tree { IsOf (net_of net.now) tree.now }
     requires jobs { AreJobs tree.now.kept.splits.list jobs.now }
     requires leaves { (k : ℕ) → k < length jobs.now → IsLeaf tree.now.kept.splits.list (node_of jobs.now k) }
-    requires rule { Keeps names.Widest [] (⟦<branching::RuleClosure as Fn(&branching::LeafView) -> usize>⟧.post rule.now.closure) }
+    requires rule { Keeps names.Widest (⟦<branching::RuleClosure as Fn(&branching::LeafView) -> usize>⟧.post rule.now.closure) }
     ensures answered { IfOk result (λ answers. AreAnswered (net_of net.now) form tree.now.kept.splits.list jobs.now (map shown_answer answers.items)) }
     ensures worked { IfOk result (λ answers. AreWorked (net_of net.now) form (searched_of tree.now.kept) jobs.now (map shown_answer answers.items)) }
     ensures fits { length tree.now.kept.splits.list < most_splits

@@ -1,6 +1,6 @@
 //! The work on a leaf.
 
-ghost use Rattle.std.specs.Prelude.{◌≡◌, ◌<◌, [], IfOk, IfSome, IfNone};
+ghost use Rattle.std.specs.Prelude.{◌≡◌, ◌<◌, IfOk, IfSome, IfNone};
 ghost use Rattle.pool_model.specs.Network.{IsLimited, net_of};
 ghost use Rattle.row_model.specs.Trees.{nodes, box_of, IsLeaf};
 ghost use Rattle.box_tree.specs.Kept.{IsOf, searched_of};
@@ -31,7 +31,7 @@ pub(crate) fn work_leaf(
     requires limited { IsLimited (net_of net.now) }
     requires tree { IsOf (net_of net.now) tree.now }
     requires leaf { IsLeaf tree.now.kept.splits.list node }
-    requires rule { Keeps names.Widest [] (⟦<branching::RuleClosure as Fn(&branching::LeafView) -> usize>⟧.post rule.now.closure) }
+    requires rule { Keeps names.Widest (⟦<branching::RuleClosure as Fn(&branching::LeafView) -> usize>⟧.post rule.now.closure) }
     ensures some { IfOk result (λ o. IfSome o (λ entry. IsWorked (net_of net.now) form (searched_of tree.now.kept) node (shown_entry entry))) }
     ensures none { IfOk result (λ o. IfNone o (¬ CanBeCut (net_of net.now) form (box_of (net_of net.now) tree.now.kept.splits.list node))) }
 {

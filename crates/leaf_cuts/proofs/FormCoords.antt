@@ -8,6 +8,7 @@ use Rattle.std.proofs.lemmas.Grind.{common_steps}
 use Rattle.integers.specs.Numbers.{tabulate}
 use Rattle.pool_model.specs.Network.{Net}
 use Rattle.row_model.specs.Boxes.{Box, coords, coord_at}
+use Rattle.row_model.specs.Trees.{Split}
 use Rattle.box_space.specs.Forms.{cuts}
 use Rattle.box_space.specs.Views.{AreEndsOf}
 use Rattle.box_space.specs.declared.coordinates.Form.{Form}
@@ -24,25 +25,25 @@ cuts_at n form c = cuts form (coord_at n c)
 
 -- ---- rows so far
 
--- a row has its coordinate's ends in each box whose ends these are
-abbrev pub HasEnds : Net → BoxEnds → CoordRow → Type 0
-HasEnds n e r = (b : Box) → AreEndsOf n b e → IsRowOf n b r
+-- a row is the tree's, over each box whose ends these are
+abbrev pub HasEnds : Net → List Split → BoxEnds → CoordRow → Type 0
+HasEnds n splits e r = (b : Box) → AreEndsOf n b e → IsRowOf n splits b r
 
 -- a row for each coordinate of the form below a count
-pub record AreSoFar (n : Net) (form : Form) (e : BoxEnds) (count : ℕ) (rows : List CoordRow) : Type 0 where
+pub record AreSoFar (n : Net) (form : Form) (splits : List Split) (e : BoxEnds) (count : ℕ) (rows : List CoordRow) : Type 0 where
   pub coords : map (λ r. r.coord) rows ≡ filter (cuts_at n form) (tabulate (λ c. c) count)
-  pub ends : All (HasEnds n e) rows
+  pub ends : All (HasEnds n splits e) rows
   pub are : AreRows rows
   pub below : (i : ℕ) → i < length rows → (row_at rows i).coord < count
 
-pub so_far-push : (n : Net) (form : Form) (e : BoxEnds) (count : ℕ) (rows : List CoordRow) (r : CoordRow) → AreSoFar n form e count rows
-    → cuts_at n form count ≡ true → r.coord ≡ count → IsRow r → HasEnds n e r → AreSoFar n form e (count + 1) (rows ++ r ∷ [])
-so_far-push n form e count rows r so cut is row ends =
+pub so_far-push : (n : Net) (form : Form) (splits : List Split) (e : BoxEnds) (count : ℕ) (rows : List CoordRow) (r : CoordRow) → AreSoFar n form splits e count rows
+    → cuts_at n form count ≡ true → r.coord ≡ count → IsRow r → HasEnds n splits e r → AreSoFar n form splits e (count + 1) (rows ++ r ∷ [])
+so_far-push n form splits e count rows r so cut is row ends =
     let below : (i : ℕ) → i < length rows → (row_at rows i).coord < r.coord = λ i h. subst (λ (c : ℕ). (row_at rows i).coord < c) (sym is) (so.below i h) in
     record {
       coords = map-append (λ (s : CoordRow). s.coord) rows (r ∷ []) ∙ ap (λ (xs : List ℕ). xs ++ r.coord ∷ []) so.coords
           ∙ ap (λ (c : ℕ). filter (cuts_at n form) (tabulate (λ c. c) count) ++ c ∷ []) is ∙ sym (passes_more (cuts_at n form) count cut);
-      ends = All-append (HasEnds n e) rows (r ∷ []) so.ends (All-cons (HasEnds n e) r [] ends (All-nil (HasEnds n e)));
+      ends = All-append (HasEnds n splits e) rows (r ∷ []) so.ends (All-cons (HasEnds n splits e) r [] ends (All-nil (HasEnds n splits e)));
       are = AreRows-push rows r so.are row below;
       below = λ i h. pushed i h (length-append rows (r ∷ []));
     }
@@ -50,8 +51,9 @@ so_far-push n form e count rows r so cut is row ends =
     pushed : (i : ℕ) → i < length (rows ++ r ∷ []) → length (rows ++ r ∷ []) ≡ length rows + 1 → (row_at (rows ++ r ∷ []) i).coord < count + 1
     pushed i h long = grind (arith, common_steps, so.below i, is)
 
-pub so_far-pass : (n : Net) (form : Form) (e : BoxEnds) (count : ℕ) (rows : List CoordRow) → AreSoFar n form e count rows → cuts_at n form count ≡ false → AreSoFar n form e (count + 1) rows
-so_far-pass n form e count rows so uncut = record {
+pub so_far-pass : (n : Net) (form : Form) (splits : List Split) (e : BoxEnds) (count : ℕ) (rows : List CoordRow) → AreSoFar n form splits e count rows → cuts_at n form count ≡ false
+    → AreSoFar n form splits e (count + 1) rows
+so_far-pass n form splits e count rows so uncut = record {
   coords = so.coords ∙ sym (fails_more (cuts_at n form) count uncut);
   ends = so.ends;
   are = so.are;
@@ -65,8 +67,8 @@ pub record IsOfForm (n : Net) (form : Form) (c : ℕ) : Type 0 where
   pub known : c < coords n
   pub of_form : IsTrue (cuts form (coord_at n c))
 
-pub coord-of : (n : Net) (form : Form) (b : Box) (rows : List CoordRow) (i : ℕ) → AreRowsOf n form b rows → i < length rows → IsOfForm n form (row_at rows i).coord
-coord-of n form b rows i are h =
+pub coord-of : (n : Net) (form : Form) (splits : List Split) (b : Box) (rows : List CoordRow) (i : ℕ) → AreRowsOf n form splits b rows → i < length rows → IsOfForm n form (row_at rows i).coord
+coord-of n form splits b rows i are h =
     let at : get_or (form_coords n form) i 0 ≡ (row_at rows i).coord =
     ap (λ (xs : List ℕ). get_or xs i 0) (sym are.coords) ∙ get_or-map (λ (r : CoordRow). r.coord) rows i no_row 0 h in
     let long : length (form_coords n form) ≡ length rows = ap (λ (xs : List ℕ). length xs) (sym are.coords) ∙ length-map rows (λ (r : CoordRow). r.coord) in
@@ -112,8 +114,8 @@ among-numbers p (suc n) c h cut =
     clash : (b : Bool) → b ≡ false → b ≡ true → ⊥
     clash b e t = cc
 
-pub row-of : (n : Net) (form : Form) (b : Box) (rows : List CoordRow) (c : ℕ) → AreRowsOf n form b rows → IsOfForm n form c → (i : ℕ) × (i < length rows) × ((row_at rows i).coord ≡ c)
-row-of n form b rows c are of =
+pub row-of : (n : Net) (form : Form) (splits : List Split) (b : Box) (rows : List CoordRow) (c : ℕ) → AreRowsOf n form splits b rows → IsOfForm n form c → (i : ℕ) × (i < length rows) × ((row_at rows i).coord ≡ c)
+row-of n form splits b rows c are of =
     let a = among-numbers (cuts_at n form) (coords n) c of.known of.of_form in
     let long : length (form_coords n form) ≡ length rows = ap (λ (xs : List ℕ). length xs) (sym are.coords) ∙ length-map rows (λ (r : CoordRow). r.coord) in
     let there : a.place < length rows = omega (arith, long, a.there) in

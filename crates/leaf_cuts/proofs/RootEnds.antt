@@ -1,12 +1,14 @@
 -- The ends of the root box, and so those of each proper box, are at most 10^12 in size.
-use Rattle.std.proofs.Common.{◌≡◌, ℕ, ◌^◌, ◌<◌, ◌≤◌, ℤ, ◌-ℤ◌, ◌≤ℤ◌}
+use Rattle.std.proofs.Common.{◌≡◌, ℕ, ◌^◌, ◌<◌, ◌≤◌, List, ℤ, ◌-ℤ◌, ◌≤ℤ◌}
 use Rattle.std.proofs.Common.{unsigned_abs, arith, sym, ap, subst, ◌∙◌, FitsSigned}
 use mir.Syntax.{w64}
 use Rattle.std.proofs.lemmas.Int.{ints}
 use Rattle.pool_model.specs.Network.{Net, IsLimited}
 use Rattle.row_model.specs.Boxes.{Box, coords, coord_at, root, root_low, root_high, IsProper}
+use Rattle.row_model.specs.Trees.{Split}
 use Rattle.box_space.specs.Views.{shown_box_ends, AreEndsOf}
 use Rattle.box_space.specs.declared.boxes.BoxEnds.{BoxEnds}
+use Rattle.box_tree.specs.Counts.{cuts_on}
 use Rattle.row_book.proofs.NearEnds.{root-near as root_ends-near, ends-near as box_ends-near}
 use Rattle.leaf_cuts.specs.Halvings.{AreNear}
 use Rattle.leaf_cuts.specs.Views.{IsRowOf}
@@ -40,9 +42,10 @@ near-fits low high r = fits low high r.least r.greatest
     fits a b h k = omega (arith, ints)
 
 -- the row of a coordinate, of ends that are held
-pub row-ends : (n : Net) (b : Box) (e : BoxEnds) (coord miss : ℕ) (low high least greatest : ℤ) → coord < coords n → low ≡ (shown_box_ends e).low coord → high ≡ (shown_box_ends e).high coord
-    → least ≡ (root n).low coord → greatest ≡ (root n).high coord → AreEndsOf n b e → IsRowOf n b record { coord = coord; low = low; high = high; root_width = greatest -ℤ least; miss = miss }
-row-ends n b e coord miss low high least greatest lt l h rl rh is = record {
+pub row-ends : (n : Net) (splits : List Split) (b : Box) (e : BoxEnds) (coord cuts miss : ℕ) (low high least greatest : ℤ) → coord < coords n → cuts ≡ cuts_on splits coord → low ≡ (shown_box_ends e).low coord → high ≡ (shown_box_ends e).high coord
+    → least ≡ (root n).low coord → greatest ≡ (root n).high coord → AreEndsOf n b e → IsRowOf n splits b record { coord = coord; cuts = cuts; low = low; high = high; root_width = greatest -ℤ least; miss = miss }
+row-ends n splits b e coord cuts miss low high least greatest lt counted l h rl rh is = record {
+  cuts = counted;
   low = l ∙ is.agree.low coord lt;
   high = h ∙ is.agree.high coord lt;
   root_width = ap (λ (z : ℤ). z -ℤ least) rh ∙ ap (λ (z : ℤ). (root n).high coord -ℤ z) rl;

@@ -4,6 +4,7 @@ ghost use Rattle.std.specs.Prelude.{◌≡◌, All, IfOk};
 ghost use Rattle.pool_model.specs.Network.{IsLimited, net_of};
 ghost use Rattle.row_model.specs.Boxes.{Box};
 ghost use Rattle.box_space.specs.Views.{AreEnds, AreEndsOf};
+ghost use Rattle.box_tree.specs.Kept.{IsOf};
 ghost use Rattle.leaf_cuts.specs.Benches.{IsBench};
 ghost use Rattle.leaf_cuts.specs.Halvings.{IsHalvingOf};
 ghost use Rattle.leaf_cuts.specs.Views.{IsViewOf};
@@ -163,18 +164,19 @@ impl Bench {
         gap: i128,
     ) -> Result<Looked, Memory>
         requires limited { IsLimited (net_of net.now) }
+        requires tree { IsOf (net_of net.now) tree.now }
         requires ends { AreEnds (net_of net.now) leaf.now.ends }
         requires bench { IsBench (net_of net.now) self.old }
         ensures bench { IsBench (net_of net.now) self.new }
         ensures form { self.new.form ≡ self.old.form }
         // Promise: A cut rule sees the least leaf of the tree: a row for each coordinate of the form, with its ends in the leaf's box
-        ensures view { (b : Box) → AreEndsOf (net_of net.now) b leaf.now.ends → IfOk result (λ l. IsViewOf (net_of net.now) self.old.form b leaf.now.node l.view) }
+        ensures view { (b : Box) → AreEndsOf (net_of net.now) b leaf.now.ends → IfOk result (λ l. IsViewOf (net_of net.now) self.old.form tree.now.kept.splits.list b leaf.now.node l.view) }
         ensures halvings { (b : Box) → AreEndsOf (net_of net.now) b leaf.now.ends
             → IfOk result (λ l. All (IsHalvingOf (net_of net.now) self.old.form b leaf.now.bound) l.halvings.items) }
     {
         let mut misses = self.misses(alloc, net, tree, leaf, looks)?;
         let look = Look::new(self.form, tree, leaf.bound, looks, gap);
-        self.look_by(alloc, net, leaf, misses.as_mut_slice(), look)
+        self.look_by(alloc, net, tree, leaf, misses.as_mut_slice(), look)
     }
 
     /// By how much each coordinate of a leaf of a tree is missed; nothing where none is looked at.
@@ -203,16 +205,18 @@ impl Bench {
         &mut self,
         alloc: Global,
         net: &Network,
+        tree: &Tree,
         leaf: &Leaf,
         misses: &mut [u64],
         look: Look,
     ) -> Result<Looked, Memory>
         requires limited { IsLimited (net_of net.now) }
+        requires tree { IsOf (net_of net.now) tree.now }
         requires ends { AreEnds (net_of net.now) leaf.now.ends }
         requires bench { IsBench (net_of net.now) self.old }
         ensures bench { IsBench (net_of net.now) self.new }
         ensures form { self.new.form ≡ self.old.form }
-        ensures view { (b : Box) → AreEndsOf (net_of net.now) b leaf.now.ends → IfOk result (λ l. IsViewOf (net_of net.now) self.old.form b leaf.now.node l.view) }
+        ensures view { (b : Box) → AreEndsOf (net_of net.now) b leaf.now.ends → IfOk result (λ l. IsViewOf (net_of net.now) self.old.form tree.now.kept.splits.list b leaf.now.node l.view) }
         ensures halvings { (b : Box) → AreEndsOf (net_of net.now) b leaf.now.ends
             → IfOk result (λ l. All (IsHalvingOf (net_of net.now) self.old.form b leaf.now.bound) l.halvings.items) }
     {
@@ -220,7 +224,7 @@ impl Bench {
         let halvings = self.halved(alloc, net, leaf, best.as_slice(), look)?;
         let top = look.leader(halvings.as_slice());
         put(misses, top as usize, u64::MAX);
-        let view = leaf_view(alloc, net, self.form, leaf.node, &leaf.ends, misses)?;
+        let view = leaf_view(alloc, net, tree, self.form, leaf, misses)?;
         Ok(Looked { view, halvings })
     }
 

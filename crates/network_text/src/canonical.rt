@@ -95,15 +95,15 @@ fn arcs_value(alloc: Global, net: &Network, version: Version) -> Result<Value, A
     ensures made { IsMade net.now }
     ensures limited { IsLimited (net_of net.now) }
 {
-    let [_, _, _, _, feeds, outs, directs] = net.counts();
+    let counts = net.sizes();
     let mut list = Vec::new(alloc);
-    'feeds: for n in 0..feeds {
+    'feeds: for n in 0..counts.feeds {
         list.push(feed_value(alloc, net, version, n)?)?;
     }
-    'outs: for n in 0..outs {
+    'outs: for n in 0..counts.outs {
         list.push(out_value(alloc, net, version, n)?)?;
     }
-    'directs: for n in 0..directs {
+    'directs: for n in 0..counts.directs {
         list.push(direct_value(alloc, net, version, n)?)?;
     }
     Ok(Value::Array(list))
@@ -112,7 +112,7 @@ fn arcs_value(alloc: Global, net: &Network, version: Version) -> Result<Value, A
 fn pools_value(alloc: Global, net: &Network, version: Version) -> Result<Value, AllocError>
     ensures { IfOk result (λ v. view v ≡ list_data (pool_data version net.now.qualities) net.now.pools) }
 {
-    let [_, pools, _, _, _, _, _] = net.counts();
+    let pools = net.sizes().pools;
     let mut list = Vec::new(alloc);
     for n in 0..pools {
         list.push(pool_value(alloc, net, version, n)?)?;
@@ -123,7 +123,7 @@ fn pools_value(alloc: Global, net: &Network, version: Version) -> Result<Value, 
 fn products_value(alloc: Global, net: &Network) -> Result<Value, AllocError>
     ensures { IfOk result (λ v. view v ≡ list_data (product_data net.now.qualities) net.now.products) }
 {
-    let [_, _, products, _, _, _, _] = net.counts();
+    let products = net.sizes().products;
     let mut list = Vec::new(alloc);
     for n in 0..products {
         list.push(product_value(alloc, net, n)?)?;
@@ -135,7 +135,7 @@ fn products_value(alloc: Global, net: &Network) -> Result<Value, AllocError>
 fn names_value(alloc: Global, net: &Network) -> Result<Value, AllocError>
     ensures { IfOk result (λ v. view v ≡ list_data string net.now.qualities) }
 {
-    let [_, _, _, qualities, _, _, _] = net.counts();
+    let qualities = net.sizes().qualities;
     let mut list = Vec::new(alloc);
     for k in 0..qualities {
         list.push(name_value(alloc, net, Kind::Quality, k)?)?;
@@ -146,7 +146,7 @@ fn names_value(alloc: Global, net: &Network) -> Result<Value, AllocError>
 fn sources_value(alloc: Global, net: &Network) -> Result<Value, AllocError>
     ensures { IfOk result (λ v. view v ≡ list_data (source_data net.now.qualities) net.now.sources) }
 {
-    let [sources, _, _, _, _, _, _] = net.counts();
+    let sources = net.sizes().sources;
     let mut list = Vec::new(alloc);
     for n in 0..sources {
         list.push(source_value(alloc, net, n)?)?;

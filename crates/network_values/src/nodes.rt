@@ -54,7 +54,7 @@ fn quality_of(alloc: Global, net: &Network, source: u32) -> Result<Vec<Option<i6
     ensures quality { IfOk result (λ v. v.items ≡ map Some (get_or net.now.sources source no_source).quality) }
     ensures each { IfOk result (λ v. length v.items ≡ length net.now.qualities) }
 {
-    let [_, _, _, qualities, _, _, _] = net.counts();
+    let qualities = net.sizes().qualities;
     let mut quality = Vec::new(alloc);
     for k in 0..qualities {
         quality.push(Some(net.source_quality(source, k)))?;
@@ -116,7 +116,7 @@ fn ratios_value(alloc: Global, net: &Network, pool: u32) -> Result<Value, AllocE
     ensures { IfOk result (λ v. view v ≡ object (set_members ratio_data net.now.qualities (map Some (get_or net.now.pools pool no_pool).ratio))) }
 {
     let mut members = Map::new(alloc);
-    let [_, _, _, qualities, _, _, _] = net.counts();
+    let qualities = net.sizes().qualities;
     for k in (0..qualities).rev() {
         put(
             &mut members,
@@ -180,7 +180,7 @@ fn least_of(alloc: Global, net: &Network, product: u32) -> Result<Vec<Option<i64
     ensures limits { IfOk result (λ v. v.items ≡ (get_or net.now.products product no_product).least) }
     ensures each { IfOk result (λ v. length v.items ≡ length net.now.qualities) }
 {
-    let [_, _, _, qualities, _, _, _] = net.counts();
+    let qualities = net.sizes().qualities;
     let mut limits = Vec::new(alloc);
     for k in 0..qualities {
         limits.push(net.product_least(product, k))?;
@@ -194,7 +194,7 @@ fn most_of(alloc: Global, net: &Network, product: u32) -> Result<Vec<Option<i64>
     ensures limits { IfOk result (λ v. v.items ≡ (get_or net.now.products product no_product).most) }
     ensures each { IfOk result (λ v. length v.items ≡ length net.now.qualities) }
 {
-    let [_, _, _, qualities, _, _, _] = net.counts();
+    let qualities = net.sizes().qualities;
     let mut limits = Vec::new(alloc);
     for k in 0..qualities {
         limits.push(net.product_most(product, k))?;

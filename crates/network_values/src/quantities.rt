@@ -22,7 +22,7 @@ pub fn set_value(
     ensures { IfOk result (λ v. view v ≡ object (set_members quantity_data net.now.qualities quantities.now)) }
 {
     let mut members = Map::new(alloc);
-    let [_, _, _, qualities, _, _, _] = net.counts();
+    let qualities = net.sizes().qualities;
     for k in (0..qualities).rev() {
         put_set(
             &mut members,

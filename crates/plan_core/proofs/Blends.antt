@@ -2,7 +2,7 @@
 use Rattle.std.proofs.Common.{◌≡◌, ℕ, ◌*◌, ◌<◌, ◌≤◌, ◌⊎◌, ◌↔◌, inl, inr, Option, Some, None, ℤ, pos, ◌+ℤ◌, ◌*ℤ◌, ◌<ℤ◌, arith, refl, sym, ap, ◌∙◌}
 use Rattle.std.proofs.Math.Nat.{mul-le-mul, mul-zero}
 use Rattle.std.proofs.Math.IntN.{*ℤ-zero}
-use Rattle.integers.specs.Sums.{product_below, int_sum_at, product_but}
+use Rattle.integers.specs.Sums.{product_below, product_but}
 use Rattle.integers.proofs.Ring.{additive, sorted, mul-add, mul_assoc_ℤ}
 use Rattle.integers.proofs.Order.{lt-mul, lt-cancel}
 use Rattle.integers.proofs.AtKey.{sum_at-mul, int_sum_at-same, int_sum_at-mul, product_but_is, positive-product_below, term-le-sum_at}

@@ -24,7 +24,7 @@ impl WrittenPlan {
     }
 
     /// What flows along an out, over both bases.
-    pub(crate) fn whole_outflow(&self, out: u32) -> u128
+    pub fn whole_outflow(&self, out: u32) -> u128
         requires { out < length self.now.outflows.items }
         ensures flow { result ≡ self.now.base * written_out (shown_plan self.now) out }
         ensures size { result ≤ 2 ^ 96 }
@@ -34,7 +34,7 @@ impl WrittenPlan {
     }
 
     /// What flows along a direct, over both bases.
-    pub(crate) fn whole_direct(&self, direct: u32) -> u128
+    pub fn whole_direct(&self, direct: u32) -> u128
         requires { direct < length self.now.direct.items }
         ensures flow { result ≡ self.now.base * written_direct (shown_plan self.now) direct }
         ensures size { result ≤ 2 ^ 96 }
@@ -44,7 +44,7 @@ impl WrittenPlan {
     }
 
     /// What flows along a feed, over both bases, from what its pool sends out over the flow base.
-    pub(crate) fn whole_feed(&self, feed: u32, outflow: u128) -> u128
+    pub fn whole_feed(&self, feed: u32, outflow: u128) -> u128
         requires feed { feed < length self.now.weights.items }
         requires outflow { outflow ≤ 2 ^ 72 }
         ensures flow { result ≡ weight_of (shown_plan self.now) feed * outflow }
@@ -54,7 +54,7 @@ impl WrittenPlan {
     }
 
     /// The denominator of the plan that this one stands for.
-    pub(crate) fn denominator(&self) -> u64
+    pub fn denominator(&self) -> u64
         ensures { result ≡ self.now.flow_base * self.now.base }
     {
         u64::from(self.flow_base) * u64::from(self.base)

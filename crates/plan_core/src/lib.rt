@@ -32,5 +32,9 @@ pub use check::check_plan;
 pub use cost::compare_cost;
 pub use fault::PlanFault;
 pub use plan::{Cost, WrittenPlan};
+pub use qualities::{product_qualities, weighted};
 pub use start_ways::{Way, direct_flow, path_flow};
 pub use starting::{simple_plan, zero_plan};
+pub use sums::{
+    MAX_POOLS, MAX_PRODUCTS, MAX_SOURCES, pool_outflows, product_inflows, source_outflows,
+};

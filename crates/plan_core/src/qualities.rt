@@ -28,7 +28,7 @@ pub(crate) fn qualities(net: &Network, plan: &WrittenPlan) -> [[i128; MAX_PRODUC
 }
 
 /// How much of a quality reaches each product, in parts of the scale, over both bases.
-fn product_qualities(net: &Network, plan: &WrittenPlan, quality: u32) -> [i128; MAX_PRODUCTS]
+pub fn product_qualities(net: &Network, plan: &WrittenPlan, quality: u32) -> [i128; MAX_PRODUCTS]
     requires quality { quality < (net_of net.now).qualities }
     requires shaped { IsShaped (net_of net.now) (shown_plan plan.now) }
     requires room { HasRoom (net_of net.now) (shown_plan plan.now) }
@@ -80,7 +80,7 @@ pub(crate) fn in_parts(parts: i64, number: i128) -> i128
 }
 
 /// A number for each unit of a flow.
-pub(crate) fn weighted(number: i128, flow: u128) -> i128
+pub fn weighted(number: i128, flow: u128) -> i128
     requires flow { flow < 2 ^ 127 }
     requires size { unsigned_abs number * flow ≤ 2 ^ 123 }
     ensures value { result ≡ number *ℤ pos flow }

@@ -18,13 +18,13 @@ pub fn zero_plan(alloc: Global, net: &Network) -> Result<WrittenPlan, Memory>
     // Promise: The zero plan and the simple plans are those of the definitions
     ensures { IfOk result (λ w. shown_plan w ≡ zero_written (net_of net.now)) }
 {
-    let [_, _, _, _, feeds, outs, directs] = net.counts();
+    let counts = net.sizes();
     Ok(WrittenPlan {
         base: 1,
         flow_base: 1,
-        weights: first_weights(alloc, net, feeds)?,
-        outflows: no_flows(alloc, outs)?,
-        direct: no_flows(alloc, directs)?,
+        weights: first_weights(alloc, net, counts.feeds)?,
+        outflows: no_flows(alloc, counts.outs)?,
+        direct: no_flows(alloc, counts.directs)?,
     })
 }
 
@@ -46,14 +46,14 @@ fn through_plan(alloc: Global, net: &Network, path: u32) -> Result<WrittenPlan, 
     requires { path < length (paths_of (net_of net.now)) }
     ensures { IfOk result (λ w. shown_plan w ≡ simple_written (net_of net.now) (through (path_at (net_of net.now) path).feed (path_at (net_of net.now) path).out)) }
 {
-    let [_, _, _, _, feeds, outs, directs] = net.counts();
+    let counts = net.sizes();
     let (feed, out) = net.path(path);
     Ok(WrittenPlan {
         base: 1,
         flow_base: 1,
-        weights: weights_on(alloc, net, feeds, feed)?,
-        outflows: one_flow(alloc, outs, out, path_flow(net, path))?,
-        direct: no_flows(alloc, directs)?,
+        weights: weights_on(alloc, net, counts.feeds, feed)?,
+        outflows: one_flow(alloc, counts.outs, out, path_flow(net, path))?,
+        direct: no_flows(alloc, counts.directs)?,
     })
 }
 
@@ -62,12 +62,12 @@ fn direct_plan(alloc: Global, net: &Network, direct: u32) -> Result<WrittenPlan,
     requires { direct < (net_of net.now).directs }
     ensures { IfOk result (λ w. shown_plan w ≡ simple_written (net_of net.now) (straight direct)) }
 {
-    let [_, _, _, _, feeds, outs, directs] = net.counts();
+    let counts = net.sizes();
     Ok(WrittenPlan {
         base: 1,
         flow_base: 1,
-        weights: first_weights(alloc, net, feeds)?,
-        outflows: no_flows(alloc, outs)?,
-        direct: one_flow(alloc, directs, direct, direct_flow(net, direct))?,
+        weights: first_weights(alloc, net, counts.feeds)?,
+        outflows: no_flows(alloc, counts.outs)?,
+        direct: one_flow(alloc, counts.directs, direct, direct_flow(net, direct))?,
     })
 }

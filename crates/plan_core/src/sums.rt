@@ -1,7 +1,7 @@
 //! Sums over the arcs of a network, by node. Each goes over its arcs once.
 
 ghost use Rattle.std.specs.Prelude.{◌≡◌, ℕ, ◌<◌, ◌≤◌, ◌^◌, get_or, pos, unsigned_abs};
-ghost use Rattle.pool_model.specs.Network.{net_of};
+ghost use Rattle.pool_model.specs.Network.{IsLimited, net_of};
 ghost use Rattle.plan_core.specs.Views.{shown_plan};
 ghost use Rattle.plan_core.specs.Faults.{IsShaped};
 ghost use Rattle.plan_core.specs.Weighed.{AreWeightSums, ArePoolOutflows, AreSourceOutflows, AreProductInflows};
@@ -10,13 +10,13 @@ use crate::plan::WrittenPlan;
 use blend_network::Network;
 
 /// The most pools that a network has.
-pub(crate) const MAX_POOLS: usize = 16;
+pub const MAX_POOLS: usize = 16;
 
 /// The most sources that a network has.
-pub(crate) const MAX_SOURCES: usize = 64;
+pub const MAX_SOURCES: usize = 64;
 
 /// The most products that a network has.
-pub(crate) const MAX_PRODUCTS: usize = 64;
+pub const MAX_PRODUCTS: usize = 64;
 
 /// For each pool the sum of its feeds' weights.
 pub(crate) fn weight_sums(net: &Network, plan: &WrittenPlan) -> [u64; MAX_POOLS]
@@ -33,10 +33,11 @@ pub(crate) fn weight_sums(net: &Network, plan: &WrittenPlan) -> [u64; MAX_POOLS]
 }
 
 /// What each pool sends out, over the flow base.
-pub(crate) fn pool_outflows(net: &Network, plan: &WrittenPlan) -> [u128; MAX_POOLS]
+pub fn pool_outflows(net: &Network, plan: &WrittenPlan) -> [u128; MAX_POOLS]
     requires { IsShaped (net_of net.now) (shown_plan plan.now) }
     ensures flows { ArePoolOutflows (net_of net.now) (shown_plan plan.now) result }
     ensures size { (l : ℕ) → get_or result l 0 ≤ 2 ^ 72 }
+    ensures limited { IsLimited (net_of net.now) }
 {
     let counts = net.sizes();
     let mut flows = [0; MAX_POOLS];
@@ -48,7 +49,7 @@ pub(crate) fn pool_outflows(net: &Network, plan: &WrittenPlan) -> [u128; MAX_POO
 }
 
 /// What each source sends out, over both bases, from what each pool sends out.
-pub(crate) fn source_outflows(
+pub fn source_outflows(
     net: &Network,
     plan: &WrittenPlan,
     pools: &[u128; MAX_POOLS],
@@ -56,7 +57,9 @@ pub(crate) fn source_outflows(
     requires shaped { IsShaped (net_of net.now) (shown_plan plan.now) }
     requires pools { ArePoolOutflows (net_of net.now) (shown_plan plan.now) pools.now }
     requires size { (l : ℕ) → get_or pools.now l 0 ≤ 2 ^ 72 }
-    ensures { AreSourceOutflows (net_of net.now) (shown_plan plan.now) result }
+    ensures flows { AreSourceOutflows (net_of net.now) (shown_plan plan.now) result }
+    ensures size { (i : ℕ) → get_or result i 0 ≤ 2 ^ 113 }
+    ensures limited { IsLimited (net_of net.now) }
 {
     let counts = net.sizes();
     let mut flows = [0; MAX_SOURCES];
@@ -72,9 +75,11 @@ pub(crate) fn source_outflows(
 }
 
 /// What flows into each product, over both bases.
-pub(crate) fn product_inflows(net: &Network, plan: &WrittenPlan) -> [u128; MAX_PRODUCTS]
+pub fn product_inflows(net: &Network, plan: &WrittenPlan) -> [u128; MAX_PRODUCTS]
     requires { IsShaped (net_of net.now) (shown_plan plan.now) }
-    ensures { AreProductInflows (net_of net.now) (shown_plan plan.now) result }
+    ensures flows { AreProductInflows (net_of net.now) (shown_plan plan.now) result }
+    ensures size { (j : ℕ) → get_or result j 0 ≤ 2 ^ 105 }
+    ensures limited { IsLimited (net_of net.now) }
 {
     let counts = net.sizes();
     let mut flows = [0; MAX_PRODUCTS];

@@ -5,10 +5,8 @@ ghost use Rattle.pool_model.specs.Network.{net_of};
 ghost use Rattle.pool_model.specs.Plan.{IsWritten, plan_of};
 ghost use Rattle.plan_core.specs.Views.{shown_plan};
 
-use crate::nodes::written_outflow;
-use crate::numbers::{direct, outflow, parted, scaled, weight};
 use blend_network::Network;
-use plan_core::WrittenPlan;
+use plan_core::{WrittenPlan, pool_outflows};
 
 /// What flows along a feed, over the plan's denominator: its weight's part of what its pool sends out.
 pub fn feed_flow(net: &Network, plan: &WrittenPlan, feed: u32) -> u128
@@ -18,9 +16,9 @@ pub fn feed_flow(net: &Network, plan: &WrittenPlan, feed: u32) -> u128
     ensures flow { result ≡ (plan_of (net_of net.now) (shown_plan plan.now)).feed feed }
     ensures size { result ≤ 2 ^ 104 }
 {
+    let pools = pool_outflows(net, plan);
     let (_, pool) = net.feed(feed);
-    let through = written_outflow(net, plan, pool);
-    parted(weight(plan, feed), through)
+    plan.whole_feed(feed, pools[pool as usize])
 }
 
 /// What flows along an out, over the plan's denominator.
@@ -31,7 +29,7 @@ pub fn out_flow(net: &Network, plan: &WrittenPlan, out: u32) -> u128
     ensures flow { result ≡ (plan_of (net_of net.now) (shown_plan plan.now)).out out }
     ensures size { result ≤ 2 ^ 96 }
 {
-    scaled(plan.base, outflow(plan, out))
+    plan.whole_outflow(out)
 }
 
 /// What flows along a direct, over the plan's denominator.
@@ -42,5 +40,5 @@ pub fn direct_flow(net: &Network, plan: &WrittenPlan, arc: u32) -> u128
     ensures flow { result ≡ (plan_of (net_of net.now) (shown_plan plan.now)).direct arc }
     ensures size { result ≤ 2 ^ 96 }
 {
-    scaled(plan.base, direct(plan, arc))
+    plan.whole_direct(arc)
 }

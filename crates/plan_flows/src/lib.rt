@@ -12,10 +12,7 @@
 mod arcs;
 mod means;
 mod nodes;
-mod numbers;
-mod qualities;
 
 pub use arcs::{direct_flow, feed_flow, out_flow};
 pub use means::mean;
 pub use nodes::{pool_flow, product_flow, source_flow};
-pub use numbers::denominator;

@@ -1,17 +1,14 @@
 //! A product's mean of a quality.
 
-ghost use Rattle.std.specs.Prelude.{◌≡◌, ◌<◌, ◌+◌, pos};
+ghost use Rattle.std.specs.Prelude.{◌<◌};
 ghost use Rattle.pool_model.specs.Network.{net_of};
 ghost use Rattle.pool_model.specs.Plan.{IsWritten, Obeys, plan_of, product_inflow};
 ghost use Rattle.plan_core.specs.Views.{shown_plan};
-ghost use Rattle.plan_core.specs.Weighed.{HasRoom, written_quality};
 ghost use Rattle.plan_flows.specs.Means.{IsMean};
 
 use crate::nodes::product_flow;
-use crate::numbers::weighted;
-use crate::qualities::{pooled_quality, sent_quality};
 use blend_network::Network;
-use plan_core::WrittenPlan;
+use plan_core::{WrittenPlan, product_qualities, weighted};
 
 /// How much of a quality reaches a product, in parts of the scale, and the scale times what flows into it, both over the plan's
 /// denominator: the first over the second is the product's mean of the quality, in millionths.
@@ -25,17 +22,9 @@ pub fn mean(net: &Network, plan: &WrittenPlan, j: u32, k: u32) -> (i128, i128)
     ensures { IsMean (net_of net.now) (plan_of (net_of net.now) (shown_plan plan.now)) j k result.0 result.1 }
 {
     let inflow = product_flow(net, plan, j);
-    let quality = reaching(net, plan, j, k);
-    (quality, weighted(i128::from(net.scale()), inflow))
-}
-
-/// How much of a quality reaches a product, from pools and directly, in parts of the scale.
-fn reaching(net: &Network, plan: &WrittenPlan, product: u32, quality: u32) -> i128
-    requires written { IsWritten (net_of net.now) (shown_plan plan.now) }
-    requires room { HasRoom (net_of net.now) (shown_plan plan.now) }
-    requires product { product < (net_of net.now).products }
-    requires quality { quality < (net_of net.now).qualities }
-    ensures { result ≡ written_quality (net_of net.now) (shown_plan plan.now) product quality }
-{
-    pooled_quality(net, plan, product, quality) + sent_quality(net, plan, product, quality)
+    let qualities = product_qualities(net, plan, k);
+    (
+        qualities[j as usize],
+        weighted(i128::from(net.scale()), inflow),
+    )
 }

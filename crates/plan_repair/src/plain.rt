@@ -40,11 +40,11 @@ fn outflows(alloc: Global, net: &Network, point: &[i128]) -> Result<Vec<u64>, Me
     requires { (net_of net.now).feeds + (net_of net.now).outs ≤ length point.now }
     ensures { IfOk result (λ v. v.items ≡ tabulate (λ o. out_flow_of (net_of net.now) point.now o / parts) (net_of net.now).outs) }
 {
-    let [_, _, _, _, feeds, outs, _] = net.counts();
+    let counts = net.sizes();
     let mut flows = Vec::new(alloc);
-    for out in 0..outs {
+    for out in 0..counts.outs {
         let room = out_room(net, out);
-        flows.push(millionths(room, point[(feeds + out) as usize]))?;
+        flows.push(millionths(room, point[(counts.feeds + out) as usize]))?;
     }
     Ok(flows)
 }
@@ -54,11 +54,12 @@ fn directs(alloc: Global, net: &Network, point: &[i128]) -> Result<Vec<u64>, Mem
     requires { (net_of net.now).feeds + (net_of net.now).outs + (net_of net.now).directs ≤ length point.now }
     ensures { IfOk result (λ v. v.items ≡ tabulate (λ e. direct_flow_of (net_of net.now) point.now e / parts) (net_of net.now).directs) }
 {
-    let [_, _, _, _, feeds, outs, directs] = net.counts();
+    let counts = net.sizes();
     let mut flows = Vec::new(alloc);
-    for direct in 0..directs {
+    for direct in 0..counts.directs {
         let room = direct_room(net, direct);
-        flows.push(millionths(room, point[(feeds + outs + direct) as usize]))?;
+        let place = counts.feeds + counts.outs + direct;
+        flows.push(millionths(room, point[place as usize]))?;
     }
     Ok(flows)
 }

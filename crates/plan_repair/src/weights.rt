@@ -27,11 +27,11 @@ pub(crate) fn plain_weights(
     requires { (net_of net.now).feeds ≤ length point.now }
     ensures { IfOk result (λ v. v.items ≡ tabulate (weight_of (net_of net.now) (feed_flow_of (net_of net.now) point.now)) (net_of net.now).feeds) }
 {
-    let [_, _, _, _, feeds, _, _] = net.counts();
+    let counts = net.sizes();
     let flows = flow_sums(net, point);
     let sums = rounded_sums(net, point, &flows);
     let mut weights = Vec::new(alloc);
-    for feed in 0..feeds {
+    for feed in 0..counts.feeds {
         weights.push(weight(net, point, &flows, &sums, feed))?;
     }
     Ok(weights)
@@ -78,9 +78,9 @@ fn flow_sums(net: &Network, point: &[i128]) -> [u128; MAX_POOLS]
     requires { (net_of net.now).feeds ≤ length point.now }
     ensures { AreFlowSums (net_of net.now) point.now result }
 {
-    let [_, _, _, _, feeds, _, _] = net.counts();
+    let counts = net.sizes();
     let mut sums = [0; MAX_POOLS];
-    for feed in 0..feeds {
+    for feed in 0..counts.feeds {
         let (_, pool) = net.feed(feed);
         sums[pool as usize] += feed_flow(net, point, feed);
     }
@@ -93,9 +93,9 @@ fn rounded_sums(net: &Network, point: &[i128], flows: &[u128; MAX_POOLS]) -> [u1
     requires flows { AreFlowSums (net_of net.now) point.now flows.now }
     ensures { AreRoundedSums (net_of net.now) point.now result }
 {
-    let [_, _, _, _, feeds, _, _] = net.counts();
+    let counts = net.sizes();
     let mut sums = [0; MAX_POOLS];
-    for feed in 0..feeds {
+    for feed in 0..counts.feeds {
         let (_, pool) = net.feed(feed);
         sums[pool as usize] += rounded(net, point, flows, feed);
     }
@@ -128,10 +128,10 @@ fn leads(net: &Network, point: &[i128], feed: u32) -> bool
     requires point { (net_of net.now).feeds ≤ length point.now }
     ensures { result ≡ leads_of (net_of net.now) (feed_flow_of (net_of net.now) point.now) feed }
 {
-    let [_, _, _, _, feeds, _, _] = net.counts();
+    let counts = net.sizes();
     let (_, pool) = net.feed(feed);
     let flow = feed_flow(net, point, feed);
-    for other in 0..feeds {
+    for other in 0..counts.feeds {
         let (_, its_pool) = net.feed(other);
         if its_pool == pool && goes_before(other, feed_flow(net, point, other), feed, flow) {
             return false;

@@ -33,12 +33,15 @@ pub wide_sum : (t p : ℤ) → unsigned_abs t ≤ 2 ^ 123 → unsigned_abs p ≤
 wide_sum t p h k = omega (arith, ints)
 
 -- a maximum as it is read
-pub within-maximum : (max : Option ℕ) (z : Option ℤ) (base flow : ℕ) → z ≡ option_map pos max → IsWithinMaximum z base flow → KeepsMaximum max base flow
+within-maximum : (max : Option ℕ) (z : Option ℤ) (base flow : ℕ) → z ≡ option_map pos max → IsWithinMaximum z base flow → KeepsMaximum max base flow
 within-maximum None z base flow e h m is = cc
 within-maximum (Some most) z base flow e h m is =
     let same : most ≡ m = cc in
     omega (arith, subst (λ (o : Option ℤ). IsWithinMaximum o base flow) e h, ap (λ (a : ℕ). base * a) same)
 
-pub maximum-within : (max : Option ℕ) (z : Option ℤ) (base flow : ℕ) → z ≡ option_map pos max → KeepsMaximum max base flow → IsWithinMaximum z base flow
+maximum-within : (max : Option ℕ) (z : Option ℤ) (base flow : ℕ) → z ≡ option_map pos max → KeepsMaximum max base flow → IsWithinMaximum z base flow
 maximum-within None z base flow e h = subst (λ (o : Option ℤ). IsWithinMaximum o base flow) (sym e) tt
 maximum-within (Some most) z base flow e h = subst (λ (o : Option ℤ). IsWithinMaximum o base flow) (sym e) (h most refl)
+
+pub maximum_as_read : (max : Option ℕ) (z : Option ℤ) (base flow : ℕ) (b : Bool) → z ≡ option_map pos max → (IsTrue b ↔ IsWithinMaximum z base flow) → (IsTrue b → KeepsMaximum max base flow) × (KeepsMaximum max base flow → IsTrue b)
+maximum_as_read max z base flow b e test = (λ yes. within-maximum max z base flow e (test.0 yes), λ h. test.1 (maximum-within max z base flow e h))

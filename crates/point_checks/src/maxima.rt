@@ -22,39 +22,45 @@ fn feeds_keep(net: &Network, base: u64, flows: &[u128]) -> bool
     requires { length flows.now ≡ (net_of net.now).feeds }
     ensures { IsTrue result ↔ ((e : ℕ) → e < (net_of net.now).feeds → KeepsMaximum ((net_of net.now).feed_max e) base (get_or flows.now e 0)) }
 {
-    let counts = net.sizes();
-    for feed in 0..counts.feeds {
-        if !keeps(net.feed_max(feed), base, flows[feed as usize]) {
-            return false;
-        }
-    }
-    true
+    (0..net.sizes().feeds).all(|feed| feed_keeps(net, base, flows, feed))
+}
+
+fn feed_keeps(net: &Network, base: u64, flows: &[u128], feed: u32) -> bool
+    requires long { length flows.now ≡ (net_of net.now).feeds }
+    requires feed { feed < (net_of net.now).feeds }
+    ensures { IsTrue result ↔ KeepsMaximum ((net_of net.now).feed_max feed) base (get_or flows.now feed 0) }
+{
+    keeps(net.feed_max(feed), base, flows[feed as usize])
 }
 
 fn outs_keep(net: &Network, base: u64, flows: &[u128]) -> bool
     requires { length flows.now ≡ (net_of net.now).outs }
     ensures { IsTrue result ↔ ((o : ℕ) → o < (net_of net.now).outs → KeepsMaximum ((net_of net.now).out_max o) base (get_or flows.now o 0)) }
 {
-    let counts = net.sizes();
-    for out in 0..counts.outs {
-        if !keeps(net.out_max(out), base, flows[out as usize]) {
-            return false;
-        }
-    }
-    true
+    (0..net.sizes().outs).all(|out| out_keeps(net, base, flows, out))
+}
+
+fn out_keeps(net: &Network, base: u64, flows: &[u128], out: u32) -> bool
+    requires long { length flows.now ≡ (net_of net.now).outs }
+    requires out { out < (net_of net.now).outs }
+    ensures { IsTrue result ↔ KeepsMaximum ((net_of net.now).out_max out) base (get_or flows.now out 0) }
+{
+    keeps(net.out_max(out), base, flows[out as usize])
 }
 
 fn directs_keep(net: &Network, base: u64, flows: &[u128]) -> bool
     requires { length flows.now ≡ (net_of net.now).directs }
     ensures { IsTrue result ↔ ((e : ℕ) → e < (net_of net.now).directs → KeepsMaximum ((net_of net.now).direct_max e) base (get_or flows.now e 0)) }
 {
-    let counts = net.sizes();
-    for direct in 0..counts.directs {
-        if !keeps(net.direct_max(direct), base, flows[direct as usize]) {
-            return false;
-        }
-    }
-    true
+    (0..net.sizes().directs).all(|direct| direct_keeps(net, base, flows, direct))
+}
+
+fn direct_keeps(net: &Network, base: u64, flows: &[u128], direct: u32) -> bool
+    requires long { length flows.now ≡ (net_of net.now).directs }
+    requires direct { direct < (net_of net.now).directs }
+    ensures { IsTrue result ↔ KeepsMaximum ((net_of net.now).direct_max direct) base (get_or flows.now direct 0) }
+{
+    keeps(net.direct_max(direct), base, flows[direct as usize])
 }
 
 /// Whether a flow over a base is within the maximum of its arc, if it has one.

@@ -25,15 +25,12 @@ pub(crate) fn has_shape(net: &Network, point: &PropSlices) -> bool
     ensures limited { IsLimited (net_of net.now) }
 {
     let counts = net.sizes();
-    if !are_bases(point.flows.base, point.prop_base) {
-        return false;
-    }
-    let feeds = point.props.len() == counts.feeds as usize
-        && point.flows.feeds.len() == counts.feeds as usize;
-    let others = point.flows.outs.len() == counts.outs as usize
+    are_bases(point.flows.base, point.prop_base)
+        && point.props.len() == counts.feeds as usize
+        && point.flows.feeds.len() == counts.feeds as usize
+        && point.flows.outs.len() == counts.outs as usize
         && point.flows.directs.len() == counts.directs as usize
-        && point.paths.len() == counts.paths as usize;
-    feeds && others
+        && point.paths.len() == counts.paths as usize
 }
 
 /// Whether both bases of a point are above 0 and within their limits.
@@ -54,13 +51,9 @@ pub(crate) fn fits(net: &Network, point: &PropSlices) -> bool
         outs,
         directs,
     } = point.flows;
-    if !flows_fit(net, base, feeds, outs, directs) {
-        return false;
-    }
-    if !are_at_most(point.paths, most_flow(base)) {
-        return false;
-    }
-    are_proportions(point.props, point.prop_base)
+    flows_fit(net, base, feeds, outs, directs)
+        && are_at_most(point.paths, most_flow(base))
+        && are_proportions(point.props, point.prop_base)
 }
 
 /// Whether the proportions of each pool's feeds sum to 1.
@@ -96,12 +89,7 @@ pub(crate) fn are_products(net: &Network, point: &PropSlices) -> bool
     requires fits { FitsProps (net_of net.now) point.now }
     ensures { IsTrue result ↔ ((a : ℕ) → a < path_count (net_of net.now) → IsProduct (net_of net.now) (seen point.now) a) }
 {
-    for path in 0..net.paths() {
-        if !is_product(net, point, path) {
-            return false;
-        }
-    }
-    true
+    (0..net.paths()).all(|path| is_product(net, point, path))
 }
 
 fn is_product(net: &Network, point: &PropSlices, path: u32) -> bool
@@ -131,12 +119,7 @@ pub(crate) fn come_from_feeds(net: &Network, point: &PropSlices) -> bool
     ensures { IsTrue result ↔ ((e : ℕ) → e < (net_of net.now).feeds → ComesFrom (net_of net.now) (seen point.now) e) }
 {
     let counts = net.sizes();
-    for feed in 0..counts.feeds {
-        if !comes_from_feed(net, point, feed) {
-            return false;
-        }
-    }
-    true
+    (0..counts.feeds).all(|feed| comes_from_feed(net, point, feed))
 }
 
 fn comes_from_feed(net: &Network, point: &PropSlices, feed: u32) -> bool

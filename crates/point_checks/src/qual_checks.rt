@@ -25,15 +25,12 @@ pub(crate) fn has_shape(net: &Network, point: &QualSlices) -> bool
     ensures limited { IsLimited (net_of net.now) }
 {
     let counts = net.sizes();
-    if !are_bases(point.flows.base, point.qual_base) {
-        return false;
-    }
-    let flows = point.flows.feeds.len() == counts.feeds as usize
+    are_bases(point.flows.base, point.qual_base)
+        && point.flows.feeds.len() == counts.feeds as usize
         && point.flows.outs.len() == counts.outs as usize
-        && point.flows.directs.len() == counts.directs as usize;
-    let qualities = point.quals.len() == cells(counts.pools, counts.qualities)
-        && point.mix.len() == cells(counts.outs, counts.qualities);
-    flows && qualities
+        && point.flows.directs.len() == counts.directs as usize
+        && point.quals.len() == cells(counts.pools, counts.qualities)
+        && point.mix.len() == cells(counts.outs, counts.qualities)
 }
 
 /// How many cells a grid has.

@@ -14,7 +14,7 @@ ghost use Rattle.pool_report.specs.Report.{flow_lines};
 use blend_network::{Kind, Network};
 use edge_io::{Sink, WriteFault};
 use plan_core::WrittenPlan;
-use plan_flows::{denominator, direct_flow, feed_flow, out_flow};
+use plan_flows::{direct_flow, feed_flow, out_flow};
 use text_pieces::{Piece, rounded_down, write_line};
 
 /// A line for each arc: feeds, then outs, then directs.
@@ -144,7 +144,7 @@ fn units(flow: u128, plan: &WrittenPlan) -> i128
     requires flow { flow < 2 ^ 127 }
     ensures { result ≡ down (pos flow) (plan.now.flow_base * plan.now.base) }
 {
-    rounded_down(flow as i128, u128::from(denominator(plan)))
+    rounded_down(flow as i128, u128::from(plan.denominator()))
 }
 
 /// How much flows from a node to a node.

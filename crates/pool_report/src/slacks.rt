@@ -14,7 +14,7 @@ ghost use Rattle.pool_report.specs.Report.{slack_lines};
 use blend_network::{Kind, Network};
 use edge_io::{Sink, WriteFault};
 use plan_core::WrittenPlan;
-use plan_flows::{denominator, pool_flow, product_flow, source_flow};
+use plan_flows::{pool_flow, product_flow, source_flow};
 use text_pieces::{Piece, rounded_down, write_line};
 
 /// A line for each node: sources, then pools, then products.
@@ -139,7 +139,7 @@ fn room(most: i64, flow: u128, plan: &WrittenPlan) -> i128
     requires flow { flow ≤ 2 ^ 113 }
     ensures { let base = plan.now.flow_base * plan.now.base in result ≡ down (pos base *ℤ most -ℤ pos flow) base }
 {
-    let base = denominator(plan);
+    let base = plan.denominator();
     rounded_down(left(base, most, flow), u128::from(base))
 }
 

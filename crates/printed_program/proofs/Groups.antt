@@ -4,12 +4,13 @@ use Rattle.integers.proofs.Tabulate.{All-tabulate}
 use Rattle.pool_model.specs.Network.{Net}
 use Rattle.row_model.specs.Boxes.{root}
 use Rattle.row_model.specs.Variables.{PerVariable, path_count}
-use Rattle.row_model.specs.Catalogue.{Row, Family, network_families, p_families, q_families, pq_families, row_count, row_in, row_at, quality_envelope_row, proportion_envelope_row}
+use Rattle.row_model.specs.Catalogue.{Row, Family, network_families, p_families, q_families, pq_families, row_count, row_in, row_at, quality_envelope_row, proportion_envelope_row, HoldsOfEach}
+use Rattle.row_model.specs.Lift.{MeetsRow}
 use Rattle.row_book.specs.declared.catalogue.Group.{Group}
 use Rattle.row_book.specs.declared.catalogue.Group.TheVariants as groups
 use Rattle.row_book.specs.Exact.{first_of, exact_count}
-use Rattle.row_book.proofs.Families.{test_true, test_false, row_count-append, row_in-front, row_in-behind, HoldsOfEach, each_row}
-use Rattle.program_model.specs.Rows.{MeetsRow, exact_p_families, exact_q_families}
+use Rattle.row_model.proofs.Families.{test_true, test_false, row_count-append, row_in-front, row_in-behind, each_row}
+use Rattle.program_model.specs.Rows.{exact_p_families, exact_q_families}
 use Rattle.printed_program.specs.Numbers.{Numbers, Keeps}
 use Rattle.printed_program.specs.Printed.{catalogue_row, group_rows}
 use Rattle.printed_program.proofs.Lists.{at-tabulate}

@@ -13,11 +13,12 @@ use Rattle.pool_model.specs.Network.{Net, IsLimited}
 use Rattle.row_model.specs.Boxes.{root, qual, qual_number, flow_number, root_low, root_high}
 use Rattle.row_model.specs.Variables.{variables, by_number, lows, highs}
 use Rattle.row_model.specs.Catalogue.{network_families}
-use Rattle.row_model.specs.Lift.{lift, lift_base}
+use Rattle.row_model.specs.Lift.{lift, lift_base, MeetsRow}
 use Rattle.row_book.specs.declared.catalogue.Group.TheVariants as groups
 use Rattle.box_space.specs.declared.coordinates.Form.TheVariants.{P}
+use Rattle.row_model.proofs.Families.{each-front, each-behind}
 use Rattle.program_model.specs.Points.{QualityPoint, quality_flows}
-use Rattle.program_model.specs.Rows.{exact_p_families, quality_values, MeetsRow, SolvesP}
+use Rattle.program_model.specs.Rows.{exact_p_families, quality_values, SolvesP}
 use Rattle.program_text.specs.Names.{named}
 use Rattle.program_text.specs.declared.names.Symbol.TheVariants as symbols
 use Rattle.printed_program.specs.Numbers.{Keeps, IsPointOf}
@@ -29,7 +30,7 @@ use Rattle.printed_program.proofs.Terms.{number-feed, number-out, number-direct,
 use Rattle.printed_program.proofs.Groups.{group-keeps}
 use Rattle.printed_program.proofs.Ends.{IsWithin, KeepsEnds, keeps-ends, variables-keep, quality-low, quality-high, flow-low}
 use Rattle.printed_program.proofs.FlowEnds.{scaled_up, scaled_down, natural-within, feed-under, out-under, direct-under}
-use Rattle.printed_program.proofs.Parts.{from_parts, each_meets, each-front, each-behind}
+use Rattle.printed_program.proofs.Parts.{from_parts}
 
 module _ (n : Net) (lim : IsLimited n) (q : QualityPoint) (s : SolvesP n q)
     (fits : (v : ℕ) → v < variables n
@@ -153,14 +154,13 @@ module _ (n : Net) (lim : IsLimited n) (q : QualityPoint) (s : SolvesP n q)
         let base = q.base * q.qual_base in
         let numbers = quality_numbers n q in
         let named = over-named n a base in
-        let rows = each_meets n a base (network_families n ++ exact_p_families n) s.rows in
         record {
           base = mul-le-mul s.base s.qual_base;
           keeps = from_parts n P numbers record {
             variables = variables-keep n P numbers (each_variable n (KeepsEnds n P numbers) variables-within);
-            network = group-keeps n numbers a groups.Network named (each-front (MeetsRow n a base) (network_families n) (exact_p_families n) rows);
+            network = group-keeps n numbers a groups.Network named (each-front (MeetsRow n a base) (network_families n) (exact_p_families n) s.rows);
             own = All-append (Keeps numbers) (group_rows n groups.P) (tabulate (mixed_product n) (n.outs * n.qualities))
-                (group-keeps n numbers a groups.P named (each-behind (MeetsRow n a base) (network_families n) (exact_p_families n) rows))
+                (group-keeps n numbers a groups.P named (each-behind (MeetsRow n a base) (network_families n) (exact_p_families n) s.rows))
                 (All-tabulate (Keeps numbers) (mixed_product n) (n.outs * n.qualities) product-kept);
           };
         }

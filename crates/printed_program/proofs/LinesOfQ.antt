@@ -12,16 +12,16 @@ use Rattle.pool_model.specs.Network.{Net, IsLimited, capped}
 use Rattle.pool_model.proofs.Capped.{le-mul_capped}
 use Rattle.row_model.specs.Boxes.{root, prop, flow_number, root_low, root_high, grain}
 use Rattle.row_model.specs.Variables.{variables, by_number, lows, highs, path_count, path_feed, path_out}
-use Rattle.row_model.specs.Catalogue.{network_families, pq_families}
-use Rattle.row_model.specs.Lift.{lift, lift_base}
+use Rattle.row_model.specs.Catalogue.{network_families, pq_families, HoldsOfEach}
+use Rattle.row_model.specs.Lift.{lift, lift_base, MeetsRow}
 use Rattle.row_model.proofs.PathSums.{path_feed-below, path_out-below}
 use Rattle.row_book.specs.declared.catalogue.Group.TheVariants as groups
-use Rattle.row_book.proofs.Families.{HoldsOfEach}
 use Rattle.box_space.specs.declared.coordinates.Form.{Form}
 use Rattle.box_space.specs.declared.coordinates.Form.TheVariants.{Q, Pq}
+use Rattle.row_model.proofs.Families.{each-front, each-behind}
 use Rattle.program_model.specs.Points.{ProportionPoint, proportion_flows}
 use Rattle.program_model.specs.Programs.{IsPointOfQ}
-use Rattle.program_model.specs.Rows.{exact_q_families, proportion_values, MeetsRow, MeetsRows}
+use Rattle.program_model.specs.Rows.{exact_q_families, proportion_values}
 use Rattle.program_text.specs.Names.{named, has_symbol}
 use Rattle.program_text.specs.declared.names.Symbol.TheVariants as symbols
 use Rattle.printed_program.specs.Numbers.{Keeps, IsPointOf}
@@ -33,7 +33,7 @@ use Rattle.printed_program.proofs.Terms.{number-feed, number-out, number-direct,
 use Rattle.printed_program.proofs.Groups.{group-keeps}
 use Rattle.printed_program.proofs.Ends.{IsWithin, KeepsEnds, keeps-ends, variables-keep, proportion-low, proportion-high, flow-low}
 use Rattle.printed_program.proofs.FlowEnds.{natural-within, feed-under, out-under, direct-under}
-use Rattle.printed_program.proofs.Parts.{from_parts, each_meets, each-front, each-behind}
+use Rattle.printed_program.proofs.Parts.{from_parts}
 
 -- a form that has no qualities and no mixed variables
 pub record LacksQualities (form : Form) : Type 0 where
@@ -133,36 +133,34 @@ module _ (n : Net) (lim : IsLimited n) (q : ProportionPoint) (h : IsPointOfQ n q
         (group-keeps n numbers (proportion_values q) groups.Q (over-named n (proportion_values q) (q.base * q.prop_base)) met)
         (All-tabulate (Keeps numbers) (path_product n) (path_count n) product-kept)
 
-    pub point-keeps_q : MeetsRows n (proportion_values q) (q.base * q.prop_base) (network_families n ++ exact_q_families n)
+    pub point-keeps_q : HoldsOfEach (MeetsRow n (proportion_values q) (q.base * q.prop_base)) (network_families n ++ exact_q_families n)
         → IsPointOf (program_lines n Q) (proportion_numbers n q)
     point-keeps_q met =
         let a = proportion_values q in
         let base = q.base * q.prop_base in
         let numbers = proportion_numbers n q in
-        let rows = each_meets n a base (network_families n ++ exact_q_families n) met in
         record {
           base = mul-le-mul h.base h.prop_base;
           keeps = from_parts n Q numbers record {
             variables = variables-kept Q record { quality = refl; mixed = refl };
-            network = group-keeps n numbers a groups.Network (over-named n a base) (each-front (MeetsRow n a base) (network_families n) (exact_q_families n) rows);
-            own = own-kept (each-behind (MeetsRow n a base) (network_families n) (exact_q_families n) rows);
+            network = group-keeps n numbers a groups.Network (over-named n a base) (each-front (MeetsRow n a base) (network_families n) (exact_q_families n) met);
+            own = own-kept (each-behind (MeetsRow n a base) (network_families n) (exact_q_families n) met);
           };
         }
 
-    pub point-keeps_pq : MeetsRows n (proportion_values q) (q.base * q.prop_base) (network_families n ++ (exact_q_families n ++ pq_families n))
+    pub point-keeps_pq : HoldsOfEach (MeetsRow n (proportion_values q) (q.base * q.prop_base)) (network_families n ++ (exact_q_families n ++ pq_families n))
         → IsPointOf (program_lines n Pq) (proportion_numbers n q)
     point-keeps_pq met =
         let a = proportion_values q in
         let base = q.base * q.prop_base in
         let numbers = proportion_numbers n q in
         let named = over-named n a base in
-        let rows = each_meets n a base (network_families n ++ (exact_q_families n ++ pq_families n)) met in
-        let rest = each-behind (MeetsRow n a base) (network_families n) (exact_q_families n ++ pq_families n) rows in
+        let rest = each-behind (MeetsRow n a base) (network_families n) (exact_q_families n ++ pq_families n) met in
         record {
           base = mul-le-mul h.base h.prop_base;
           keeps = from_parts n Pq numbers record {
             variables = variables-kept Pq record { quality = refl; mixed = refl };
-            network = group-keeps n numbers a groups.Network named (each-front (MeetsRow n a base) (network_families n) (exact_q_families n ++ pq_families n) rows);
+            network = group-keeps n numbers a groups.Network named (each-front (MeetsRow n a base) (network_families n) (exact_q_families n ++ pq_families n) met);
             own = All-append (Keeps numbers) (group_rows n groups.Q ++ tabulate (path_product n) (path_count n)) (group_rows n groups.Further)
                 (own-kept (each-front (MeetsRow n a base) (exact_q_families n) (pq_families n) rest))
                 (group-keeps n numbers a groups.Further named (each-behind (MeetsRow n a base) (exact_q_families n) (pq_families n) rest));

@@ -7,14 +7,13 @@ use Rattle.integers.proofs.Tabulate.{All-tabulate}
 use Rattle.pool_model.specs.Network.{Net}
 use Rattle.row_model.specs.Boxes.{root}
 use Rattle.row_model.specs.Variables.{PerVariable, path_count, variables, by_number, dot, costs, lows, highs}
-use Rattle.row_model.specs.Catalogue.{Row, Family}
+use Rattle.row_model.specs.Catalogue.{Row, Family, HoldsOfEach}
+use Rattle.row_model.specs.Lift.{MeetsRow}
 use Rattle.row_book.specs.declared.catalogue.Group.{Group}
 use Rattle.row_book.specs.declared.catalogue.Group.TheVariants as groups
 use Rattle.row_book.specs.Exact.{first_of, exact_count}
-use Rattle.row_book.proofs.Families.{HoldsOfEach}
 use Rattle.box_space.specs.declared.coordinates.Form.{Form}
 use Rattle.box_space.specs.declared.coordinates.Form.TheVariants.{P, Q, Pq}
-use Rattle.program_model.specs.Rows.{MeetsRow, MeetsRows}
 use Rattle.program_text.specs.Names.{named, name_of, has_symbol}
 use Rattle.program_text.specs.declared.names.Symbol.TheVariants as symbols
 use Rattle.printed_program.specs.ProgramLines.{ProgramLine, of_form, least, ends, finish}
@@ -63,25 +62,9 @@ from_parts n form q h =
 
 -- ---- rows
 
-pub meets_each : (n : Net) (v : PerVariable) (base : ℕ) (fs : List Family) → HoldsOfEach (MeetsRow n v base) fs → MeetsRows n v base fs
-meets_each n v base [] h = tt
-meets_each n v base (f ∷ fs) h = (h.0, meets_each n v base fs h.1)
-
-pub each_meets : (n : Net) (v : PerVariable) (base : ℕ) (fs : List Family) → MeetsRows n v base fs → HoldsOfEach (MeetsRow n v base) fs
-each_meets n v base [] h = tt
-each_meets n v base (f ∷ fs) h = (h.0, each_meets n v base fs h.1)
-
 pub each-both : (A B C : Row → Type 0) (fs : List Family) → ((r : Row) → A r → B r → C r) → HoldsOfEach A fs → HoldsOfEach B fs → HoldsOfEach C fs
 each-both A B C [] both h k = tt
 each-both A B C (f ∷ fs) both h k = (λ i lt. both (f.row i) (h.0 i lt) (k.0 i lt), each-both A B C fs both h.1 k.1)
-
-pub each-front : (A : Row → Type 0) (fs gs : List Family) → HoldsOfEach A (fs ++ gs) → HoldsOfEach A fs
-each-front A [] gs h = tt
-each-front A (f ∷ fs) gs h = (h.0, each-front A fs gs h.1)
-
-pub each-behind : (A : Row → Type 0) (fs gs : List Family) → HoldsOfEach A (fs ++ gs) → HoldsOfEach A gs
-each-behind A [] gs h = h
-each-behind A (f ∷ fs) gs h = each-behind A fs gs h.1
 
 -- ---- flows lie between their ends, and neither they nor proportions and flows along paths are below 0
 

@@ -7,11 +7,12 @@ use Rattle.integers.proofs.Grids.{grid-below}
 use Rattle.pool_model.specs.Network.{Net}
 use Rattle.row_model.specs.Boxes.{root, qual, root_low, root_high, qual_number}
 use Rattle.row_model.specs.Variables.{lows, highs}
-use Rattle.row_model.specs.Catalogue.{Row, network_families}
+use Rattle.row_model.specs.Catalogue.{Row, network_families, HoldsOfEach}
+use Rattle.row_model.specs.Lift.{MeetsRow}
 use Rattle.row_book.specs.declared.catalogue.Group.TheVariants as groups
-use Rattle.row_book.proofs.Families.{HoldsOfEach, each-append}
+use Rattle.row_model.proofs.Families.{each-append}
 use Rattle.box_space.specs.declared.coordinates.Form.TheVariants.{P}
-use Rattle.program_model.specs.Rows.{exact_p_families, quality_values, MeetsRow, SolvesP}
+use Rattle.program_model.specs.Rows.{exact_p_families, quality_values, SolvesP}
 use Rattle.program_text.specs.Names.{named}
 use Rattle.program_text.specs.declared.names.Symbol.TheVariants as symbols
 use Rattle.printed_program.specs.Numbers.{Numbers, Keeps, IsPointOf}
@@ -24,7 +25,7 @@ use Rattle.printed_program.proofs.Terms.{numbers_of, numbers-named, name-quality
 use Rattle.printed_program.proofs.Groups.{group-meets}
 use Rattle.printed_program.proofs.Ends.{IsWithin, ends-kept, variables-kept, quality-low, quality-high, unsigned}
 use Rattle.printed_program.proofs.Maxima.{maxima-kept}
-use Rattle.printed_program.proofs.Parts.{KeepsParts, to_parts, meets_each, each-both, feed-signed, out-signed, direct-signed}
+use Rattle.printed_program.proofs.Parts.{KeepsParts, to_parts, each-both, feed-signed, out-signed, direct-signed}
 
 -- a row of P has no flow along a path and no proportion
 pub record IsOfP (r : Row) : Type 0 where
@@ -114,7 +115,7 @@ lines-solve_p n q h =
     record {
       base = h.base;
       qual_base = h.base;
-      rows = meets_each n (quality_values (quality_point_at n q)) (q.base * q.base) (network_families n ++ exact_p_families n) (each_row-met n q parts);
+      rows = each_row-met n q parts;
       products = product-kept n q parts;
       low = λ l k ll lk. (quality-within n q parts l k ll lk).low;
       high = λ l k ll lk. (quality-within n q parts l k ll lk).high;

@@ -6,13 +6,14 @@ use Rattle.integers.proofs.Order.{same_pos}
 use Rattle.pool_model.specs.Network.{Net}
 use Rattle.row_model.specs.Boxes.{grain}
 use Rattle.row_model.specs.Variables.{path_count, path_feed, path_out}
-use Rattle.row_model.specs.Catalogue.{Row, Family, network_families, pq_families}
+use Rattle.row_model.specs.Catalogue.{Row, Family, network_families, pq_families, HoldsOfEach}
+use Rattle.row_model.specs.Lift.{MeetsRow}
 use Rattle.row_model.proofs.PathSums.{path_feed-below, path_out-below}
 use Rattle.row_book.specs.declared.catalogue.Group.TheVariants as groups
-use Rattle.row_book.proofs.Families.{HoldsOfEach, each-append}
+use Rattle.row_model.proofs.Families.{each-append}
 use Rattle.box_space.specs.declared.coordinates.Form.{Form}
 use Rattle.box_space.specs.declared.coordinates.Form.TheVariants.{Q, Pq}
-use Rattle.program_model.specs.Rows.{exact_q_families, proportion_values, MeetsRow, SolvesQ, SolvesPq}
+use Rattle.program_model.specs.Rows.{exact_q_families, proportion_values, SolvesQ, SolvesPq}
 use Rattle.program_text.specs.Names.{named, has_symbol}
 use Rattle.program_text.specs.declared.names.Symbol.TheVariants as symbols
 use Rattle.printed_program.specs.Numbers.{Numbers, Keeps, IsPointOf}
@@ -24,7 +25,7 @@ use Rattle.printed_program.proofs.Terms.{numbers_of, numbers-named}
 use Rattle.printed_program.proofs.Groups.{group-meets}
 use Rattle.printed_program.proofs.Ends.{unsigned}
 use Rattle.printed_program.proofs.Maxima.{maxima-kept}
-use Rattle.printed_program.proofs.Parts.{to_parts, meets_each, each-both, feed-signed, out-signed, direct-signed, path-signed, proportion-signed, has-feeds, has-outs, has-directs}
+use Rattle.printed_program.proofs.Parts.{to_parts, each-both, feed-signed, out-signed, direct-signed, path-signed, proportion-signed, has-feeds, has-outs, has-directs}
 
 -- a row of Q has no quality and no mixed variable
 pub record IsOfQ (r : Row) : Type 0 where
@@ -119,12 +120,11 @@ lines-solve_q n q h =
     record {
       base = h.base;
       prop_base = omega (arith, h.base);
-      rows = meets_each n (proportion_values (proportion_point_at q)) (q.base * (grain * q.base)) (network_families n ++ exact_q_families n)
-          (families-met n Q q-paths q parts.variables (network_families n ++ exact_q_families n)
+      rows = families-met n Q q-paths q parts.variables (network_families n ++ exact_q_families n)
           (each-append IsOfQ (network_families n) (exact_q_families n) (network-of_q n) (own-of_q n))
           (each-append (MeetsRow n v q.base) (network_families n) (exact_q_families n)
           (group-meets n q v groups.Network named parts.network)
-          (group-meets n q v groups.Q named (All-front (Keeps q) (group_rows n groups.Q) products parts.own))));
+          (group-meets n q v groups.Q named (All-front (Keeps q) (group_rows n groups.Q) products parts.own)));
       products = product-kept n Q q-paths q parts.variables (All-behind (Keeps q) (group_rows n groups.Q) products parts.own);
       maxima = maxima-kept n Q q parts.variables;
     }
@@ -140,15 +140,14 @@ lines-solve_pq n q h =
     record {
       base = h.base;
       prop_base = omega (arith, h.base);
-      rows = meets_each n (proportion_values (proportion_point_at q)) (q.base * (grain * q.base)) (network_families n ++ (exact_q_families n ++ pq_families n))
-          (families-met n Pq pq-paths q parts.variables (network_families n ++ (exact_q_families n ++ pq_families n))
+      rows = families-met n Pq pq-paths q parts.variables (network_families n ++ (exact_q_families n ++ pq_families n))
           (each-append IsOfQ (network_families n) (exact_q_families n ++ pq_families n) (network-of_q n)
           (each-append IsOfQ (exact_q_families n) (pq_families n) (own-of_q n) (further-of_q n)))
           (each-append (MeetsRow n v q.base) (network_families n) (exact_q_families n ++ pq_families n)
           (group-meets n q v groups.Network named parts.network)
           (each-append (MeetsRow n v q.base) (exact_q_families n) (pq_families n)
           (group-meets n q v groups.Q named (All-front (Keeps q) (group_rows n groups.Q) products of_q))
-          (group-meets n q v groups.Further named (All-behind (Keeps q) rows (group_rows n groups.Further) parts.own)))));
+          (group-meets n q v groups.Further named (All-behind (Keeps q) rows (group_rows n groups.Further) parts.own))));
       products = product-kept n Pq pq-paths q parts.variables (All-behind (Keeps q) (group_rows n groups.Q) products of_q);
       maxima = maxima-kept n Pq q parts.variables;
     }

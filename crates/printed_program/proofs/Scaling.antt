@@ -9,9 +9,8 @@ use Rattle.pool_model.specs.Network.{Net}
 use Rattle.pool_model.specs.Plan.{Plan, cost_of, factor}
 use Rattle.row_model.specs.Variables.{PerVariable, none, path_count, variables, by_number, dot, costs}
 use Rattle.row_model.specs.Catalogue.{Kind, at_least, equal, Row}
-use Rattle.row_model.specs.Lift.{IsMet, lift}
+use Rattle.row_model.specs.Lift.{IsMet, lift, value_over, MeetsRow}
 use Rattle.row_model.proofs.Numbering.{by_number-dot}
-use Rattle.program_model.specs.Rows.{value_over, MeetsRow}
 use Rattle.program_model.proofs.Means.{positive-factors}
 
 -- a coefficient times a number is k times the coefficient times another number

@@ -13,7 +13,7 @@ use Rattle.pool_model.specs.Network.{Net, IsLimited, IsWithin as IsOfSize, cappe
 use Rattle.pool_model.proofs.Capped.{capped-le}
 use Rattle.row_model.specs.Boxes.{root, qual_number, flow_number, prop_number}
 use Rattle.row_model.specs.Variables.{variables, by_number, costs, lows, highs, path_count, path_feed, path_out, least_product, greatest_product}
-use Rattle.row_model.specs.Catalogue.{Kind, at_least, equal, Row, row_count, rows, row_at}
+use Rattle.row_model.specs.Catalogue.{Kind, at_least, equal, Row, row_count, rows, row_at, HoldsOfEach}
 use Rattle.row_model.proofs.Numbering.{by_number-each}
 use Rattle.row_model.proofs.PathSums.{path_feed-below, path_out-below}
 use Rattle.row_model.proofs.RootBox.{root-proper}
@@ -21,7 +21,7 @@ use Rattle.row_book.specs.declared.catalogue.Group.{Group}
 use Rattle.row_book.specs.declared.catalogue.Group.TheVariants as groups
 use Rattle.row_book.specs.Exact.{first_of, exact_count}
 use Rattle.row_book.specs.PartRows.{coef_at, constant_at}
-use Rattle.row_book.proofs.Families.{HoldsOfEach, each_row, row_count-append}
+use Rattle.row_model.proofs.Families.{each_row, row_count-append}
 use Rattle.row_book.proofs.Placing.{rows_is, row-written}
 use Rattle.row_book.proofs.RowCount.{few-rows}
 use Rattle.row_book.specs.Groups.{row_by}

@@ -11,10 +11,9 @@ use Rattle.pool_model.specs.Network.{Net}
 use Rattle.row_model.specs.Boxes.{root}
 use Rattle.row_model.specs.Variables.{PerVariable, path_count, variables, by_number, dot}
 use Rattle.row_model.specs.Catalogue.{row_at}
-use Rattle.row_model.specs.Lift.{IsMet}
+use Rattle.row_model.specs.Lift.{IsMet, MeetsRow}
 use Rattle.row_model.proofs.Numbering.{by_number-dot}
 use Rattle.row_book.specs.PartRows.{kind_at, coef_at, constant_at}
-use Rattle.program_model.specs.Rows.{MeetsRow}
 use Rattle.program_text.specs.Names.{named, name_of}
 use Rattle.program_text.specs.declared.names.Name.{Name}
 use Rattle.program_text.specs.declared.names.Symbol.TheVariants as symbols

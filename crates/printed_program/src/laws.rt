@@ -32,5 +32,5 @@ pub fn network_law(net: &Network)
     ensures { (form : Form) → IsTheProblem (net_of net.now) form (program_text (net_of net.now) form) }
 {
     printed_law();
-    let _counts = net.counts();
+    let _counts = net.sizes();
 }

@@ -6,7 +6,6 @@ pub mod FormP
 pub mod FormQ
 pub mod LiftedPlaces
 pub mod SameFlows
-pub mod NetworkRows
 pub mod PathRows
 pub mod MixedRows
 pub mod ExactRows

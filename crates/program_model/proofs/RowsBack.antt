@@ -1,5 +1,5 @@
 -- Numbers that meet the rows and the products of an exact program are a point of it.
-use Rattle.std.proofs.Common.{◌≡◌, ℕ, ◌+◌, ◌*◌, ◌%◌, ◌<◌, ◌≤◌, ◌++◌, List, [], ◌∷◌, get_or, length, Some, ℤ, pos, ◌-ℤ◌, ◌*ℤ◌, ◌≤ℤ◌, ◌<ℤ◌, arith, subst}
+use Rattle.std.proofs.Common.{◌≡◌, ℕ, ◌+◌, ◌*◌, ◌%◌, ◌<◌, ◌≤◌, ◌++◌, get_or, length, Some, ℤ, pos, ◌-ℤ◌, ◌*ℤ◌, ◌≤ℤ◌, ◌<ℤ◌, arith, subst}
 use Rattle.std.proofs.lemmas.List.Elements.{All-from_get_or, All-contains}
 use Rattle.std.proofs.lemmas.Nat.{div-mul-add, mod-mul-add}
 use Rattle.integers.specs.Sums.{int_sum_at, sum_at}
@@ -11,13 +11,15 @@ use Rattle.pool_model.specs.Plan.{Plan, Carries, KeepsMaxima, outflow, pool_infl
 use Rattle.pool_model.specs.Limits.{Limit, most_limits, least_limits, no_limit}
 use Rattle.row_model.specs.Boxes.{grain}
 use Rattle.row_model.specs.Variables.{PerVariable, path_count, path_feed, path_out}
-use Rattle.row_model.specs.Catalogue.{Family, network_families, pq_families, source_row, balance_row, pool_row, maximum_row, minimum_row, mixing_row}
+use Rattle.row_model.specs.Catalogue.{HoldsOfEach, network_families, pq_families, source_row, balance_row, pool_row, maximum_row, minimum_row, mixing_row}
 use Rattle.row_model.specs.Catalogue.{mixed_most_row, mixed_least_row, proportions_row, feed_row, path_most_row, path_least_row, out_row, share_row}
+use Rattle.row_model.specs.Lift.{with_flows, value_over, MeetsRow}
+use Rattle.row_model.proofs.Families.{each-front, each-behind}
 use Rattle.program_model.specs.Points.{ProportionPoint, QualityPoint, proportion_flows, quality_flows}
 use Rattle.program_model.specs.Programs.{IsPointOfP, IsPointOfQ, IsPointOfPq, mixed_inflow, path_inflow}
-use Rattle.program_model.specs.Rows.{exact_p_families, exact_q_families, with_flows, proportion_values, quality_values, value_over, MeetsRow, MeetsRows, SolvesP, SolvesQ, SolvesPq}
+use Rattle.program_model.specs.Rows.{exact_p_families, exact_q_families, proportion_values, quality_values, SolvesP, SolvesQ, SolvesPq}
 use Rattle.program_model.proofs.LimitLists.{limits-every}
-use Rattle.program_model.proofs.NetworkRows.{source_row-value, balance_row-value, pool_row-value, maximum_row-value, minimum_row-value}
+use Rattle.row_model.proofs.NetworkRows.{source_row-value, balance_row-value, pool_row-value, maximum_row-value, minimum_row-value}
 use Rattle.program_model.proofs.PathRows.{proportions_row-value, feed_row-value, path_most_row-value, path_least_row-value, out_row-value, share_row-value}
 use Rattle.program_model.proofs.MixedRows.{mixing_row-value, mixed_most_row-value, mixed_least_row-value}
 
@@ -42,17 +44,8 @@ same_multiples m a b value hm e z = same-cancel (pos m) a b (positive-ℤ m hm) 
 same_naturals : (m a b : ℕ) (value : ℤ) → 0 < m → value ≡ pos (m * a) -ℤ pos (m * b) → value ≡ pos 0 → a ≡ b
 same_naturals m a b value hm e z = same_pos a b (same_multiples m (pos a) (pos b) value hm e z)
 
--- ---- lists of families
-MeetsRows-front : (n : Net) (v : PerVariable) (base : ℕ) (fs gs : List Family) → MeetsRows n v base (fs ++ gs) → MeetsRows n v base fs
-MeetsRows-front n v base [] gs h = tt
-MeetsRows-front n v base (f ∷ fs) gs h = (h.0, MeetsRows-front n v base fs gs h.1)
-
-MeetsRows-behind : (n : Net) (v : PerVariable) (base : ℕ) (fs gs : List Family) → MeetsRows n v base (fs ++ gs) → MeetsRows n v base gs
-MeetsRows-behind n v base [] gs h = h
-MeetsRows-behind n v base (f ∷ fs) gs h = MeetsRows-behind n v base fs gs h.1
-
 -- ---- the network
-carries-back : (n : Net) (second : ℕ) (p : Plan) (others : PerVariable) → 0 < second → MeetsRows n (with_flows second p others) (p.base * second) (network_families n) → KeepsMaxima n p → Carries n p
+carries-back : (n : Net) (second : ℕ) (p : Plan) (others : PerVariable) → 0 < second → HoldsOfEach (MeetsRow n (with_flows second p others) (p.base * second)) (network_families n) → KeepsMaxima n p → Carries n p
 carries-back n second p others hm h keeps =
     let v = with_flows second p others in
     let base = p.base * second in
@@ -90,11 +83,11 @@ pub solves-point_of_p : (n : Net) (q : QualityPoint) → SolvesP n q → IsPoint
 solves-point_of_p n q s =
     let v = quality_values q in
     let base = q.base * q.qual_base in
-    let h = MeetsRows-behind n v base (network_families n) (exact_p_families n) s.rows in
+    let h = each-behind (MeetsRow n v base) (network_families n) (exact_p_families n) s.rows in
     record {
       base = s.base;
       qual_base = s.qual_base;
-      carries = carries-back n q.qual_base (quality_flows q) v s.qual_base (MeetsRows-front n v base (network_families n) (exact_p_families n) s.rows) s.maxima;
+      carries = carries-back n q.qual_base (quality_flows q) v s.qual_base (each-front (MeetsRow n v base) (network_families n) (exact_p_families n) s.rows) s.maxima;
       mixing = λ l k lt lk.
           let met = subst (λ (i : ℕ). MeetsRow n v base (mixing_row n i ((l * n.qualities + k) % n.qualities))) (div-mul-add l n.qualities k lk)
           (h.0 (l * n.qualities + k) (grid-below n.pools n.qualities l k lt lk)) in
@@ -116,8 +109,8 @@ solves-point_of_p n q s =
 
 -- ---- Q and Pq
 point_of_q-back : (n : Net) (q : ProportionPoint) → 0 < q.base → 0 < q.prop_base
-    → MeetsRows n (proportion_values q) (q.base * q.prop_base) (network_families n)
-    → MeetsRows n (proportion_values q) (q.base * q.prop_base) (exact_q_families n)
+    → HoldsOfEach (MeetsRow n (proportion_values q) (q.base * q.prop_base)) (network_families n)
+    → HoldsOfEach (MeetsRow n (proportion_values q) (q.base * q.prop_base)) (exact_q_families n)
     → ((a : ℕ) → a < path_count n → q.path a * q.prop_base ≡ q.proportion (path_feed n a) * q.out (path_out n a))
     → KeepsMaxima n (proportion_flows q)
     → IsPointOfQ n q
@@ -147,18 +140,18 @@ pub solves-point_of_q : (n : Net) (q : ProportionPoint) → SolvesQ n q → IsPo
 solves-point_of_q n q s =
     let v = proportion_values q in
     let base = q.base * q.prop_base in
-    point_of_q-back n q s.base s.prop_base (MeetsRows-front n v base (network_families n) (exact_q_families n) s.rows)
-    (MeetsRows-behind n v base (network_families n) (exact_q_families n) s.rows) s.products s.maxima
+    point_of_q-back n q s.base s.prop_base (each-front (MeetsRow n v base) (network_families n) (exact_q_families n) s.rows)
+    (each-behind (MeetsRow n v base) (network_families n) (exact_q_families n) s.rows) s.products s.maxima
 
 pub solves-point_of_pq : (n : Net) (q : ProportionPoint) → SolvesPq n q → IsPointOfPq n q
 solves-point_of_pq n q s =
     let v = proportion_values q in
     let base = q.base * q.prop_base in
-    let network = MeetsRows-front n v base (network_families n) (exact_q_families n ++ pq_families n) s.rows in
-    let rest = MeetsRows-behind n v base (network_families n) (exact_q_families n ++ pq_families n) s.rows in
-    let further = MeetsRows-behind n v base (exact_q_families n) (pq_families n) rest in
+    let network = each-front (MeetsRow n v base) (network_families n) (exact_q_families n ++ pq_families n) s.rows in
+    let rest = each-behind (MeetsRow n v base) (network_families n) (exact_q_families n ++ pq_families n) s.rows in
+    let further = each-behind (MeetsRow n v base) (exact_q_families n) (pq_families n) rest in
     record {
-      of_q = point_of_q-back n q s.base s.prop_base network (MeetsRows-front n v base (exact_q_families n) (pq_families n) rest) s.products s.maxima;
+      of_q = point_of_q-back n q s.base s.prop_base network (each-front (MeetsRow n v base) (exact_q_families n) (pq_families n) rest) s.products s.maxima;
       outs = λ o lt. same_naturals q.prop_base (sum_at (path_out n) o q.path (path_count n)) (q.out o) (value_over n v base (out_row n o)) s.prop_base (out_row-value n q o lt) (further.0 o lt);
       shares = λ e lt.
           natural_le (q.prop_base * sum_at (path_feed n) e q.path (path_count n)) (n.pool_max (n.feed_pool e) * q.proportion e * q.base)

@@ -1,12 +1,12 @@
 -- The rows of the exact programs in the catalogue: those that are the same in every box, read at the numbers of a point.
-use Rattle.std.specs.Prelude.{◌≡◌, ℕ, ◌*◌, ◌/◌, ◌%◌, ◌<◌, List, [], ◌∷◌, ◌++◌, length, get_or, ℤ, pos, ◌+ℤ◌, ◌*ℤ◌, ◌≤ℤ◌}
+use Rattle.std.specs.Prelude.{◌≡◌, ℕ, ◌*◌, ◌/◌, ◌%◌, ◌<◌, List, [], ◌∷◌, ◌++◌, length, get_or, pos, ◌*ℤ◌, ◌≤ℤ◌}
 use Rattle.pool_model.specs.Network.{Net}
-use Rattle.pool_model.specs.Plan.{Plan, KeepsMaxima}
+use Rattle.pool_model.specs.Plan.{KeepsMaxima}
 use Rattle.pool_model.specs.Limits.{most_limits, least_limits, no_limit}
 use Rattle.row_model.specs.Boxes.{grain, qual, root_low, root_high}
-use Rattle.row_model.specs.Variables.{PerVariable, none, dot, path_count, path_feed, path_out}
-use Rattle.row_model.specs.Catalogue.{Row, Family, network_families, pq_families, mixing_row, mixed_most_row, mixed_least_row, proportions_row, feed_row, path_most_row, path_least_row}
-use Rattle.row_model.specs.Lift.{IsMet}
+use Rattle.row_model.specs.Variables.{PerVariable, none, path_count, path_feed, path_out}
+use Rattle.row_model.specs.Catalogue.{Family, HoldsOfEach, network_families, pq_families, mixing_row, mixed_most_row, mixed_least_row, proportions_row, feed_row, path_most_row, path_least_row}
+use Rattle.row_model.specs.Lift.{MeetsRow, with_flows}
 use Rattle.program_model.specs.Points.{ProportionPoint, QualityPoint, proportion_flows, quality_flows}
 
 -- ---- rows
@@ -29,14 +29,6 @@ exact_q_families n =
 
 -- ---- points
 
--- flows times a second base, beside other numbers
-abbrev pub with_flows : ℕ → Plan → PerVariable → PerVariable
-with_flows second p others = record others {
-  x = λ e. pos second *ℤ pos (p.feed e);
-  y = λ o. pos second *ℤ pos (p.out o);
-  z = λ e. pos second *ℤ pos (p.direct e);
-}
-
 -- the numbers of a point over both of its bases; proportions are counted in parts of the grain
 abbrev pub proportion_values : ProportionPoint → PerVariable
 proportion_values q = with_flows q.prop_base (proportion_flows q) record none {
@@ -50,20 +42,6 @@ quality_values q = with_flows q.qual_base (quality_flows q) record none {
   mixed = λ o k. pos q.qual_base *ℤ q.mixed o k;
 }
 
--- ---- what rows say of numbers over a base
-
--- a row's value there, times the base
-abbrev pub value_over : Net → PerVariable → ℕ → Row → ℤ
-value_over n v base r = dot n r.coefs v +ℤ r.constant *ℤ pos base
-
-abbrev pub MeetsRow : Net → PerVariable → ℕ → Row → Type 0
-MeetsRow n v base r = IsMet r.kind (value_over n v base r)
-
--- each row of each family is met
-abbrev pub MeetsRows : Net → PerVariable → ℕ → List Family → Type 0
-MeetsRows n v base [] = Unit {0}
-MeetsRows n v base (f ∷ fs) = ((i : ℕ) → i < f.count → MeetsRow n v base (f.row i)) × MeetsRows n v base fs
-
 -- ---- the programs by their rows: what their texts say
 
 -- numbers with bases above 0 that meet the rows of P and its products, with qualities between their ends and no flow above the
@@ -71,7 +49,7 @@ MeetsRows n v base (f ∷ fs) = ((i : ℕ) → i < f.count → MeetsRow n v base
 pub record SolvesP (n : Net) (q : QualityPoint) : Type 0 where
   pub base : 0 < q.base
   pub qual_base : 0 < q.qual_base
-  pub rows : MeetsRows n (quality_values q) (q.base * q.qual_base) (network_families n ++ exact_p_families n)
+  pub rows : HoldsOfEach (MeetsRow n (quality_values q) (q.base * q.qual_base)) (network_families n ++ exact_p_families n)
   pub products : (o k : ℕ) → o < n.outs → k < n.qualities → q.mixed o k *ℤ pos q.qual_base ≡ q.quality (n.out_pool o) k *ℤ pos (q.out o)
   pub low : (l k : ℕ) → l < n.pools → k < n.qualities → (root_low n (qual l k) *ℤ pos q.qual_base) ≤ℤ q.quality l k
   pub high : (l k : ℕ) → l < n.pools → k < n.qualities → q.quality l k ≤ℤ (root_high n (qual l k) *ℤ pos q.qual_base)
@@ -81,7 +59,7 @@ pub record SolvesP (n : Net) (q : QualityPoint) : Type 0 where
 pub record SolvesQ (n : Net) (q : ProportionPoint) : Type 0 where
   pub base : 0 < q.base
   pub prop_base : 0 < q.prop_base
-  pub rows : MeetsRows n (proportion_values q) (q.base * q.prop_base) (network_families n ++ exact_q_families n)
+  pub rows : HoldsOfEach (MeetsRow n (proportion_values q) (q.base * q.prop_base)) (network_families n ++ exact_q_families n)
   pub products : (a : ℕ) → a < path_count n → q.path a * q.prop_base ≡ q.proportion (path_feed n a) * q.out (path_out n a)
   pub maxima : KeepsMaxima n (proportion_flows q)
 
@@ -89,6 +67,6 @@ pub record SolvesQ (n : Net) (q : ProportionPoint) : Type 0 where
 pub record SolvesPq (n : Net) (q : ProportionPoint) : Type 0 where
   pub base : 0 < q.base
   pub prop_base : 0 < q.prop_base
-  pub rows : MeetsRows n (proportion_values q) (q.base * q.prop_base) (network_families n ++ (exact_q_families n ++ pq_families n))
+  pub rows : HoldsOfEach (MeetsRow n (proportion_values q) (q.base * q.prop_base)) (network_families n ++ (exact_q_families n ++ pq_families n))
   pub products : (a : ℕ) → a < path_count n → q.path a * q.prop_base ≡ q.proportion (path_feed n a) * q.out (path_out n a)
   pub maxima : KeepsMaxima n (proportion_flows q)

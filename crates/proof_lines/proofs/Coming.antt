@@ -1,5 +1,5 @@
 -- The item that comes is one that the text may go on with.
-use Rattle.std.proofs.Common.{◌≡◌, ◌≢◌, ◌⊎◌, ℕ, ◌-◌, inl, Bool, true, false, cond, eqb, ◌^◌, [], ◌∷◌, ◌++◌, Result, Ok, Err, IsTrue, refl, sym, ap, subst}
+use Rattle.std.proofs.Common.{◌≡◌, ◌≢◌, ◌⊎◌, ℕ, ◌-◌, inl, Bool, true, false, cond, eqb, ◌^◌, [], ◌++◌, Result, Ok, Err, IsTrue, refl, sym, ap, subst}
 use Rattle.std.specs.Prelude.{codes}
 use Rattle.std.specs.Prelude.{IfOk, OnOk}
 use Rattle.edge_io.specs.Counts.{Rose, RoseBy}
@@ -8,8 +8,6 @@ use Rattle.shelf_calls.specs.Told.{Keeps}
 use Rattle.cert_text.specs.declared.pieces.Ends.TheVariants.{Space, Line, LineIfZero}
 use Rattle.cert_text.specs.Reading.{At, ◌>>=◌, word_at, same_at, end_of, ends_before, u32_at, u64_at, i128_at}
 use Rattle.cert_text.proofs.Laws.{done, ok_is, bind_ok}
-use Rattle.cert_format.specs.declared.reading.Kind.{Kind}
-use Rattle.cert_format.specs.declared.reading.Kind.TheVariants as kinds
 use Rattle.cert_format.specs.Reading.{kind_at, shape_at, list_word_at, split_line_at, part_at, bound_at}
 use Rattle.cert_text.specs.declared.fault.TextFault.{TextFault}
 use Rattle.cert_stream.specs.declared.fault.ItemFault.{ItemFault}
@@ -18,20 +16,14 @@ use Rattle.cert_items.specs.declared.items.Item.{Item}
 use Rattle.cert_items.specs.declared.items.State.{State}
 use Rattle.cert_items.specs.declared.items.State.TheVariants as states
 use Rattle.cert_stream.specs.Items.{Field, kind, shape, bases, weight, outflow, direct, splits, cut, proofs, head, one_part, cost_is, bound_is, gap_is, end_is}
-use Rattle.cert_stream.specs.Items.{shown_item, kind_number, cuts_left, proofs_left, parts_left, directs_left, shaped_state, direct_words_at, outflow_words_at}
+use Rattle.cert_stream.specs.Items.{shown_item, cuts_left, proofs_left, parts_left, directs_left, shaped_state, direct_words_at, outflow_words_at}
 use Rattle.cert_stream.specs.Items.{weight_words_at, begin_at, shape_step_at, bases_step_at, weight_step_at, outflow_step_at, direct_step_at, head_step_at}
 use Rattle.cert_stream.specs.Items.{claim_step_at, next_at}
 use Rattle.cert_stream.specs.Streams.{at_of, GivesItem, GivesFault, IsMore, TookMore}
-use Rattle.proof_lines.specs.Runs.{Moment, Run}
-use Rattle.proof_lines.specs.Grammar.{kind_of, outflows_left, weights_left, MayCome, behind_item, Came}
+use Rattle.proof_lines.specs.Runs.{Moment}
+use Rattle.proof_lines.specs.Grammar.{outflows_left, weights_left, MayCome, behind_item, Came}
 use Rattle.cert_stream.proofs.Calls.{ran-one, told-quiet, fault-quiet}
 use Rattle.proof_lines.proofs.Running.{fault-later}
-
--- the kind of a number
-pub kind-of-number : (k : Kind) → kind_of (kind_number k) ≡ k
-kind-of-number kinds.Gap = refl
-kind-of-number kinds.Bound = refl
-kind-of-number kinds.NoPlan = refl
 
 -- ---- the words before a list of flows
 
@@ -109,7 +101,7 @@ unfolding next_at begin_at shape_step_at bases_step_at weight_step_at outflow_st
 next-fits states.Begin a b i t going e =
     let w = bind_ok (word_at (codes "poolcert 1\n") a) _ ((i, t), b) e in
     let k = bind_ok (kind_at w.0.1) _ ((i, t), b) w.2 in
-    fits states.Begin ((kind (kind_number k.0.0), states.Shape k.0.0), k.0.1) i t b k.2 (tt, ap states.Shape (sym (kind-of-number k.0.0)))
+    fits states.Begin ((kind k.0.0, states.Shape k.0.0), k.0.1) i t b k.2 (tt, refl)
 next-fits (states.Shape k) a b i t going e =
     let s = bind_ok (shape_at a) _ ((i, t), b) e in
     fits (states.Shape k) ((shape s.0.0, shaped_state k s.0.0), s.0.1) i t b s.2 (tt, refl)
@@ -177,18 +169,3 @@ call-came m k (Ok item) going used kept gives counted text long more read quiet 
 call-came m k (Err faults.Read) going used kept gives counted text long more read quiet = record { kept = kept; why = read refl; quiet = inl refl }
 call-came m k (Err faults.TooLong) going used kept gives counted text long more read quiet = record { kept = kept; why = (long refl, more refl); quiet = fault-quiet quiet }
 call-came m k (Err (faults.Text f)) going used kept gives counted text long more read quiet = record { kept = kept; why = fault-later m k f used (text f refl); quiet = fault-quiet quiet }
-
-begin-known : (a b : At) (i : ℕ) (t : State) → next_at states.Begin a ≡ Ok ((kind i, t), b) → kind_number (kind_of i) ≡ i
-unfolding next_at begin_at
-begin-known a b i t e =
-    let w = bind_ok (word_at (codes "poolcert 1\n") a) _ ((kind i, t), b) e in
-    let x = bind_ok (kind_at w.0.1) _ ((kind i, t), b) w.2 in
-    let both : kind (kind_number x.0.0) ≡ kind i = ap (λ (p : Found). p.0.0) (ok_is ((kind (kind_number x.0.0), states.Shape x.0.0), x.0.1) ((kind i, t), b) x.2) in
-    let same : kind_number x.0.0 ≡ i = cc in
-    subst (λ (j : ℕ). kind_number (kind_of j) ≡ j) same (ap kind_number (kind-of-number x.0.0))
-
--- a kind that was read is one of the three
-pub kind-known : (m k : Moment) (i : ℕ) → m.reader.state ≡ states.Begin → Run m k (kind i ∷ []) → kind_number (kind_of i) ≡ i
-kind-known m k i at run =
-    let gave = run.ran.reads [] (λ e. refl) in
-    begin-known (at_of m.reader (run.ran.took.taken ++ [])) gave.1 i gave.0 (subst (λ (s : State). next_at s (at_of m.reader (run.ran.took.taken ++ [])) ≡ Ok ((kind i, gave.0), gave.1)) at gave.3)

@@ -5,23 +5,13 @@ use Rattle.cert_format.specs.declared.reading.Kind.{Kind}
 use Rattle.cert_format.specs.declared.reading.Kind.TheVariants as kinds
 use Rattle.cert_items.specs.declared.items.State.{State}
 use Rattle.cert_items.specs.declared.items.State.TheVariants as states
-use Rattle.cert_stream.specs.Items.{claim_state, cuts_left, proofs_left, parts_left, directs_left, shaped_state}
-use Rattle.proof_lines.specs.Grammar.{outflows_left, weights_left}
+use Rattle.cert_stream.specs.Items.{claim_state, cuts_left, proofs_left, parts_left, shaped_state}
 
 -- ---- one of so many
 
 -- one of a count
 one_left : (n i : ℕ) (none : State) (some : ℕ → State) → i < n → cond (eqb (n - i) 0) none (some (n - i - 1)) ≡ some (n - (i + 1))
 one_left n i none some h = let e : eqb (n - i) 0 ≡ false = ne_eqb (n - i) 0 (λ e. omega arith) in let g : n - i - 1 ≡ n - (i + 1) = omega arith in rw (e, g) refl
-
-pub weight-left : (n i outs directs : ℕ) → i < n → weights_left (n - i) outs directs ≡ states.Weight (n - (i + 1)) outs directs
-weight-left n i outs directs h = one_left n i (outflows_left outs directs) (λ m. states.Weight m outs directs) h
-
-pub outflow-left : (n i directs : ℕ) → i < n → outflows_left (n - i) directs ≡ states.Outflow (n - (i + 1)) directs
-outflow-left n i directs h = one_left n i (directs_left directs) (λ m. states.Outflow m directs) h
-
-pub direct-left : (n i : ℕ) → i < n → directs_left (n - i) ≡ states.Direct (n - (i + 1))
-direct-left n i h = one_left n i (states.Splits kinds.Gap) (λ m. states.Direct m) h
 
 pub cut-left : (k : Kind) (n i : ℕ) → i < n → cuts_left k (n - i) ≡ states.Cut k (n - (i + 1))
 cut-left k n i h = one_left n i (states.Proofs k) (λ m. states.Cut k m) h

@@ -1,7 +1,5 @@
 -- Which items a text goes on with.
 use Rattle.std.specs.Prelude.{◌≡◌, ℕ, ◌-◌, [], ◌∷◌, ℤ, Result, Ok, Err, ◌==◌, if◌then◌else◌}
-use Rattle.cert_format.specs.declared.reading.Kind.{Kind}
-use Rattle.cert_format.specs.declared.reading.Kind.TheVariants as kinds
 use Rattle.cert_stream.specs.declared.fault.ItemFault.{ItemFault}
 use Rattle.cert_items.specs.declared.items.Item as declared
 use Rattle.cert_items.specs.declared.items.State.{State}
@@ -14,10 +12,6 @@ use Rattle.linear_program.specs.declared.multipliers.Part.{Part}
 use Rattle.box_space.specs.Views.{shown_split, shown_part}
 use Rattle.proof_lines.specs.declared.steps.LineHead.{LineHead}
 use Rattle.proof_lines.specs.Runs.{Moment, Run, Failed, IsReady}
-
--- the kind of a number
-abbrev pub kind_of : ℕ → Kind
-kind_of k = if k == 0 then kinds.Gap else if k == 1 then kinds.Bound else kinds.NoPlan
 
 -- so many outflows, and what comes behind them
 abbrev pub outflows_left : ℕ → ℕ → State
@@ -49,7 +43,7 @@ MayCome _ _ = ⊥
 
 -- what it goes on with behind the item
 abbrev pub behind_item : State → Field → State
-behind_item states.Begin (kind k) = states.Shape (kind_of k)
+behind_item states.Begin (kind k) = states.Shape k
 behind_item (states.Shape k) (shape s) = shaped_state k s
 behind_item (states.Bases feeds outs directs) (bases b f) = weights_left feeds outs directs
 behind_item (states.Weight n outs directs) (weight w) = weights_left n outs directs

@@ -9,6 +9,7 @@ ghost use Rattle.proof_lines.specs.Grammar.{bases_item, cut_item, head_item, par
 ghost use Rattle.proof_lines.specs.Runs.{moment};
 
 use box_space::{Part, Split};
+use cert_format::reading::Kind;
 use cert_stream::{CertReader, Item, ItemFault};
 use shelf_calls::Shelf;
 
@@ -22,7 +23,7 @@ pub(crate) struct LineHead {
 }
 
 /// The next item, which the text may go on with.
-fn next<S: Shelf>(reader: &mut CertReader, shelf: &mut S) -> Result<Item, ItemFault>
+pub fn next<S: Shelf>(reader: &mut CertReader, shelf: &mut S) -> Result<Item, ItemFault>
     requires going { reader.old.state ≢ states.Ended }
     requires used_up { IsTrue reader.old.ended → IsUsedUp (S.told shelf.old).rest }
     ensures { Came (moment reader.old (S.told shelf.old)) (moment reader.new (S.told shelf.new)) result }
@@ -30,8 +31,8 @@ fn next<S: Shelf>(reader: &mut CertReader, shelf: &mut S) -> Result<Item, ItemFa
     reader.next_item(shelf)
 }
 
-/// The number of the kind that is claimed.
-pub fn kind<S: Shelf>(reader: &mut CertReader, shelf: &mut S) -> Result<u8, ItemFault>
+/// The kind of what is claimed.
+pub fn kind<S: Shelf>(reader: &mut CertReader, shelf: &mut S) -> Result<Kind, ItemFault>
     requires asks { reader.old.state ≡ states.Begin }
     requires used_up { IsTrue reader.old.ended → IsUsedUp (S.told shelf.old).rest }
     ensures { Reads items.kind (λ x. behind_item reader.old.state (items.kind x)) (moment reader.old (S.told shelf.old)) (moment reader.new (S.told shelf.new)) result }
@@ -62,42 +63,6 @@ pub fn base_pair<S: Shelf>(reader: &mut CertReader, shelf: &mut S) -> Result<(u3
 {
     match next(reader, shelf)? {
         Item::Bases(base, flow_base) => Ok((base, flow_base)),
-        _ => unreachable!(),
-    }
-}
-
-/// A weight of the plan.
-pub fn weight<S: Shelf>(reader: &mut CertReader, shelf: &mut S) -> Result<u32, ItemFault>
-    requires asks { (behind outs directs : ℕ) × (reader.old.state ≡ states.Weight behind outs directs) }
-    requires used_up { IsTrue reader.old.ended → IsUsedUp (S.told shelf.old).rest }
-    ensures { Reads items.weight (λ x. behind_item reader.old.state (items.weight x)) (moment reader.old (S.told shelf.old)) (moment reader.new (S.told shelf.new)) result }
-{
-    match next(reader, shelf)? {
-        Item::Weight(weight) => Ok(weight),
-        _ => unreachable!(),
-    }
-}
-
-/// An outflow of the plan.
-pub fn outflow<S: Shelf>(reader: &mut CertReader, shelf: &mut S) -> Result<u64, ItemFault>
-    requires asks { (behind directs : ℕ) × (reader.old.state ≡ states.Outflow behind directs) }
-    requires used_up { IsTrue reader.old.ended → IsUsedUp (S.told shelf.old).rest }
-    ensures { Reads items.outflow (λ x. behind_item reader.old.state (items.outflow x)) (moment reader.old (S.told shelf.old)) (moment reader.new (S.told shelf.new)) result }
-{
-    match next(reader, shelf)? {
-        Item::Outflow(flow) => Ok(flow),
-        _ => unreachable!(),
-    }
-}
-
-/// A direct flow of the plan.
-pub fn direct<S: Shelf>(reader: &mut CertReader, shelf: &mut S) -> Result<u64, ItemFault>
-    requires asks { (behind : ℕ) × (reader.old.state ≡ states.Direct behind) }
-    requires used_up { IsTrue reader.old.ended → IsUsedUp (S.told shelf.old).rest }
-    ensures { Reads items.direct (λ x. behind_item reader.old.state (items.direct x)) (moment reader.old (S.told shelf.old)) (moment reader.new (S.told shelf.new)) result }
-{
-    match next(reader, shelf)? {
-        Item::Direct(flow) => Ok(flow),
         _ => unreachable!(),
     }
 }

@@ -1,5 +1,4 @@
 -- Lemmas behind the proofs.
-pub mod Families
 pub mod NearEnds
 pub mod RowSizes
 pub mod Placing

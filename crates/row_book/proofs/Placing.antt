@@ -11,7 +11,7 @@ use Rattle.box_space.specs.Lines.{Line}
 use Rattle.box_space.specs.Views.{shown_kind}
 use Rattle.box_space.specs.Written.{IsLineOf}
 use Rattle.box_space.specs.declared.rows.RowKind.{RowKind}
-use Rattle.row_book.proofs.Families.{test_true, test_false, row_count-append, row_in-front, row_in-behind}
+use Rattle.row_model.proofs.Families.{test_true, test_false, row_count-append, row_in-front, row_in-behind}
 
 -- how many rows there are, group by group
 pub rows_is : (n : Net) → rows n ≡ row_count (network_families n) + (row_count (p_families n (root n)) + (row_count (q_families n (root n)) + row_count (pq_families n)))

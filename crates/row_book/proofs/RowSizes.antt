@@ -8,13 +8,13 @@ use Rattle.row_model.specs.Boxes.{Box, coords, IsProper, prop_number, qual_numbe
 use Rattle.row_model.specs.Variables.{PerVariable, path_count, path_feed, path_out, variables, by_number}
 use Rattle.row_model.specs.Envelopes.{Ends, Side, side}
 use Rattle.pool_model.specs.Limits.{Limit, no_limit, most_limits, least_limits}
-use Rattle.row_model.specs.Catalogue.{Row, when, rows, row_at, catalogue, network_families, p_families, q_families, pq_families, source_row, balance_row, pool_row, maximum_row}
+use Rattle.row_model.specs.Catalogue.{Row, when, rows, row_at, catalogue, network_families, p_families, q_families, pq_families, source_row, balance_row, pool_row, maximum_row, HoldsOfEach}
 use Rattle.row_model.specs.Catalogue.{minimum_row, limit_parts, path_quality, mixing_row, mixed_most_row, mixed_least_row, quality_ends, quality_envelope_row, proportions_row}
 use Rattle.row_model.specs.Catalogue.{feed_row, path_most_row, path_least_row, proportion_ends, proportion_envelope_row, out_row, share_row}
 use Rattle.integers.proofs.Grids.{grid-below, grid-row, grid-column}
 use Rattle.row_model.proofs.Numbering.{HoldsByKind, by_number-each}
 use Rattle.row_model.proofs.PathSums.{path_feed-below, path_out-below}
-use Rattle.row_book.proofs.Families.{HoldsOfEach, each_row, each-append}
+use Rattle.row_model.proofs.Families.{each_row, each-append}
 use Rattle.formulations.proofs.InParts.{IsFewLimit, limit-few, retained-few, limit_parts-few, direct_quality-few, path_quality-few}
 use Rattle.row_book.proofs.NearEnds.{AreNear, quality-few, ends-near}
 

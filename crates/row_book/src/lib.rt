@@ -10,10 +10,9 @@
 //!
 //! The rows, and the number and the weight of a proof, are defined in `row_model`; `specs/Faults.antt` says when a fault holds.
 //! Proofs above may cite `proofs/AgreedFaults.antt`: a proof has the same faults in boxes with the same ends. Also, of `proofs/`:
-//! `Families` (rows in lists of families), `NetworkRows` (which family a row of the network is of), `Placing` (the group of a row,
-//! and its number there), `NearEnds` (how large the ends of a proper box are), `RowCount` (how many rows there may be), `Terms` (the
-//! terms of a row name each variable once), `Rising` (row numbers that rise) and `FirstFaults` (the first fault of a proof, and when it
-//! has none).
+//! `NetworkRows` (which family a row of the network is of), `Placing` (the group of a row, and its number there), `NearEnds` (how large
+//! the ends of a proper box are), `RowCount` (how many rows there may be), `Terms` (the terms of a row name each variable once),
+//! `Rising` (row numbers that rise) and `FirstFaults` (the first fault of a proof, and when it has none).
 #![tactic(auto)]
 
 mod catalogue;

@@ -1,12 +1,14 @@
 -- Lemmas behind the laws.
 pub mod Shares
 pub mod PathSums
+pub mod Families
 pub mod Numbering
 pub mod RootBox
 pub mod Halves
 pub mod VariableEnds
 pub mod PointCost
 pub mod RowSums
+pub mod FormRows
 pub mod NetworkRows
 pub mod Brought
 pub mod EnvelopeLaw
@@ -17,5 +19,6 @@ pub mod CatalogueRows
 pub mod Duality
 pub mod TreeLaw
 pub mod TreeBound
+pub mod Lowest
 pub mod EntryLaw
 pub mod Agreement

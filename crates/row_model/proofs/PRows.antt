@@ -1,99 +1,48 @@
 -- The rows of P hold at the point of each plan that obeys.
-use Rattle.std.proofs.Common.{◌≡◌, ℕ, ◌*◌, ◌<◌, inl, inr, Some, ℤ, pos, neg_ℤ, ◌-ℤ◌, ◌*ℤ◌, arith, refl, sym, ap, ◌∙◌}
+use Rattle.std.proofs.Common.{◌≡◌, ℕ, ◌*◌, ◌<◌, inl, inr, Some, ℤ, pos, ◌*ℤ◌, arith, refl, sym, ap, ◌∙◌}
 use Rattle.std.proofs.Math.IntN.{*ℤ-zero}
-use Rattle.integers.specs.Sums.{product_below, product_but, int_sum_below, int_sum_at, sum_at}
-use Rattle.integers.proofs.Ring.{additive, linear, sorted, neg-mul, mul_assoc_ℤ, mul_left_comm_ℤ}
+use Rattle.integers.specs.Sums.{product_below, product_but}
+use Rattle.integers.proofs.Ring.{additive, linear, sorted, mul_assoc_ℤ}
 use Rattle.integers.proofs.AtKey.{same_or_other, int_sum_at-same, int_sum_at-mul, pos-sum_at, product_but_is}
 use Rattle.integers.proofs.ByNode.{int_sum_at-nothing}
 use Rattle.pool_model.specs.Network.{Net, IsLimited}
-use Rattle.pool_model.specs.Plan.{Plan, Carries, Blends, outflow, factor, mix, treated, quality_inflow, quality_room}
-use Rattle.pool_model.specs.Starting.{straight, way_quality}
+use Rattle.pool_model.specs.Plan.{Plan, Carries, Blends, outflow, factor, mix}
 use Rattle.row_model.specs.Boxes.{Box, LiesIn, place, qual}
 use Rattle.row_model.specs.Envelopes.{side}
 use Rattle.row_model.specs.Variables.{path_count}
 use Rattle.pool_model.specs.Limits.{Limit}
-use Rattle.row_model.specs.Catalogue.{when, limit_parts, mixing_row, mixed_most_row, mixed_least_row, quality_ends, quality_envelope_row}
-use Rattle.row_model.specs.Lift.{lift, others, value_at, HoldsAt}
-use Rattle.row_model.proofs.RowSums.{no_sum, no_sums, key_sum, one_sum, one_sums, pair_sum, scaled_at, same_at, opposite_at, room_at, excess_at, room_of_both}
-use Rattle.row_model.proofs.Brought.{directs-bring, pools-bring}
+use Rattle.row_model.specs.Catalogue.{mixing_row, mixed_most_row, mixed_least_row, quality_ends, quality_envelope_row}
+use Rattle.row_model.specs.Lift.{lift, lift_base, others, HoldsAt}
+use Rattle.row_model.proofs.RowSums.{no_sum, one_sum, pair_sum}
+use Rattle.row_model.proofs.FormRows.{mixing_row-sum, mixed_most_row-sum, mixed_least_row-sum}
+use Rattle.row_model.proofs.Brought.{pools-bring}
 use Rattle.row_model.proofs.Shares.{no_feed, quality-out}
 use Rattle.row_model.proofs.Numbering.{lies-qual, lies-flow}
 use Rattle.row_model.proofs.EnvelopeLaw.{lifted_side-holds}
 
 -- ---- limits
 
--- what pools retain of the mixed variables of one quality on a product's outs is what reaches it through the pools
-mixed-sum : (n : Net) (p : Plan) (j k : ℕ) → k < n.qualities
-    → int_sum_below (λ o. int_sum_below (λ h. when h k (when (n.out_product o) j (pos (n.retained (n.out_pool o) k))) *ℤ (lift n p).mixed o h) n.qualities) n.outs
-    ≡ int_sum_at n.out_product j (λ o. others n p (n.out_pool o) *ℤ treated n p (n.out_pool o) k *ℤ pos (p.out o)) n.outs
-mixed-sum n p j k lk =
-    let v = lift n p in
-    let retained = λ (o : ℕ). pos (n.retained (n.out_pool o) k) in
-    one_sums k (λ o. when (n.out_product o) j (retained o)) v.mixed n.outs n.qualities lk
-    ∙ key_sum n.out_product j retained (λ o. v.mixed o k) n.outs
-    ∙ pools-bring n p j k
-
--- the same with opposite coefficients
-mixed_sum-opposite : (n : Net) (p : Plan) (j k : ℕ) → k < n.qualities
-    → int_sum_below (λ o. int_sum_below (λ h. when h k (when (n.out_product o) j (neg_ℤ (pos (n.retained (n.out_pool o) k)))) *ℤ (lift n p).mixed o h) n.qualities) n.outs
-    ≡ neg_ℤ (int_sum_at n.out_product j (λ o. others n p (n.out_pool o) *ℤ treated n p (n.out_pool o) k *ℤ pos (p.out o)) n.outs)
-mixed_sum-opposite n p j k lk =
-    let v = lift n p in
-    let retained = λ (o : ℕ). pos (n.retained (n.out_pool o) k) in
-    one_sums k (λ o. when (n.out_product o) j (neg_ℤ (retained o))) v.mixed n.outs n.qualities lk
-    ∙ opposite_at n.out_product j retained (λ o. v.mixed o k) n.outs
-    ∙ ap neg_ℤ (pools-bring n p j k)
-
-mixed_most_row-value : (n : Net) (p : Plan) (u : Limit) → u.quality < n.qualities
-    → value_at n p (mixed_most_row n u) ≡ quality_room n p u.product u.limit -ℤ quality_inflow n p u.product u.quality
-mixed_most_row-value n p u lk =
-    let m = pos (product_below (factor n p) n.pools) in
-    let v = lift n p in
-    let limit = limit_parts n u in
-    omega (
-      arith,
-      additive,
-      no_sum v.x n.feeds,
-      no_sum v.w (path_count n),
-      no_sum v.proportion n.feeds,
-      no_sums v.quality n.pools n.qualities,
-      scaled_at n.out_product u.product limit m p.out n.outs,
-      room_at n.direct_product u.product limit m (λ e. way_quality n (straight e) u.quality) p.direct n.directs,
-      ap (λ z. m *ℤ z) (directs-bring n p u.product u.quality),
-      mixed_sum-opposite n p u.product u.quality lk,
-      room_of_both m limit (pos (sum_at n.out_product u.product p.out n.outs)) (pos (sum_at n.direct_product u.product p.direct n.directs)),
-    )
-
 pub mixed_most_row-holds : (n : Net) (p : Plan) (u : Limit) → Blends n p → u.product < n.products → u.quality < n.qualities → n.most u.product u.quality ≡ Some u.limit
     → HoldsAt n p (mixed_most_row n u)
 mixed_most_row-holds n p u b product quality is =
-    rw (mixed_most_row-value n p u quality) (omega (arith, additive, b.at_most u.product u.quality u.limit product quality is))
-
-mixed_least_row-value : (n : Net) (p : Plan) (u : Limit) → u.quality < n.qualities
-    → value_at n p (mixed_least_row n u) ≡ quality_inflow n p u.product u.quality -ℤ quality_room n p u.product u.limit
-mixed_least_row-value n p u lk =
-    let m = pos (product_below (factor n p) n.pools) in
-    let v = lift n p in
-    let limit = limit_parts n u in
     omega (
       arith,
       additive,
-      no_sum v.x n.feeds,
-      no_sum v.w (path_count n),
-      no_sum v.proportion n.feeds,
-      no_sums v.quality n.pools n.qualities,
-      scaled_at n.out_product u.product (neg_ℤ limit) m p.out n.outs,
-      neg-mul limit (m *ℤ pos (sum_at n.out_product u.product p.out n.outs)),
-      excess_at n.direct_product u.product limit m (λ e. way_quality n (straight e) u.quality) p.direct n.directs,
-      ap (λ z. m *ℤ z) (directs-bring n p u.product u.quality),
-      mixed-sum n p u.product u.quality lk,
-      room_of_both m limit (pos (sum_at n.out_product u.product p.out n.outs)) (pos (sum_at n.direct_product u.product p.direct n.directs)),
+      mixed_most_row-sum n (product_below (factor n p) n.pools) p (lift n p) (lift_base n p) u quality,
+      pools-bring n p u.product u.quality,
+      b.at_most u.product u.quality u.limit product quality is,
     )
 
 pub mixed_least_row-holds : (n : Net) (p : Plan) (u : Limit) → Blends n p → u.product < n.products → u.quality < n.qualities → n.least u.product u.quality ≡ Some u.limit
     → HoldsAt n p (mixed_least_row n u)
 mixed_least_row-holds n p u b product quality is =
-    rw (mixed_least_row-value n p u quality) (omega (arith, additive, b.at_least u.product u.quality u.limit product quality is))
+    omega (
+      arith,
+      additive,
+      mixed_least_row-sum n (product_below (factor n p) n.pools) p (lift n p) (lift_base n p) u quality,
+      pools-bring n p u.product u.quality,
+      b.at_least u.product u.quality u.limit product quality is,
+    )
 
 -- ---- the balance of a quality
 
@@ -124,23 +73,11 @@ mix-out n p l k lim c lt = elim (same_or_other (outflow n p l) 0) [
 
 pub mixing_row-holds : (n : Net) (p : Plan) (l k : ℕ) → IsLimited n → Carries n p → l < n.pools → k < n.qualities → HoldsAt n p (mixing_row n l k)
 mixing_row-holds n p l k lim c lt lk =
-    let m = pos (product_below (factor n p) n.pools) in
-    let v = lift n p in
-    let quality = λ (e : ℕ). n.source_quality (n.feed_source e) k in
     omega (
       arith,
       linear,
-      no_sum v.y n.outs,
-      no_sum v.z n.directs,
-      no_sum v.w (path_count n),
-      no_sum v.proportion n.feeds,
-      no_sums v.quality n.pools n.qualities,
-      key_sum n.feed_pool l quality v.x n.feeds,
-      int_sum_at-same n.feed_pool l (λ e. quality e *ℤ v.x e) (λ e. m *ℤ (quality e *ℤ pos (p.feed e))) n.feeds (λ e le is. mul_left_comm_ℤ (quality e) m (pos (p.feed e))),
-      int_sum_at-mul n.feed_pool l m (λ e. quality e *ℤ pos (p.feed e)) n.feeds,
-      one_sums k (λ o. when (n.out_pool o) l (neg_ℤ (pos 1))) v.mixed n.outs n.qualities lk,
-      same_at n.out_pool l (neg_ℤ (pos 1)) (λ o. v.mixed o k) n.outs,
-      int_sum_at-same n.out_pool l (λ o. v.mixed o k) (λ o. (others n p l *ℤ mix n p l k) *ℤ pos (p.out o)) n.outs
+      mixing_row-sum n (product_below (factor n p) n.pools) p (lift n p) (lift_base n p) l k lk,
+      int_sum_at-same n.out_pool l (λ o. (lift n p).mixed o k) (λ o. (others n p l *ℤ mix n p l k) *ℤ pos (p.out o)) n.outs
           (λ o lo is. ap (λ i. others n p i *ℤ (mix n p i k *ℤ pos (p.out o))) is ∙ sym (mul_assoc_ℤ (others n p l) (mix n p l k) (pos (p.out o)))),
       int_sum_at-mul n.out_pool l (others n p l *ℤ mix n p l k) (λ o. pos (p.out o)) n.outs,
       ap (λ z. (others n p l *ℤ mix n p l k) *ℤ z) (pos-sum_at n.out_pool l p.out n.outs),

@@ -1,60 +1,44 @@
 -- The rows of Q hold at the point of each plan that obeys.
-use Rattle.std.proofs.Common.{◌≡◌, ℕ, ◌*◌, ◌<◌, ◌≤◌, max, ◌⊎◌, inl, inr, Some, ℤ, pos, neg_ℤ, ◌-ℤ◌, ◌*ℤ◌, arith, refl, ap, ◌∙◌}
-use Rattle.integers.specs.Sums.{product_below, product_but, int_sum_below, int_sum_at, sum_at}
-use Rattle.integers.proofs.Ring.{additive, linear, sorted, neg-mul}
+use Rattle.std.proofs.Common.{◌≡◌, ℕ, ◌*◌, ◌<◌, ◌≤◌, max, ◌⊎◌, inl, inr, Some, ℤ, pos, ◌*ℤ◌, arith, refl, ap, ◌∙◌}
+use Rattle.integers.specs.Sums.{product_below, product_but, int_sum_at}
+use Rattle.integers.proofs.Ring.{additive, linear, sorted}
 use Rattle.integers.proofs.AtKey.{int_sum_at-same, int_sum_at-mul, pos-sum_at, product_but_is}
 use Rattle.pool_model.specs.Network.{Net, IsLimited}
-use Rattle.pool_model.specs.Plan.{Plan, Carries, Blends, outflow, pool_inflow, factor, mix, treated, quality_inflow, quality_room}
-use Rattle.pool_model.specs.Starting.{straight, way_quality}
+use Rattle.pool_model.specs.Plan.{Plan, Carries, Blends, outflow, pool_inflow, factor, mix, treated}
 use Rattle.row_model.specs.Boxes.{Box, LiesIn, grain, share, place, prop}
 use Rattle.row_model.specs.Envelopes.{side}
 use Rattle.row_model.specs.Variables.{path_count, path_feed, path_out}
 use Rattle.pool_model.specs.Limits.{Limit}
-use Rattle.row_model.specs.Catalogue.{when, limit_parts, path_quality, proportions_row, feed_row, path_most_row, path_least_row, proportion_ends, proportion_envelope_row}
-use Rattle.row_model.specs.Lift.{lift, lift_base, others, value_at, HoldsAt}
-use Rattle.row_model.proofs.RowSums.{no_sum, no_sums, key_sum, one_sum, scaled_at, same_at, opposite_at, room_at, excess_at, room_of_both}
-use Rattle.row_model.proofs.Brought.{directs-bring}
+use Rattle.row_model.specs.Catalogue.{proportions_row, feed_row, path_most_row, path_least_row, proportion_ends, proportion_envelope_row}
+use Rattle.row_model.specs.Lift.{lift, lift_base, others, HoldsAt}
+use Rattle.row_model.proofs.RowSums.{no_sum, no_sums, one_sum}
+use Rattle.row_model.proofs.FormRows.{along_paths, proportions_row-sum, feed_row-sum, path_most_row-sum, path_least_row-sum}
 use Rattle.row_model.proofs.PathSums.{HasFeedPools, path_feed-below, path_out-below, path-joined, paths_at_feed, paths_at_out, paths_at_key}
 use Rattle.row_model.proofs.Shares.{feed-le, share-sum, share-out}
 use Rattle.row_model.proofs.Numbering.{lies-prop, lies-flow}
 use Rattle.row_model.proofs.EnvelopeLaw.{lifted_side-holds}
 
 -- ---- proportions
--- the proportions of a pool's feeds, with a coefficient of 1 each
-proportions-sum : (n : Net) (p : Plan) (l : ℕ) → IsLimited n → Carries n p → l < n.pools
-    → int_sum_below (λ e. when (n.feed_pool e) l (pos 1) *ℤ (lift n p).proportion e) n.feeds ≡ pos (grain * lift_base n p)
+-- the proportions of a pool's feeds sum to 1
+proportions-sum : (n : Net) (p : Plan) (l : ℕ) → IsLimited n → Carries n p → l < n.pools → int_sum_at n.feed_pool l (lift n p).proportion n.feeds ≡ pos (grain * lift_base n p)
 proportions-sum n p l lim c lt =
-    let v = lift n p in
     let b = product_but l (factor n p) n.pools in
     let m = grain * (p.base * b) in
-    same_at n.feed_pool l (pos 1) v.proportion n.feeds
-    ∙ ap (λ z. pos 1 *ℤ z) (int_sum_at-same n.feed_pool l v.proportion (λ e. pos m *ℤ pos (share n p e)) n.feeds
+    int_sum_at-same n.feed_pool l (lift n p).proportion (λ e. pos m *ℤ pos (share n p e)) n.feeds
     (λ e le is. ap (λ i. pos p.base *ℤ others n p i *ℤ (pos grain *ℤ pos (share n p e))) is ∙ ap pos (grouped p.base b grain (share n p e)))
     ∙ int_sum_at-mul n.feed_pool l (pos m) (λ e. pos (share n p e)) n.feeds
-    ∙ ap (λ z. pos m *ℤ z) (pos-sum_at n.feed_pool l (share n p) n.feeds ∙ ap pos (share-sum n p l lim c lt)))
+    ∙ ap (λ z. pos m *ℤ z) (pos-sum_at n.feed_pool l (share n p) n.feeds ∙ ap pos (share-sum n p l lim c lt))
     ∙ ap pos (whole p.base b grain (factor n p l) (product_below (factor n p) n.pools) (product_but_is l (factor n p) n.pools lt))
   where
     grouped : (d b g s : ℕ) → d * b * (g * s) ≡ g * (d * b) * s
     grouped d b g s = omega arith
 
-    whole : (d b g f m : ℕ) → b * f ≡ m → 1 * (g * (d * b) * f) ≡ g * (d * m)
+    whole : (d b g f m : ℕ) → b * f ≡ m → g * (d * b) * f ≡ g * (d * m)
     whole d b g f m e = omega (arith, ap (λ z. g * (d * z)) e)
 
 pub proportions_row-holds : (n : Net) (p : Plan) (l : ℕ) → IsLimited n → Carries n p → l < n.pools → HoldsAt n p (proportions_row n l)
 proportions_row-holds n p l lim c lt =
-    let v = lift n p in
-    omega (
-      arith,
-      additive,
-      no_sum v.x n.feeds,
-      no_sum v.y n.outs,
-      no_sum v.z n.directs,
-      no_sum v.w (path_count n),
-      no_sums v.quality n.pools n.qualities,
-      no_sums v.mixed n.outs n.qualities,
-      proportions-sum n p l lim c lt,
-      neg-mul (pos grain) (pos (lift_base n p)),
-    )
+    omega (arith, additive, proportions_row-sum n (product_below (factor n p) n.pools) p (lift n p) (lift_base n p) l, proportions-sum n p l lim c lt)
 
 -- ---- flows along paths
 
@@ -100,28 +84,22 @@ paths_to_out n p o h lt =
 
 pub feed_row-holds : (n : Net) (p : Plan) (e : ℕ) → IsLimited n → Carries n p → e < n.feeds → HoldsAt n p (feed_row n e)
 feed_row-holds n p e lim c lt =
-    let v = lift n p in
     let l = n.feed_pool e in
     let b = product_but l (factor n p) n.pools in
+    let m = product_below (factor n p) n.pools in
     omega (
       arith,
       linear,
-      no_sum v.y n.outs,
-      no_sum v.z n.directs,
-      no_sum v.proportion n.feeds,
-      no_sums v.quality n.pools n.qualities,
-      no_sums v.mixed n.outs n.qualities,
-      one_sum e (pos 1) v.x n.feeds lt,
-      same_at (path_feed n) e (neg_ℤ (pos 1)) v.w (path_count n),
+      feed_row-sum n m p (lift n p) (lift_base n p) e lt,
       paths_from_feed n p e record { each = lim.feed_pools } lt,
-      others-flow b (outflow n p l) (product_below (factor n p) n.pools) (p.feed e) (product_but_is l (factor n p) n.pools (lim.feed_pools e lt)) (feed-le n p e lim c lt),
+      others-flow b (outflow n p l) m (p.feed e) (product_but_is l (factor n p) n.pools (lim.feed_pools e lt)) (feed-le n p e lim c lt),
     )
 
 -- ---- limits
 
 -- the quality that flows along paths to a product is what reaches it through the pools
 pub path_quality-sum : (n : Net) (p : Plan) (j k : ℕ) → HasFeedPools n
-    → int_sum_at (λ q. n.out_product (path_out n q)) j (λ q. path_quality n q k *ℤ (lift n p).w q) (path_count n)
+    → along_paths n (lift n p) j k
     ≡ int_sum_at n.out_product j (λ o. others n p (n.out_pool o) *ℤ treated n p (n.out_pool o) k *ℤ pos (p.out o)) n.outs
 path_quality-sum n p j k h =
     let quality = λ (e : ℕ). n.source_quality (n.feed_source e) k in
@@ -141,58 +119,27 @@ path_quality-sum n p j k h =
     last : (r b y m : ℤ) → (r *ℤ b *ℤ y) *ℤ m ≡ b *ℤ (r *ℤ m) *ℤ y
     last r b y m = simp sorted refl
 
-path_most_row-value : (n : Net) (p : Plan) (u : Limit) → HasFeedPools n
-    → value_at n p (path_most_row n u) ≡ quality_room n p u.product u.limit -ℤ quality_inflow n p u.product u.quality
-path_most_row-value n p u h =
-    let m = pos (product_below (factor n p) n.pools) in
-    let v = lift n p in
-    let limit = limit_parts n u in
-    omega (
-      arith,
-      additive,
-      no_sum v.x n.feeds,
-      no_sum v.proportion n.feeds,
-      no_sums v.quality n.pools n.qualities,
-      no_sums v.mixed n.outs n.qualities,
-      scaled_at n.out_product u.product limit m p.out n.outs,
-      room_at n.direct_product u.product limit m (λ e. way_quality n (straight e) u.quality) p.direct n.directs,
-      ap (λ z. m *ℤ z) (directs-bring n p u.product u.quality),
-      opposite_at (λ q. n.out_product (path_out n q)) u.product (λ q. path_quality n q u.quality) v.w (path_count n),
-      path_quality-sum n p u.product u.quality h,
-      room_of_both m limit (pos (sum_at n.out_product u.product p.out n.outs)) (pos (sum_at n.direct_product u.product p.direct n.directs)),
-    )
-
 pub path_most_row-holds : (n : Net) (p : Plan) (u : Limit) → IsLimited n → Blends n p → u.product < n.products → u.quality < n.qualities → n.most u.product u.quality ≡ Some u.limit
     → HoldsAt n p (path_most_row n u)
 path_most_row-holds n p u lim b product quality is =
-    rw (path_most_row-value n p u record { each = lim.feed_pools }) (omega (arith, additive, b.at_most u.product u.quality u.limit product quality is))
-
-path_least_row-value : (n : Net) (p : Plan) (u : Limit) → HasFeedPools n
-    → value_at n p (path_least_row n u) ≡ quality_inflow n p u.product u.quality -ℤ quality_room n p u.product u.limit
-path_least_row-value n p u h =
-    let m = pos (product_below (factor n p) n.pools) in
-    let v = lift n p in
-    let limit = limit_parts n u in
     omega (
       arith,
       additive,
-      no_sum v.x n.feeds,
-      no_sum v.proportion n.feeds,
-      no_sums v.quality n.pools n.qualities,
-      no_sums v.mixed n.outs n.qualities,
-      scaled_at n.out_product u.product (neg_ℤ limit) m p.out n.outs,
-      neg-mul limit (m *ℤ pos (sum_at n.out_product u.product p.out n.outs)),
-      excess_at n.direct_product u.product limit m (λ e. way_quality n (straight e) u.quality) p.direct n.directs,
-      ap (λ z. m *ℤ z) (directs-bring n p u.product u.quality),
-      key_sum (λ q. n.out_product (path_out n q)) u.product (λ q. path_quality n q u.quality) v.w (path_count n),
-      path_quality-sum n p u.product u.quality h,
-      room_of_both m limit (pos (sum_at n.out_product u.product p.out n.outs)) (pos (sum_at n.direct_product u.product p.direct n.directs)),
+      path_most_row-sum n (product_below (factor n p) n.pools) p (lift n p) (lift_base n p) u,
+      path_quality-sum n p u.product u.quality record { each = lim.feed_pools },
+      b.at_most u.product u.quality u.limit product quality is,
     )
 
 pub path_least_row-holds : (n : Net) (p : Plan) (u : Limit) → IsLimited n → Blends n p → u.product < n.products → u.quality < n.qualities → n.least u.product u.quality ≡ Some u.limit
     → HoldsAt n p (path_least_row n u)
 path_least_row-holds n p u lim b product quality is =
-    rw (path_least_row-value n p u record { each = lim.feed_pools }) (omega (arith, additive, b.at_least u.product u.quality u.limit product quality is))
+    omega (
+      arith,
+      additive,
+      path_least_row-sum n (product_below (factor n p) n.pools) p (lift n p) (lift_base n p) u,
+      path_quality-sum n p u.product u.quality record { each = lim.feed_pools },
+      b.at_least u.product u.quality u.limit product quality is,
+    )
 
 -- ---- envelopes
 pub proportion_envelope_row-holds : (n : Net) (b : Box) (p : Plan) (q number : ℕ) → IsLimited n → LiesIn n p b → q < path_count n

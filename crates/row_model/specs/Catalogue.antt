@@ -1,6 +1,6 @@
 -- The catalogue: every row of the programs P (Haverly 1978), Q (Ben-Tal et al. 1994) and PQ (Tawarmalani and Sahinidis
 -- 2002), numbered by family.
-use Rattle.std.specs.Prelude.{ℕ, ◌+◌, ◌-◌, ◌*◌, ◌/◌, ◌%◌, nat_lt, List, [], ◌∷◌, ◌++◌, length, get_or, ◌==◌, if◌then◌else◌, ℤ, pos, neg_ℤ, ◌-ℤ◌, ◌*ℤ◌}
+use Rattle.std.specs.Prelude.{ℕ, ◌+◌, ◌-◌, ◌*◌, ◌/◌, ◌%◌, ◌<◌, nat_lt, List, [], ◌∷◌, ◌++◌, length, get_or, ◌==◌, if◌then◌else◌, ℤ, pos, neg_ℤ, ◌-ℤ◌, ◌*ℤ◌}
 use Rattle.pool_model.specs.Network.{Net}
 use Rattle.pool_model.specs.Limits.{Limit, most_limits, least_limits, no_limit}
 use Rattle.pool_model.specs.Starting.{through, straight, way_quality}
@@ -276,6 +276,11 @@ no_row = record { kind = at_least; coefs = none; constant = pos 0 }
 abbrev pub row_in : List Family → ℕ → Row
 row_in [] i = no_row
 row_in (f ∷ fs) i = if nat_lt i f.count then f.row i else row_in fs (i - f.count)
+
+-- what holds of each row of each family
+abbrev pub HoldsOfEach : (Row → Type 0) → List Family → Type 0
+HoldsOfEach P [] = Unit {0}
+HoldsOfEach P (f ∷ fs) = ((i : ℕ) → i < f.count → P (f.row i)) × HoldsOfEach P fs
 
 -- how many rows the catalogue has: in every box as many
 abbrev pub rows : Net → ℕ

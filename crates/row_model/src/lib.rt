@@ -4,7 +4,7 @@
 //! - `specs/Variables.antt`: the variables of the programs, their ends in a box and their costs.
 //! - `specs/Envelopes.antt`: the envelope of a product (McCormick 1976).
 //! - `specs/Catalogue.antt`: every row of the programs P, Q and PQ, numbered by family.
-//! - `specs/Lift.antt`: the point of a plan, and when a row holds there.
+//! - `specs/Lift.antt`: a row's value at numbers over a base, and when it holds there; the point of a plan.
 //! - `specs/Multipliers.antt`: multipliers on rows, their number and weight, and what they show of a box.
 //! - `specs/Trees.antt`: trees of boxes, when they are in order, and their bound.
 //! - `specs/Entries.antt`: what a search records, and the tree that it makes.
@@ -15,10 +15,11 @@
 //! multipliers show of a box is so. `tree_law` is what follows of a tree: its bound holds.
 //!
 //! Proofs above may cite the lemmas behind them, in `proofs/`: `RootBox` and `Halves`; `Numbering` and `PathSums` (coordinates,
-//! variables and paths by number); `Agreement` (what a proof shows rests on the ends of its box alone) and `Duality`; `TreeLaw`,
-//! `TreeBound` and `EntryLaw`. Beside them: `PRows` and `QRows` (the rows of P and of Q hold at the point of each plan that obeys),
-//! `RowSums` (sums of coefficients times variables, where most coefficients are 0), `Brought` (what reaches a product of a quality, in
-//! parts of the scale) and `Shares` (a feed's share of its pool).
+//! variables and paths by number); `Families` (rows in lists of families); `NetworkRows` and `FormRows` (the values of rows over flows
+//! times a second base, beside other numbers); `Agreement` (what a proof shows rests on the ends of its box alone) and `Duality`;
+//! `TreeLaw`, `TreeBound`, `Lowest` (a tree's bound is at least the reach bound) and `EntryLaw`. Beside them: `PRows` and `QRows` (the
+//! rows of P and of Q hold at the point of each plan that obeys), `RowSums` (sums of coefficients times variables, where most
+//! coefficients are 0), `Brought` (what reaches a product of a quality, in parts of the scale) and `Shares` (a feed's share of its pool).
 #![tactic(auto)]
 
 mod laws;

@@ -59,7 +59,7 @@ pub record IsHalving (n : Net) (o : Options) (b : Box) (least : ℤ) (split : Sp
 pub record IsLeastSplit (n : Net) (o : Options) (s : Searched) (post : Bor View → ℕ → Type 0) (split : Split) (left right : Option Proof) : Type 0 where
   pub leaf : IsLeastLeaf n s.tree split.leaf
   pub view : View
-  pub seen : IsViewOf n o.form (box_of n s.tree.splits split.leaf) split.leaf view
+  pub seen : IsViewOf n o.form s.tree.splits (box_of n s.tree.splits split.leaf) split.leaf view
   pub picked : IsPick post view split
   pub least : ℤ
   pub bounded : tree_bound n s.tree ≡ Some least

@@ -43,12 +43,12 @@ use Rattle.pool_model.specs.Network.{Net}
 use Rattle.std.proofs.lemmas.Bool.{cases_lt}
 use Rattle.row_model.specs.Boxes.{Box, root, coords}
 use Rattle.row_model.specs.Trees.{Split as Cut}
-use Rattle.box_tree.specs.Counts.{cuts_on, AreCounts}
+use Rattle.box_tree.specs.Counts.{cuts_on}
 use Rattle.box_space.specs.declared.coordinates.Form.{Form}
 use Rattle.box_space.specs.declared.coordinates.Split.{Split}
 use Rattle.branching.specs.Rows.{View, row_at, no_row, width_of, IsOpenAt}
 use Rattle.branching.specs.Rules.{Answers, IsPick}
-use Rattle.branching.specs.Known.{IsFirstOpen, IsFirstGreatest, IsMoreCut, IsNarrower}
+use Rattle.branching.specs.Known.{IsFirstOpen, IsFirstGreatest, IsMoreCut, IsNarrower, IsPickedBy}
 use Rattle.branching.specs.declared.view.CoordRow.{CoordRow}
 use Rattle.dual_rounding.proofs.FormRows.{passes_more, fails_more, All-numbers}
 use Rattle.branching.specs.declared.name.RuleName.{RuleName}
@@ -56,7 +56,7 @@ use Rattle.branching.specs.declared.name.RuleName.TheVariants.{First, Widest, Vi
 use Rattle.leaf_cuts.specs.Views.{form_coords, IsRowOf, AreRowsOf, IsViewOf}
 use Rattle.search_core.specs.Cases.{IsCuttable}
 use Rattle.leaf_cuts.proofs.FormCoords.{cuts_at, row-of}
-use Rattle.search_run.specs.Orders.{IsPickedBy, picked}
+use Rattle.search_run.specs.Orders.{picked}
 use Rattle.search_run.specs.Steps.{width, IsNarrowerAt, IsWidest, IsFewest, IsChosen}
 
 -- ---- the coordinates of a view's rows rise
@@ -79,7 +79,7 @@ rising-numbers p (suc n) =
       | inr f ↦ subst IsRising (sym (fails_more p n f)) (rising-numbers p n)
     ])
 
-module _ (n : Net) (form : Form) (b : Box) (rows : List CoordRow) (are : AreRowsOf n form b rows) where
+module _ (n : Net) (form : Form) (splits : List Cut) (b : Box) (rows : List CoordRow) (are : AreRowsOf n form splits b rows) where
   coord-at : (i : ℕ) → i < length rows → get_or (form_coords n form) i 0 ≡ (row_at rows i).coord
   coord-at i h = ap (λ (xs : List ℕ). get_or xs i 0) (sym are.coords) ∙ get_or-map (λ (r : CoordRow). r.coord) rows i no_row 0 h
 
@@ -91,13 +91,13 @@ module _ (n : Net) (form : Form) (b : Box) (rows : List CoordRow) (are : AreRows
       let less = rising-numbers (cuts_at n form) (coords n) i j h (omega (arith, long, k)) in
       omega (arith, less, coord-at i (omega arith), coord-at j k)
 
-  ends-at : (i : ℕ) → i < length rows → IsRowOf n b (row_at rows i)
-  ends-at i h = All-get_or (IsRowOf n b) rows i no_row h are.ends
+  ends-at : (i : ℕ) → i < length rows → IsRowOf n splits b (row_at rows i)
+  ends-at i h = All-get_or (IsRowOf n splits b) rows i no_row h are.ends
 
   -- the open row of a coordinate at which the box can be cut
   row-open : (d : ℕ) → IsCuttable n form b d → (j : ℕ) × IsOpenAt rows j × ((row_at rows j).coord ≡ d)
   row-open d cuttable =
-      let (j, there, is) = row-of n form b rows d are record { known = cuttable.known; of_form = cuttable.of_form } in
+      let (j, there, is) = row-of n form splits b rows d are record { known = cuttable.known; of_form = cuttable.of_form } in
       let ends = ends-at j there in
       let wide : (b.low (row_at rows j).coord +ℤ pos 2) ≤ℤ b.high (row_at rows j).coord = subst (λ (c : ℕ). (b.low c +ℤ pos 2) ≤ℤ b.high c) (sym is) cuttable.wide in (
         j,
@@ -178,40 +178,32 @@ module _ (n : Net) (form : Form) (b : Box) (rows : List CoordRow) (are : AreRows
 
   -- ---- the one with the fewest splits
 
-  known-at : (i : ℕ) → i < length rows → (row_at rows i).coord < coords n
-  known-at i h =
-      subst (λ (c : ℕ). c < coords n) (coord-at i h)
-      (All-get_or (λ (c : ℕ). c < coords n) (form_coords n form) i 0 (omega (arith, long, h)) (All-numbers (cuts_at n form) (coords n)))
-
-  chosen-fewest : (splits : List Cut) (counts : List ℕ) (i : ℕ) → AreCounts n splits counts → IsFirstGreatest (IsMoreCut counts) rows i → IsFewest n form splits b (row_at rows i).coord
-  chosen-fewest splits counts i are is = record {
+  chosen-fewest : (i : ℕ) → IsFirstGreatest IsMoreCut rows i → IsFewest n form splits b (row_at rows i).coord
+  chosen-fewest i is = record {
     fewest = λ d cuttable.
         let (j, here, at) = row-open d cuttable in
-        elim (cases_lt (get_or counts (row_at rows j).coord 0) (get_or counts (row_at rows i).coord 0)) [
+        elim (cases_lt (row_at rows j).cuts (row_at rows i).cuts) [
           | inl l ↦ absurd (is.greatest j here l)
-          | inr g ↦ omega (arith, g, counted-at i is.is_open.there, counted-at j here.there, ap (λ (c : ℕ). cuts_on splits c) at)
+          | inr g ↦ omega (arith, g, (ends-at i is.is_open.there).cuts, (ends-at j here.there).cuts, ap (λ (c : ℕ). cuts_on splits c) at)
         ];
     first = λ d cuttable lower.
         let (j, here, at) = row-open d cuttable in
         let less = is.first j (sooner i j here.there (omega (arith, at, lower))) here in
-        omega (arith, less, counted-at i is.is_open.there, counted-at j here.there, ap (λ (c : ℕ). cuts_on splits c) at);
+        omega (arith, less, (ends-at i is.is_open.there).cuts, (ends-at j here.there).cuts, ap (λ (c : ℕ). cuts_on splits c) at);
   }
-    where
-      counted-at : (k : ℕ) → k < length rows → get_or counts (row_at rows k).coord 0 ≡ cuts_on splits (row_at rows k).coord
-      counted-at k h = are.is (row_at rows k).coord (known-at k h)
 
 -- ---- the rule of a name
 
 -- what the rule answered holds of the view
-answered-by : (rule : RuleName) (cuts : List ℕ) (v : View) (i : ℕ) → Answers (picked rule cuts) v i → IsPickedBy rule cuts v.rows i
-answered-by rule cuts v i a = subst (λ (w : View). IsPickedBy rule cuts w.rows i) a.shows a.says
+answered-by : (rule : RuleName) (v : View) (i : ℕ) → Answers (picked rule) v i → IsPickedBy rule v.rows i
+answered-by rule v i a = subst (λ (w : View). IsPickedBy rule w.rows i) a.shows a.says
 
-pub pick-chosen : (n : Net) (form : Form) (rule : RuleName) (splits : List Cut) (cuts : List ℕ) (b : Box) (node : ℕ) (v : View) (split : Split) → AreCounts n splits cuts
-    → IsViewOf n form b node v → IsPick (picked rule cuts) v split → IsChosen n form rule splits b split.coord
-pick-chosen n form First splits cuts b node v split counted seen pick = λ d cuttable.
-    subst (λ (c : ℕ). c ≤ d) (sym pick.split_at.coord) (chosen-first n form b v.rows seen.rows pick.place (answered-by First cuts v pick.place pick.answered) d cuttable)
-pick-chosen n form Widest splits cuts b node v split counted seen pick =
-    subst (IsWidest n form b) (sym pick.split_at.coord) (chosen-widest n form b v.rows seen.rows pick.place (answered-by Widest cuts v pick.place pick.answered))
-pick-chosen n form Violated splits cuts b node v split counted seen pick = tt
-pick-chosen n form Fewest splits cuts b node v split counted seen pick =
-    subst (IsFewest n form splits b) (sym pick.split_at.coord) (chosen-fewest n form b v.rows seen.rows splits cuts pick.place counted (answered-by Fewest cuts v pick.place pick.answered))
+pub pick-chosen : (n : Net) (form : Form) (rule : RuleName) (splits : List Cut) (b : Box) (node : ℕ) (v : View) (split : Split)
+    → IsViewOf n form splits b node v → IsPick (picked rule) v split → IsChosen n form rule splits b split.coord
+pick-chosen n form First splits b node v split seen pick = λ d cuttable.
+    subst (λ (c : ℕ). c ≤ d) (sym pick.split_at.coord) (chosen-first n form splits b v.rows seen.rows pick.place (answered-by First v pick.place pick.answered) d cuttable)
+pick-chosen n form Widest splits b node v split seen pick =
+    subst (IsWidest n form b) (sym pick.split_at.coord) (chosen-widest n form splits b v.rows seen.rows pick.place (answered-by Widest v pick.place pick.answered))
+pick-chosen n form Violated splits b node v split seen pick = tt
+pick-chosen n form Fewest splits b node v split seen pick =
+    subst (IsFewest n form splits b) (sym pick.split_at.coord) (chosen-fewest n form splits b v.rows seen.rows pick.place (answered-by Fewest v pick.place pick.answered))

@@ -27,13 +27,13 @@ pub record IsCutLeaf (n : Net) (o : Orders) (s : Searching) (leaf : ℕ) : Type 
   pub few : length (searched s).tree.splits < o.nodes
 
 module _ (n : Net) (o : Orders) (s : Searching) (is : IsSearchOf n s) (asked : s.options ≡ options_of o) where
-  by-options : (tried : Option (List ℤ)) (due : Next) → IsNext n s.options (searched s) s.repaired tried (picked o.rule s.tree.kept.cuts) due
-      → IsNext n (options_of o) (searched s) s.repaired tried (picked o.rule s.tree.kept.cuts) due
-  by-options tried due h = subst (λ (x : Options). IsNext n x (searched s) s.repaired tried (picked o.rule s.tree.kept.cuts) due) asked h
+  by-options : (tried : Option (List ℤ)) (due : Next) → IsNext n s.options (searched s) s.repaired tried (picked o.rule) due
+      → IsNext n (options_of o) (searched s) s.repaired tried (picked o.rule) due
+  by-options tried due h = subst (λ (x : Options). IsNext n x (searched s) s.repaired tried (picked o.rule) due) asked h
 
   -- ---- a split that is due
 
-  cut-leaf : (tried : Option (List ℤ)) (e : Entry) (leaf : ℕ) → IsEntry n (options_of o) (searched s) s.repaired tried (picked o.rule s.tree.kept.cuts) e → split_leaf e ≡ Some leaf
+  cut-leaf : (tried : Option (List ℤ)) (e : Entry) (leaf : ℕ) → IsEntry n (options_of o) (searched s) s.repaired tried (picked o.rule) e → split_leaf e ≡ Some leaf
       → IsCutLeaf n o s leaf
   cut-leaf tried (SplitOf split left right) leaf due e = record {
     rooted = due.0.rooted;
@@ -46,16 +46,16 @@ module _ (n : Net) (o : Orders) (s : Searching) (is : IsSearchOf n s) (asked : s
   cut-leaf tried (Root proof) leaf due e = absurd (none-some leaf e)
   cut-leaf tried (Improve plan) leaf due e = absurd (none-some leaf e)
 
-  pub cut-due : (tried : Option (List ℤ)) (due : Next) (leaf : ℕ) → IsNext n s.options (searched s) s.repaired tried (picked o.rule s.tree.kept.cuts) due → cut_leaf due ≡ Some leaf
+  pub cut-due : (tried : Option (List ℤ)) (due : Next) (leaf : ℕ) → IsNext n s.options (searched s) s.repaired tried (picked o.rule) due → cut_leaf due ≡ Some leaf
       → IsCutLeaf n o s leaf
   cut-due tried (next.Do entry) leaf h e = cut-leaf tried entry leaf (by-options tried (next.Do entry) h) e
   cut-due tried (next.End ended) leaf h e = absurd (none-some leaf e)
 
   -- ---- what comes next for the search
 
-  leaves-less : (tried : Option (List ℤ)) (e : Entry) → IsEntry n s.options (searched s) s.repaired tried (picked o.rule s.tree.kept.cuts) e → IsEntryInOrder n (searched s) (shown_entry e)
+  leaves-less : (tried : Option (List ℤ)) (e : Entry) → IsEntry n s.options (searched s) s.repaired tried (picked o.rule) e → IsEntryInOrder n (searched s) (shown_entry e)
       → LeavesLess n s (shown_entry e)
-  leaves-less tried e due order t now same made flag = nearer n s t is now same (picked o.rule s.tree.kept.cuts) tried e made flag order due
+  leaves-less tried e due order t now same made flag = nearer n s t is now same (picked o.rule) tried e made flag order due
 
   -- it is no split, or one of this leaf
   pub no-cut : (due : Next) (leaf : ℕ) → cut_leaf due ≡ None → cut_leaf due ≡ Some leaf → OwesNone n o (searched s) leaf
@@ -68,14 +68,14 @@ module _ (n : Net) (o : Orders) (s : Searching) (is : IsSearchOf n s) (asked : s
       same a b e = cc
 
   -- it stands where no squeeze is owed
-  pub kept-due : (tried : Option (List ℤ)) (due : Next) → IsNext n s.options (searched s) s.repaired tried (picked o.rule s.tree.kept.cuts) due
+  pub kept-due : (tried : Option (List ℤ)) (due : Next) → IsNext n s.options (searched s) s.repaired tried (picked o.rule) due
       → IsDo (λ e. IsEntryInOrder n (searched s) (shown_entry e)) due → ((leaf : ℕ) → cut_leaf due ≡ Some leaf → OwesNone n o (searched s) leaf) → IsChosenNext n o s due
   kept-due tried (next.Do entry) h order owes = (
     order,
-    due-of n o (searched s) s.repaired tried s.tree.kept.cuts entry is.tree.kept.counted owes (by-options tried (next.Do entry) h),
+    due-of n o (searched s) s.repaired tried entry owes (by-options tried (next.Do entry) h),
     leaves-less tried entry h order,
   )
-  kept-due tried (next.End ended) h order owes = next-end n o (searched s) s.options asked s.repaired s.tree.kept.cuts is.tree.kept.counted tried ended h
+  kept-due tried (next.End ended) h order owes = next-end n o (searched s) s.options asked s.repaired tried ended h
 
   -- ---- a squeeze in place of a cut
 

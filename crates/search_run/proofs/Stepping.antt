@@ -10,7 +10,6 @@ use Rattle.row_model.specs.Entries.{Searched, IsEntryInOrder, after, made_from}
 use Rattle.box_space.specs.Views.{shown_proof, shown_split}
 use Rattle.box_space.specs.declared.coordinates.Form.{Form}
 use Rattle.box_space.specs.declared.coordinates.Split.{Split}
-use Rattle.box_tree.specs.Counts.{AreCounts}
 use Rattle.box_tree.specs.Views.{shown_entry}
 use Rattle.box_tree.specs.declared.entry.Entry.{Entry}
 use Rattle.box_tree.specs.declared.entry.Entry.TheVariants.{Root, SplitOf, Improve}
@@ -47,15 +46,15 @@ half-of n form b o least proof e given = record {
   priced = subst (λ (z : Option ℤ). IsPriced n b (raised z (option_map (shown_by n b) proof))) (sym e) (priced-raised n b least proof given.price);
 }
 
-cut-of : (n : Net) (o : Orders) (s : Searched) (cuts : List ℕ) (split : Split) (left right : Option Proof) → AreCounts n s.tree.splits cuts
-    → length s.tree.splits < o.nodes → IsLeastSplit n (options_of o) s (picked o.rule cuts) split left right → IsCut n o s (shown_split split) left right
-cut-of n o s cuts split left right counted few is =
+cut-of : (n : Net) (o : Orders) (s : Searched) (split : Split) (left right : Option Proof) → length s.tree.splits < o.nodes
+    → IsLeastSplit n (options_of o) s (picked o.rule) split left right → IsCut n o s (shown_split split) left right
+cut-of n o s split left right few is =
     let b = box_of n s.tree.splits split.leaf in
     record {
       few = few;
       leaf = is.leaf;
       cuttable = is.halving.cuttable;
-      chosen = pick-chosen n o.form o.rule s.tree.splits cuts b split.leaf is.view split counted is.seen is.picked;
+      chosen = pick-chosen n o.form o.rule s.tree.splits b split.leaf is.view split is.seen is.picked;
       middle = is.halving.middle;
       left_half = half-of n o.form (left_of b split.coord split.cut) (tree_bound n s.tree) is.least left is.bounded is.halving.left_given;
       right_half = half-of n o.form (right_of b split.coord split.cut) (tree_bound n s.tree) is.least right is.bounded is.halving.right_given;
@@ -69,13 +68,13 @@ repair-gain n s None w is = absurd is
 repair-gain n s (Some point) w is = is.gain
 
 -- a cut is due where no squeeze is owed
-pub due-of : (n : Net) (o : Orders) (s : Searched) (repaired : Bool) (tried : Option (List ℤ)) (cuts : List ℕ) (e : Entry) → AreCounts n s.tree.splits cuts
-    → ((leaf : ℕ) → split_leaf e ≡ Some leaf → OwesNone n o s leaf) → IsEntry n (options_of o) s repaired tried (picked o.rule cuts) e → IsDue n o s (shown_entry e)
-due-of n o s repaired tried cuts (Improve plan) counted owes (inl start) = inl start
-due-of n o s repaired tried cuts (Improve plan) counted owes (inr repair) = inr (repair.rooted, repair-gain n s tried (shown_plan plan) repair.repair)
-due-of n o s repaired tried cuts (Root proof) counted owes is = is
-due-of n o s repaired tried cuts (SplitOf split left right) counted owes is =
-    (is.0.rooted, inl (cut-of n o s cuts split (option_map shown_proof left) (option_map shown_proof right) counted is.1 is.2, owes split.leaf refl))
+pub due-of : (n : Net) (o : Orders) (s : Searched) (repaired : Bool) (tried : Option (List ℤ)) (e : Entry)
+    → ((leaf : ℕ) → split_leaf e ≡ Some leaf → OwesNone n o s leaf) → IsEntry n (options_of o) s repaired tried (picked o.rule) e → IsDue n o s (shown_entry e)
+due-of n o s repaired tried (Improve plan) owes (inl start) = inl start
+due-of n o s repaired tried (Improve plan) owes (inr repair) = inr (repair.rooted, repair-gain n s tried (shown_plan plan) repair.repair)
+due-of n o s repaired tried (Root proof) owes is = is
+due-of n o s repaired tried (SplitOf split left right) owes is =
+    (is.0.rooted, inl (cut-of n o s split (option_map shown_proof left) (option_map shown_proof right) is.1 is.2, owes split.leaf refl))
 
 -- ---- one step more
 
@@ -105,7 +104,7 @@ way-more n o begun s t way next = record {
 
 -- ---- what comes next, under the options of the orders, whatever point was tried
 
-module _ (n : Net) (o : Orders) (s : Searched) (options : Options) (asked : options ≡ options_of o) (repaired : Bool) (cuts : List ℕ) (counted : AreCounts n s.tree.splits cuts) where
+module _ (n : Net) (o : Orders) (s : Searched) (options : Options) (asked : options ≡ options_of o) (repaired : Bool) where
   pub next-end : (tried : Option (List ℤ)) (e : Ended) → IsEnded n options s repaired tried e → IsEnd n o s e
   next-end tried e is = ended-end e (subst (λ (x : Options). IsEnded n x s repaired tried e) asked is)
     where
@@ -118,8 +117,8 @@ module _ (n : Net) (o : Orders) (s : Searched) (options : Options) (asked : opti
 
 -- ---- a closure that keeps to the rule
 
-pub pick-weaker : (rule : RuleName) (cuts : List ℕ) (post : Bor View → ℕ → Type 0) (v : View) (split : Split) → Keeps rule cuts post → IsPick post v split → IsPick (picked rule cuts) v split
-pick-weaker rule cuts post v split is pick =
+pub pick-weaker : (rule : RuleName) (post : Bor View → ℕ → Type 0) (v : View) (split : Split) → Keeps rule post → IsPick post v split → IsPick (picked rule) v split
+pick-weaker rule post v split is pick =
     let a = pick.answered in
     record {
       place = pick.place;
@@ -128,11 +127,11 @@ pick-weaker rule cuts post v split is pick =
       split_at = pick.split_at;
     }
 
-entry-weaker : (n : Net) (o : Options) (s : Searched) (repaired : Bool) (tried : Option (List ℤ)) (rule : RuleName) (cuts : List ℕ) (post : Bor View → ℕ → Type 0) (e : Entry) → Keeps rule cuts post
-    → IsEntry n o s repaired tried post e → IsEntry n o s repaired tried (picked rule cuts) e
-entry-weaker n o s repaired tried rule cuts post (Improve plan) keeps is = is
-entry-weaker n o s repaired tried rule cuts post (Root proof) keeps is = is
-entry-weaker n o s repaired tried rule cuts post (SplitOf split left right) keeps is =
+entry-weaker : (n : Net) (o : Options) (s : Searched) (repaired : Bool) (tried : Option (List ℤ)) (rule : RuleName) (post : Bor View → ℕ → Type 0) (e : Entry) → Keeps rule post
+    → IsEntry n o s repaired tried post e → IsEntry n o s repaired tried (picked rule) e
+entry-weaker n o s repaired tried rule post (Improve plan) keeps is = is
+entry-weaker n o s repaired tried rule post (Root proof) keeps is = is
+entry-weaker n o s repaired tried rule post (SplitOf split left right) keeps is =
     let l = is.2 in (
       is.0,
       is.1,
@@ -140,19 +139,19 @@ entry-weaker n o s repaired tried rule cuts post (SplitOf split left right) keep
         leaf = l.leaf;
         view = l.view;
         seen = l.seen;
-        picked = pick-weaker rule cuts post l.view split keeps l.picked;
+        picked = pick-weaker rule post l.view split keeps l.picked;
         least = l.least;
         bounded = l.bounded;
         halving = l.halving;
       },
     )
 
-pub next-weaker : (n : Net) (o : Options) (s : Searched) (repaired : Bool) (tried : Option (List ℤ)) (rule : RuleName) (cuts : List ℕ) (post : Bor View → ℕ → Type 0) (answer : Next) → Keeps rule cuts post
-    → IsNext n o s repaired tried post answer → IsNext n o s repaired tried (picked rule cuts) answer
-next-weaker n o s repaired tried rule cuts post (next.Do e) keeps is = entry-weaker n o s repaired tried rule cuts post e keeps is
-next-weaker n o s repaired tried rule cuts post (next.End e) keeps is = is
+pub next-weaker : (n : Net) (o : Options) (s : Searched) (repaired : Bool) (tried : Option (List ℤ)) (rule : RuleName) (post : Bor View → ℕ → Type 0) (answer : Next) → Keeps rule post
+    → IsNext n o s repaired tried post answer → IsNext n o s repaired tried (picked rule) answer
+next-weaker n o s repaired tried rule post (next.Do e) keeps is = entry-weaker n o s repaired tried rule post e keeps is
+next-weaker n o s repaired tried rule post (next.End e) keeps is = is
 
-pub each-weaker : {E : Type 0} (n : Net) (o : Options) (s : Searched) (repaired : Bool) (rule : RuleName) (cuts : List ℕ) (post : Bor View → ℕ → Type 0) (r : Result Answer E) → Keeps rule cuts post
-    → IfOk r (IsAnswer n o s repaired post) → IfOk r (IsAnswer n o s repaired (picked rule cuts))
-each-weaker n o s repaired rule cuts post (Ok answer) keeps h = next-weaker n o s repaired (tried_of answer) rule cuts post answer.due keeps h
-each-weaker n o s repaired rule cuts post (Err e) keeps h = tt
+pub each-weaker : {E : Type 0} (n : Net) (o : Options) (s : Searched) (repaired : Bool) (rule : RuleName) (post : Bor View → ℕ → Type 0) (r : Result Answer E) → Keeps rule post
+    → IfOk r (IsAnswer n o s repaired post) → IfOk r (IsAnswer n o s repaired (picked rule))
+each-weaker n o s repaired rule post (Ok answer) keeps h = next-weaker n o s repaired (tried_of answer) rule post answer.due keeps h
+each-weaker n o s repaired rule post (Err e) keeps h = tt

@@ -51,6 +51,6 @@ fn looks_of(rule: RuleName) -> u32
 {
     match rule {
         RuleName::Violated => LOOKS,
-        RuleName::First | RuleName::Widest | RuleName::Fewest => 0,
+        _ => 0,
     }
 }

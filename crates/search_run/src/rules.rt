@@ -4,20 +4,20 @@ ghost use Rattle.std.specs.Prelude.{IfOk};
 ghost use Rattle.pool_model.specs.Network.{net_of};
 ghost use Rattle.row_model.specs.Entries.{IsEntryInOrder};
 ghost use Rattle.box_tree.specs.Views.{shown_entry};
+ghost use Rattle.branching.specs.Known.{IsPickedBy};
 ghost use Rattle.branching.specs.Rows.{HasOpen};
 ghost use Rattle.search_core.specs.Next.{IsAnswer, IsDo};
 ghost use Rattle.search_core.specs.Searches.{searched, IsSearchOf};
-ghost use Rattle.search_run.specs.Orders.{picked, IsPickedBy, Keeps};
+ghost use Rattle.search_run.specs.Orders.{picked, Keeps};
 
 use blend_network::Network;
-use branching::{CutRule, LeafView, RuleName, fewest, first_open, most_violated, widest};
+use branching::{CutRule, LeafView, RuleName};
 use edge_io::Memory;
 use leaf_cuts::KnownAdvice;
 use search_core::{Answer, Search};
 use std::alloc::Global;
 
-/// What comes next for a search, by the rule of a name. The rule carries how many splits are on each coordinate now, so it is made
-/// for this one step.
+/// What comes next for a search, by the rule of a name.
 pub fn next_by(
     alloc: Global,
     net: &Network,
@@ -26,16 +26,15 @@ pub fn next_by(
     known: &mut Option<KnownAdvice>,
 ) -> Result<Answer, Memory>
     requires { IsSearchOf (net_of net.now) search.now }
-    ensures next { IfOk result (IsAnswer (net_of net.now) search.now.options (searched search.now) search.now.repaired (picked name search.now.tree.kept.cuts)) }
+    ensures next { IfOk result (IsAnswer (net_of net.now) search.now.options (searched search.now) search.now.repaired (picked name)) }
     ensures in_order { IfOk result (λ a. IsDo (λ entry. IsEntryInOrder (net_of net.now) (searched search.now) (shown_entry entry)) a.due) }
 {
-    let cuts = Vec::from_slice(alloc, search.tree().cuts())?;
     let closure = Box::new(
         alloc,
         move |view: &LeafView| -> usize
             requires { HasOpen view.now.rows }
-            ensures { IsPickedBy name cuts.items view.now.rows result }
-        { pick_by(name, cuts.as_slice(), view) },
+            ensures { IsPickedBy name view.now.rows result }
+        { name.pick(view) },
     )?;
     let rule = CutRule::new(closure);
     next_under(alloc, net, name, search, &rule, known)
@@ -51,22 +50,9 @@ fn next_under(
     known: &mut Option<KnownAdvice>,
 ) -> Result<Answer, Memory>
     requires search { IsSearchOf (net_of net.now) search.now }
-    requires rule { Keeps name search.now.tree.kept.cuts (⟦<branching::RuleClosure as Fn(&branching::LeafView) -> usize>⟧.post rule.now.closure) }
-    ensures next { IfOk result (IsAnswer (net_of net.now) search.now.options (searched search.now) search.now.repaired (picked name search.now.tree.kept.cuts)) }
+    requires rule { Keeps name (⟦<branching::RuleClosure as Fn(&branching::LeafView) -> usize>⟧.post rule.now.closure) }
+    ensures next { IfOk result (IsAnswer (net_of net.now) search.now.options (searched search.now) search.now.repaired (picked name)) }
     ensures in_order { IfOk result (λ a. IsDo (λ entry. IsEntryInOrder (net_of net.now) (searched search.now) (shown_entry entry)) a.due) }
 {
     search.next(alloc, net, rule, known)
-}
-
-/// The row that the rule of a name picks, where so many splits are on each coordinate. Rules that are boxed call it.
-fn pick_by(name: RuleName, cuts: &[u32], view: &LeafView) -> usize
-    requires { HasOpen view.now.rows }
-    ensures { IsPickedBy name cuts.now view.now.rows result }
-{
-    match name {
-        RuleName::First => first_open(view),
-        RuleName::Widest => widest(view),
-        RuleName::Violated => most_violated(view),
-        RuleName::Fewest => fewest(view, cuts),
-    }
 }

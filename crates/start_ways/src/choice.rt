@@ -22,7 +22,7 @@ pub fn cheapest(net: &Network) -> Option<Choice>
     ensures size { IfSome result (λ best. unsigned_abs best.cost ≤ 4 * 10 ^ 24) }
     ensures limited { IsLimited (net_of net.now) }
 {
-    let [_, _, _, _, _, _, directs] = net.counts();
+    let directs = net.sizes().directs;
     let starts = 1 + net.paths() + directs;
     let mut best = None;
     for number in 0..starts {

@@ -46,8 +46,8 @@ fn meets_minima(net: &Network, product: u32, flow: u64) -> bool
     ensures meets { IsTrue result ↔ MeetsMinima (net_of net.now) product flow }
     ensures limited { IsLimited (net_of net.now) }
 {
-    let [_, _, products, _, _, _, _] = net.counts();
-    for other in 0..products {
+    let counts = net.sizes();
+    for other in 0..counts.products {
         if taken(product, flow, other) < net.product_min(other).unsigned_abs() {
             return false;
         }

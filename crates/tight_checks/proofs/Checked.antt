@@ -6,9 +6,9 @@ use Rattle.pool_model.specs.Network.{Net, IsLimited}
 use Rattle.row_model.specs.Trees.{Tree}
 use Rattle.tight_texts.specs.Texts.{Marks, AreMarks, marks_text}
 use Rattle.tight_texts.specs.Views.{shown_marks}
-use Rattle.tight_texts.specs.Results.{IsReadAs, IsFaultIn}
-use Rattle.tight_texts.specs.declared.fault.ReadFault.{ReadFault}
-use Rattle.tight_texts.specs.declared.fault.ReadFault.TheVariants as reading
+use Rattle.cert_text.specs.Results.{IsReadAs, IsFaultIn}
+use Rattle.cert_text.specs.declared.fault.ReadFault.{ReadFault}
+use Rattle.cert_text.specs.declared.fault.ReadFault.TheVariants as reading
 use Rattle.tight_texts.specs.declared.marks.TightText.{TightText}
 use Rattle.tight_checks.specs.declared.refusal.TightRefusal.{TightRefusal}
 use Rattle.tight_checks.specs.declared.refusal.TightRefusal.TheVariants.{Text, Leaves, BadMark, WrongBound, Memory}

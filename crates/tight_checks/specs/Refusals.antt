@@ -7,8 +7,8 @@ use Rattle.row_model.specs.Trees.{Tree}
 use Rattle.cert_text.specs.Lines.{IsFaultyLine}
 use Rattle.tight_texts.specs.Texts.{Marks, AreMarks, marks_text}
 use Rattle.tight_texts.specs.Views.{shown_marks}
-use Rattle.tight_texts.specs.declared.fault.ReadFault.{ReadFault}
-use Rattle.tight_texts.specs.declared.fault.ReadFault.TheVariants as reading
+use Rattle.cert_text.specs.declared.fault.ReadFault.{ReadFault}
+use Rattle.cert_text.specs.declared.fault.ReadFault.TheVariants as reading
 use Rattle.tight_texts.specs.declared.marks.LeafMark.{LeafMark}
 use Rattle.tight_texts.specs.declared.marks.TightText.{TightText}
 use Rattle.tight_checks.specs.declared.refusal.TightRefusal.{TightRefusal}

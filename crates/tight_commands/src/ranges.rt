@@ -1,16 +1,16 @@
 //! That marks that are held have a text. There is nothing here but the reading of numbers.
 
-ghost use Rattle.std.specs.Prelude.{◌≡◌, ◌<◌, ◌^◌, All, FitsSigned, length, map, pos};
+ghost use Rattle.std.specs.Prelude.{◌<◌, ◌^◌, All, FitsSigned, length};
 ghost use Rattle.std.specs.Int.{w128};
 ghost use Rattle.std.specs.Option.{ForSome};
 ghost use Rattle.exact_num.specs.Views.{shown_frac};
-ghost use Rattle.box_space.specs.Views.{shown_part, shown_proof};
-ghost use Rattle.cert_writing.specs.Cert.{IsPartInRange};
+ghost use Rattle.box_space.specs.Views.{shown_proof};
 ghost use Rattle.tight_texts.specs.Texts.{AreMarks, AreValues, IsFraction, IsLeafMark, IsMark, IsProof, IsReason};
 ghost use Rattle.tight_texts.specs.Views.{shown_leaf, shown_mark, shown_marks, shown_reason, shown_values};
 ghost use Rattle.tight_commands.specs.Ranges.{HasParts, HasValues, IsReasonWithin, IsWithin, most_rows, most_variables};
 
-use box_space::{Part, Proof};
+use box_space::Proof;
+use cert_writing::ranges::parts;
 use exact_num::Frac;
 use leaf_marks::{Mark, Reason};
 use relaxation_points::RelaxPoint;
@@ -101,21 +101,6 @@ fn proof(proof: &Proof)
 {
     let _scale = proof.scale;
     parts(proof.parts.as_slice());
-}
-
-fn parts(parts: &[Part])
-    ensures { All (λ p. IsPartInRange (shown_part p)) parts.now }
-{
-    for each in parts {
-        part(each);
-    }
-}
-
-fn part(part: &Part)
-    ensures { IsPartInRange (shown_part part.now) }
-{
-    let _row = part.row;
-    let _mult = part.mult;
 }
 
 fn point(point: &RelaxPoint)

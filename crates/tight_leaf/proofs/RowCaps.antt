@@ -12,12 +12,12 @@ use Rattle.pool_model.proofs.Capped.{capped-le}
 use Rattle.pool_model.specs.Network.{Net, IsLimited, IsWithin, capped}
 use Rattle.pool_model.specs.Starting.{straight, way_quality}
 use Rattle.row_model.specs.Boxes.{Box, coords, IsProper, prop_number, qual_number, flow_number}
-use Rattle.row_model.specs.Catalogue.{Family, Row, when, rows, row_at, catalogue, network_families, p_families, q_families, pq_families, quality_ends, proportion_ends, limit_parts, path_quality, mixing_row, mixed_most_row, mixed_least_row, quality_envelope_row, proportions_row, feed_row, path_most_row, path_least_row, proportion_envelope_row}
+use Rattle.row_model.specs.Catalogue.{Family, Row, when, rows, row_at, catalogue, network_families, p_families, q_families, pq_families, quality_ends, proportion_ends, limit_parts, path_quality, mixing_row, mixed_most_row, mixed_least_row, quality_envelope_row, proportions_row, feed_row, path_most_row, path_least_row, proportion_envelope_row, HoldsOfEach}
 use Rattle.row_model.specs.Envelopes.{Ends, Side, side}
 use Rattle.row_model.specs.Variables.{PerVariable, path_count, path_feed, path_out, variables, by_number, lows, highs}
 use Rattle.row_model.proofs.Numbering.{HoldsByKind, by_number-each}
 use Rattle.row_model.proofs.PathSums.{path_feed-below, path_out-below}
-use Rattle.row_book.proofs.Families.{HoldsOfEach, each_row, each-append}
+use Rattle.row_model.proofs.Families.{each_row, each-append}
 use Rattle.row_book.proofs.NearEnds.{AreNear, ends-near}
 
 -- the greatest size of a coefficient of each kind of variable

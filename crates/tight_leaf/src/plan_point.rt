@@ -12,7 +12,7 @@ ghost use Rattle.tight_leaf.specs.PlanPoints.{IsPlanPoint, plan_values, quality_
 use blend_network::{Key, Network};
 use box_space::{Variable, variable_at, vars};
 use plan_core::WrittenPlan;
-use plan_flows::{denominator, direct_flow, feed_flow, out_flow, pool_flow};
+use plan_flows::{direct_flow, feed_flow, out_flow, pool_flow};
 use relaxation_points::RelaxPoint;
 use start_ways::is_first_feed;
 use std::alloc::{AllocError, Global};
@@ -39,7 +39,7 @@ pub(crate) fn plan_point(
         values.push(value_of(net, plan, variable_at(net, var)))?;
     }
     Ok(RelaxPoint {
-        base: denominator(plan),
+        base: plan.denominator(),
         values,
     })
 }

@@ -3,7 +3,6 @@ pub mod MarkLaws
 mod Choices
 mod Fractions
 mod Lowest
-mod Outcomes
 mod Pieces
 mod Taking
 mod Wholes

@@ -12,15 +12,13 @@
 //! `MarkLaws` (each line, and the whole, is read as it is spelled).
 #![tactic(auto)]
 
-mod fault;
 mod kinds;
 mod laws;
-mod lines;
 mod marks;
 mod reading;
 mod writing;
 
-pub use fault::ReadFault;
+pub use cert_text::ReadFault;
 pub use laws::text_law;
 pub use marks::{LeafMark, TightText};
 pub use reading::read_tight;

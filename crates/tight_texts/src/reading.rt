@@ -11,15 +11,16 @@ ghost use Rattle.cert_format.specs.Reading.{part_at};
 ghost use Rattle.tight_texts.specs.Texts.{AreMarks, Marks, marks_text};
 ghost use Rattle.tight_texts.specs.Reading.{bound_at, bound_word_at, carried_at, cause_at, count_ends, form_at, form_word_at, fraction_at, kind_at, leaf_at, leaves_at, marks_at, operation_at, pivots_at, point_at, proof_at, reason_at, told_at, wide_at, num_at, den_at};
 ghost use Rattle.tight_texts.specs.Views.{place_of, shown_leaf, shown_mark, shown_marks, shown_reason, shown_values, shown_wide};
-ghost use Rattle.tight_texts.specs.Results.{Closes, Comes, IsFaultIn, IsLowestOf, IsReadAs, Took, Yields, over};
+ghost use Rattle.cert_text.specs.Results.{Closes, Comes, IsFaultIn, IsReadAs, Yields};
+ghost use Rattle.tight_texts.specs.Results.{IsLowestOf, Took, over};
 
-use crate::fault::{Halt, ReadFault};
 use crate::kinds::{MarkKind, ReasonKind};
 use crate::marks::{LeafMark, TightText};
 use box_space::{Form, Part, Proof};
 use cert_format::reading::part;
 use cert_text::{
-    Ends, SliceSource, Source, Stop, TextFault, i128_then, number, u32_then, u64_then, word,
+    Ends, Halt, ReadFault, SliceSource, Source, Stop, TextFault, i128_then, number, u32_then,
+    u64_then, word,
 };
 use exact_num::Frac;
 use exact_run::{Operation, TooWide};

@@ -1,56 +1,23 @@
-//! Marks, written line by line. A line is handed on as one piece, unless it is too long for it.
+//! Marks, written line by line. Lines are handed on as one piece, or by halves where that is too long.
 
 ghost use Rattle.std.specs.Prelude.{◌≡◌, [], ◌∷◌, ◌++◌, map, OnErr, codes, decimal};
 ghost use Rattle.std.specs.List.{flat_map};
 ghost use Rattle.edge_io.specs.Counts.{Grows, Rose};
 ghost use Rattle.edge_io.specs.Writing.{Wrote};
 ghost use Rattle.exact_num.specs.Views.{shown_frac};
-ghost use Rattle.box_space.specs.Views.{shown_part, shown_proof};
-ghost use Rattle.cert_writing.specs.Text.{field, part_fields};
+ghost use Rattle.box_space.specs.Views.{shown_proof};
+ghost use Rattle.cert_writing.specs.Text.{field};
 ghost use Rattle.tight_texts.specs.Texts.{bound_line, form_line, fraction_fields, head_lines, mark_fields, mark_line, mark_lines, mark_word, marks_text, operation_word, point_fields, proof_fields, reason_fields, wide_fields};
 ghost use Rattle.tight_texts.specs.Views.{shown_leaf, shown_mark, shown_marks, shown_reason, shown_values, shown_wide};
 
-use crate::lines::{write_fields, write_line};
 use crate::marks::{LeafMark, TightText};
-use box_space::{Form, Part, Proof};
+use box_space::{Form, Proof};
+use cert_writing::{Text, write_counted, write_fields, write_line};
 use edge_io::{Sink, WriteFault, write_whole};
 use exact_num::Frac;
 use exact_run::{Operation, TooWide};
 use leaf_marks::{Mark, Reason};
 use relaxation_points::RelaxPoint;
-use text_buffer::TextBuffer;
-
-/// The fields of a part.
-fn write_part<K: Sink>(out: &mut K, part: &Part) -> Result<(), WriteFault>
-    ensures wrote { Wrote result (K.taken out.old) (flat_map field (part_fields (shown_part part.now))) (K.taken out.new) }
-    ensures failed { OnErr result (Rose (K.faults out.old) (K.faults out.new)) }
-    ensures faults_grow { Grows (K.faults out.old) (K.faults out.new) }
-{
-    write_fields(out, &[i64::from(part.row), part.mult])
-}
-
-/// The fields of parts.
-fn write_parts<K: Sink>(out: &mut K, parts: &[Part]) -> Result<(), WriteFault>
-    ensures wrote { Wrote result (K.taken out.old) (flat_map (λ p. flat_map field (part_fields (shown_part p))) parts.now) (K.taken out.new) }
-    ensures failed { OnErr result (Rose (K.faults out.old) (K.faults out.new)) }
-    ensures faults_grow { Grows (K.faults out.old) (K.faults out.new) }
-{
-    for part in parts {
-        write_part(out, part)?;
-    }
-    Ok(())
-}
-
-/// The fields of a proof.
-fn write_proof<K: Sink>(out: &mut K, proof: &Proof) -> Result<(), WriteFault>
-    ensures wrote { Wrote result (K.taken out.old) (flat_map field (proof_fields (shown_proof proof.now))) (K.taken out.new) }
-    ensures failed { OnErr result (Rose (K.faults out.old) (K.faults out.new)) }
-    ensures faults_grow { Grows (K.faults out.old) (K.faults out.new) }
-{
-    let parts = proof.parts.as_slice();
-    write_fields(out, &[proof.scale, parts.len() as u64])?;
-    write_parts(out, parts)
-}
 
 /// The fields of a point.
 fn write_point<K: Sink>(out: &mut K, point: &RelaxPoint) -> Result<(), WriteFault>
@@ -115,7 +82,7 @@ fn write_heavy_proof<K: Sink>(out: &mut K, proof: &Proof) -> Result<(), WriteFau
     ensures faults_grow { Grows (K.faults out.old) (K.faults out.new) }
 {
     write_whole(out, b" 4")?;
-    write_proof(out, proof)
+    proof.put(out)
 }
 
 /// The fields of a point that is too heavy.
@@ -159,7 +126,7 @@ fn write_raised<K: Sink>(out: &mut K, proof: &Proof, point: &RelaxPoint) -> Resu
     ensures failed { OnErr result (Rose (K.faults out.old) (K.faults out.new)) }
     ensures faults_grow { Grows (K.faults out.old) (K.faults out.new) }
 {
-    write_proof(out, proof)?;
+    proof.put(out)?;
     write_point(out, point)
 }
 
@@ -172,7 +139,7 @@ fn write_carried<K: Sink>(out: &mut K, mark: &Mark) -> Result<(), WriteFault>
     match mark {
         Mark::Tight(point) => write_point(out, point),
         Mark::Raised(proof, point) => write_raised(out, proof, point),
-        Mark::Empty(proof) => write_proof(out, proof),
+        Mark::Empty(proof) => proof.put(out),
         Mark::Loose(reason) => write_reason(out, reason),
     }
 }
@@ -189,41 +156,16 @@ fn word_of(mark: &Mark) -> &'static [u8]
     }
 }
 
-/// The line of a mark, piece by piece.
-fn put_mark<K: Sink>(out: &mut K, leaf: &LeafMark) -> Result<(), WriteFault>
-    ensures wrote { Wrote result (K.taken out.old) (mark_line (shown_leaf leaf.now)) (K.taken out.new) }
-    ensures failed { OnErr result (Rose (K.faults out.old) (K.faults out.new)) }
-    ensures faults_grow { Grows (K.faults out.old) (K.faults out.new) }
-{
-    write_whole(out, word_of(&leaf.mark))?;
-    write_fields(out, &[leaf.node])?;
-    write_carried(out, &leaf.mark)?;
-    write_whole(out, b"\n")
-}
+/// The line of a mark.
+impl Text for LeafMark {
+    ghost text = { λ m. mark_line (shown_leaf m) };
 
-/// The line of a mark, handed on as one piece, or piece by piece where it is too long.
-fn write_mark<K: Sink>(out: &mut K, leaf: &LeafMark) -> Result<(), WriteFault>
-    ensures wrote { Wrote result (K.taken out.old) (mark_line (shown_leaf leaf.now)) (K.taken out.new) }
-    ensures failed { OnErr result (Rose (K.faults out.old) (K.faults out.new)) }
-    ensures faults_grow { Grows (K.faults out.old) (K.faults out.new) }
-{
-    let mut text = TextBuffer::new();
-    match put_mark(&mut text, leaf) {
-        Ok(()) => write_whole(out, text.text()),
-        Err(_) => put_mark(out, leaf),
+    fn put<K: Sink>(&self, out: &mut K) -> Result<(), WriteFault> {
+        write_whole(out, word_of(&self.mark))?;
+        write_fields(out, &[self.node])?;
+        write_carried(out, &self.mark)?;
+        write_whole(out, b"\n")
     }
-}
-
-/// The lines of marks.
-fn write_mark_list<K: Sink>(out: &mut K, marks: &[LeafMark]) -> Result<(), WriteFault>
-    ensures wrote { Wrote result (K.taken out.old) (flat_map (λ m. mark_line (shown_leaf m)) marks.now) (K.taken out.new) }
-    ensures failed { OnErr result (Rose (K.faults out.old) (K.faults out.new)) }
-    ensures faults_grow { Grows (K.faults out.old) (K.faults out.new) }
-{
-    for leaf in marks {
-        write_mark(out, leaf)?;
-    }
-    Ok(())
 }
 
 /// The count of the marks, and their lines.
@@ -232,8 +174,7 @@ fn write_mark_lines<K: Sink>(out: &mut K, marks: &[LeafMark]) -> Result<(), Writ
     ensures failed { OnErr result (Rose (K.faults out.old) (K.faults out.new)) }
     ensures faults_grow { Grows (K.faults out.old) (K.faults out.new) }
 {
-    write_line(out, b"leaves", &[marks.len()])?;
-    write_mark_list(out, marks)
+    write_counted(out, b"leaves", marks)
 }
 
 /// The line of the form.

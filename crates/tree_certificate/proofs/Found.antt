@@ -23,7 +23,7 @@ use Rattle.row_model.specs.Entries.{Searched, IsSearched, improve, start}
 use Rattle.box_tree.specs.declared.entry.EntryFault.TheVariants.{BadPlan}
 use Rattle.box_tree.specs.Kept.{Kept, searched_of}
 use Rattle.box_tree.proofs.Refusals.{bad-plan, refused}
-use Rattle.cert_checker.proofs.Lowest.{AtLeast, tree-above}
+use Rattle.row_model.proofs.Lowest.{AtLeast, tree-above}
 use Rattle.row_book.proofs.Rising.{no_more}
 use Rattle.cert_format.specs.Cert.{Cert, NodeProof, ClaimFits, IsShaped}
 use Rattle.cert_format.specs.Valid.{IsShown, IsValid, tree_of}

@@ -36,7 +36,7 @@ fn read_pieces(alloc: Global, text: &[u8], items: &mut String) -> Result<Option<
 
 /// The items of `TREE`.
 const ITEMS: &str = "\
-Kind(0)
+Kind(Gap)
 Shape([2, 1, 1, 1, 2, 1, 0])
 Bases(1, 1)
 Weight(1)

@@ -26,7 +26,8 @@ fn look_at(
     cut: &Tree,
     looks: u32,
 ) -> Result<Looked, Memory>
-    requires { IsOf (net_of net.now) tree.now }
+    requires tree { IsOf (net_of net.now) tree.now }
+    requires cut { IsOf (net_of net.now) cut.now }
 {
     // A look asks for a network within the limits, and its sizes say that it is.
     let _sizes = net.sizes();
@@ -38,7 +39,9 @@ fn look_at(
 }
 
 /// A look at the root by what the cuts of this tree gained.
-fn root_look(alloc: Global, net: &Network, cut: &Tree, looks: u32) -> Result<Looked, Memory> {
+fn root_look(alloc: Global, net: &Network, cut: &Tree, looks: u32) -> Result<Looked, Memory>
+    requires { IsOf (net_of net.now) cut.now }
+{
     let tree = Tree::start(alloc, net)?;
     look_at(alloc, net, &tree, cut, looks)
 }
@@ -90,6 +93,7 @@ fn a_look_solves_halves(rt: HostRuntime) -> Result<(), Fail> {
 /// coordinate 4, without a proof. The second cut gains nothing.
 fn cut_twice(alloc: Global, net: &Network, tree: &mut Tree) -> Result<(), EntryFault>
     requires { IsOf (net_of net.now) tree.old }
+    ensures { IsOf (net_of net.now) tree.new }
 {
     let Some(halving) = first_look(alloc, net, 1)?.halvings.pop() else {
         return Err(EntryFault::Memory);

@@ -9,13 +9,14 @@ use branching::{CoordRow, CutRule, LeafView, fewest, first_open, most_violated, 
 use std::alloc::{AllocError, Global};
 use std::test::Fail;
 
-/// The row of a coordinate that has this width here and in the root box, and is missed by so much.
-fn row(coord: u32, width: u32, root: u32, miss: u64) -> CoordRow
+/// The row of a coordinate with so many splits on it, that has this width here and in the root box, and is missed by so much.
+fn row(coord: u32, cuts: u32, width: u32, root: u32, miss: u64) -> CoordRow
     ensures row { IsRow result }
     ensures coord { result.coord ≡ coord }
 {
     CoordRow {
         coord,
+        cuts,
         low: 0,
         high: width.into(),
         root_width: i64::from(root.max(width)),
@@ -26,12 +27,13 @@ fn row(coord: u32, width: u32, root: u32, miss: u64) -> CoordRow
 /// The width of four coordinates, that in the root box, and by how much each is missed.
 type Table = [[u32; 3]; 4];
 
-/// The view of a node whose coordinates, by number, are as the table says.
-fn view(alloc: Global, table: &Table) -> Result<LeafView, AllocError> {
+/// The view of a node whose coordinates, by number, are as the table says, with so many splits on each.
+fn view(alloc: Global, table: &Table, cuts: &[u32; 4]) -> Result<LeafView, AllocError> {
     let mut rows = Vec::new(alloc);
     let mut coord = 0u32;
     for [width, root, miss] in table {
-        rows.push(row(coord, *width, *root, (*miss).into()))?;
+        let cuts = cuts[coord as usize];
+        rows.push(row(coord, cuts, *width, *root, (*miss).into()))?;
         coord += 1;
     }
     Ok(LeafView::new(0, rows))
@@ -66,13 +68,13 @@ fn stored(alloc: Global, view: &LeafView) -> Result<[Split; 3], AllocError>
 }
 
 /// The coordinates at which they cut, with the cuts, and the row of the fewest of these splits. Nothing where no row is open.
-fn picks(alloc: Global, table: &Table, cuts: &[u32]) -> Result<String, AllocError> {
-    let view = view(alloc, table)?;
+fn picks(alloc: Global, table: &Table, cuts: &[u32; 4]) -> Result<String, AllocError> {
+    let view = view(alloc, table, cuts)?;
     if !view.has_open() {
         return Ok(String::new(alloc));
     }
     let [first, broadest, missed] = stored(alloc, &view)?.map(|split| (split.coord, split.cut));
-    format!(in alloc; "{first:?} {broadest:?} {missed:?} {}", fewest(&view, cuts))
+    format!(in alloc; "{first:?} {broadest:?} {missed:?} {}", fewest(&view))
 }
 
 /// The coordinates of some nodes.
@@ -99,32 +101,30 @@ fn table(name: &str) -> Table {
     }
 }
 
-/// A coordinate past the end of the splits has none.
 #[test]
 fn the_rules_pick_their_rows(rt: HostRuntime) -> Result<(), Fail> {
-    let cases: [(&str, &[u32], &str); 7] = [
-        ("root", &[], "(0, 524288) (0, 524288) (1, 524288) 0"),
-        ("leaf", &[], "(1, 1) (3, 1) (2, 2) 1"),
-        ("closed", &[], ""),
+    let cases: [(&str, [u32; 4], &str); 6] = [
+        ("root", [0; 4], "(0, 524288) (0, 524288) (1, 524288) 0"),
+        ("leaf", [0; 4], "(1, 1) (3, 1) (2, 2) 1"),
+        ("closed", [0; 4], ""),
         (
             "uncut",
-            &[1, 0, 0, 0],
+            [1, 0, 0, 0],
             "(0, 524288) (0, 524288) (0, 524288) 1",
         ),
         (
             "uncut",
-            &[1, 1, 0, 0],
+            [1, 1, 0, 0],
             "(0, 524288) (0, 524288) (0, 524288) 3",
         ),
         (
             "uncut",
-            &[2, 1, 0, 1],
+            [2, 1, 0, 1],
             "(0, 524288) (0, 524288) (0, 524288) 1",
         ),
-        ("uncut", &[1, 1], "(0, 524288) (0, 524288) (0, 524288) 3"),
     ];
     for (name, cuts, expected) in cases {
-        let picked = picks(rt.alloc(), &table(name), cuts)?;
+        let picked = picks(rt.alloc(), &table(name), &cuts)?;
         assert_eq!(rt; picked.as_str(), expected, "{name}");
     }
     Ok(())

@@ -3,4 +3,4 @@ use Rattle.branching.proofs.Greatest.{IsGreatestBelow}
 use Rattle.branching.proofs.known.fewest.Given as goal
 
 abbrev pub invariant-loop-place : goal.invariant-loop-place
-invariant-loop-place l = IsGreatestBelow (IsMoreCut l.cuts) l.rows l.place l.best
+invariant-loop-place l = IsGreatestBelow IsMoreCut l.rows l.place l.best

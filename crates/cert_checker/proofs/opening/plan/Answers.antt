@@ -1,63 +1,67 @@
--- The lists of a plan, one after another.
-use Rattle.std.proofs.Common.{◌≡◌, ◌∷◌, ◌++◌, ℕ, List, refl, ap, subst, ◌∙◌}
-use Rattle.std.specs.Prelude.{map}
+-- One number more.
+use Rattle.std.proofs.Common.{◌<◌, arith}
 use Rattle.std.proofs.lemmas.Result.{err_from_is_err_and}
-use Rattle.cert_stream.specs.Items.{Field, bases, weight, outflow, direct}
+use Rattle.pool_model.specs.Network.{Net, net_of}
+use Rattle.plan_core.specs.Views.{shown_plan}
+use Rattle.cert_stream.specs.Items.{shown_item}
 use Rattle.cert_checker.specs.Parts.{Never}
-use Rattle.proof_lines.specs.Runs.{Moment, moment, Run}
-use Rattle.proof_lines.proofs.Running.{halts-then, run-then}
+use Rattle.proof_lines.specs.Runs.{Moment, moment}
+use Rattle.proof_lines.proofs.Running.{failed-halts, failed-then, memory-halts, run-then}
+use Rattle.cert_checker.proofs.Planning.{numbers_of, front-none, front-going, front-more, front-taken}
 use Rattle.cert_checker.proofs.opening.plan.Goals as goal
 
-pub returns-in_err-weights : goal.returns-in_err-weights
-returns-in_err-weights g c =
+pub loop-init : goal.loop-init
+loop-init g c =
+    let n : Net = net_of c.args.net.now in
     let m : Moment = moment c.args.reader.now (g.S.Shelf.told c.args.shelf.now) in
     let k : Moment = moment c.base_pair.new.reader (g.S.Shelf.told c.base_pair.new.shelf) in
-    let l : Moment = moment c.weights.new.reader (g.S.Shelf.told c.weights.new.shelf) in
-    let p = err_from_is_err_and c.from_residual-in_err-weights.result c.from_residual-in_err-weights.ensures.1 in
-    rw (p.1, p.2) (halts-then Never Never m k l _ c.in_err-weights.field-0.0 (λ rest r x. x) c.in_ok-base.ensures.0 c.in_err-weights.ensures)
+    let counts = c.sizes-sizes.ensures.counts in (
+      omega (arith, counts.feeds, counts.outs, counts.directs),
+      front-none n m k
+          (record { base = c.in_ok-base.base; flow_base = c.in_ok-base.flow_base; weights = c.new.result.items; outflows = c.new-2.result.items; direct = c.new-3.result.items })
+          c.new.ensures.items c.new-2.ensures.items c.new-3.ensures.items c.requires.ready.at c.in_ok-base.ensures.0 c.in_ok-base.ensures.1,
+    )
 
-pub returns-in_err-outflows : goal.returns-in_err-outflows
-returns-in_err-outflows g c =
+pub next-requires-clause-going : goal.next-requires-clause-going
+next-requires-clause-going g c =
+    let n : Net = net_of c.args.net.now in
     let m : Moment = moment c.args.reader.now (g.S.Shelf.told c.args.shelf.now) in
-    let k : Moment = moment c.base_pair.new.reader (g.S.Shelf.told c.base_pair.new.shelf) in
-    let l : Moment = moment c.weights.new.reader (g.S.Shelf.told c.weights.new.shelf) in
-    let j : Moment = moment c.outflows.new.reader (g.S.Shelf.told c.outflows.new.shelf) in
-    let p = err_from_is_err_and c.from_residual-in_err-outflows.result c.from_residual-in_err-outflows.ensures.1 in
-    rw (p.1, p.2) (halts-then Never Never m l j _ c.in_err-outflows.field-0.0 (λ rest r x. x) (run-then m k l _ _ c.in_ok-base.ensures.0 c.in_ok-weights.ensures.run) c.in_err-outflows.ensures)
+    let k : Moment = moment c.loop.reader (g.S.Shelf.told c.loop.shelf) in
+    front-going n m k (shown_plan c.loop.plan) c.loop.counter c.loop.invariant.1
 
-pub returns-in_err-direct : goal.returns-in_err-direct
-returns-in_err-direct g c =
+pub next-requires-clause-used_up : goal.next-requires-clause-used_up
+next-requires-clause-used_up g c = c.loop.invariant.1.used_up
+
+pub returns-in_err-number : goal.returns-in_err-number
+returns-in_err-number g c =
     let m : Moment = moment c.args.reader.now (g.S.Shelf.told c.args.shelf.now) in
-    let k : Moment = moment c.base_pair.new.reader (g.S.Shelf.told c.base_pair.new.shelf) in
-    let l : Moment = moment c.weights.new.reader (g.S.Shelf.told c.weights.new.shelf) in
-    let j : Moment = moment c.outflows.new.reader (g.S.Shelf.told c.outflows.new.shelf) in
-    let i : Moment = moment c.directs.new.reader (g.S.Shelf.told c.directs.new.shelf) in
-    let p = err_from_is_err_and c.from_residual-in_err-direct.result c.from_residual-in_err-direct.ensures.1 in
-    rw (p.1, p.2) (halts-then Never Never m j i _ c.in_err-direct.field-0.0 (λ rest r x. x)
-    (run-then m k j _ _ c.in_ok-base.ensures.0 (run-then k l j _ _ c.in_ok-weights.ensures.run c.in_ok-outflows.ensures.run)) c.in_err-direct.ensures)
+    let k : Moment = moment c.loop.reader (g.S.Shelf.told c.loop.shelf) in
+    let l : Moment = moment c.next.new.reader (g.S.Shelf.told c.next.new.shelf) in
+    let p = err_from_is_err_and c.from_residual-in_err-number.result c.from_residual-in_err-number.ensures.1 in
+    rw (p.1, p.2) (failed-halts Never m l c.in_err-number.field-0.0 (failed-then m k l _ c.in_err-number.field-0.0 c.loop.invariant.1.run c.in_err-number.ensures))
+
+pub returns-in_err-put : goal.returns-in_err-put
+returns-in_err-put g c =
+    let m : Moment = moment c.args.reader.now (g.S.Shelf.told c.args.shelf.now) in
+    let k : Moment = moment c.loop.reader (g.S.Shelf.told c.loop.shelf) in
+    let l : Moment = moment c.next.new.reader (g.S.Shelf.told c.next.new.shelf) in
+    let p = err_from_is_err_and c.from_residual-in_err-put.result c.from_residual-in_err-put.ensures.1 in
+    rw (p.1, p.2) (memory-halts Never m l _ (run-then m k l _ _ c.loop.invariant.1.run c.in_ok-number.ensures.0))
+
+pub loop-preserved : goal.loop-preserved
+loop-preserved g c =
+    let n : Net = net_of c.args.net.now in
+    let m : Moment = moment c.args.reader.now (g.S.Shelf.told c.args.shelf.now) in
+    let k : Moment = moment c.loop.reader (g.S.Shelf.told c.loop.shelf) in
+    let l : Moment = moment c.next.new.reader (g.S.Shelf.told c.next.new.shelf) in
+    let inv = c.loop.invariant in
+    let lt : c.loop.counter < numbers_of n = omega (arith, inv.0, c.loop-test.true) in
+    let came = c.in_ok-number.ensures in
+    (inv.0, front-more n m k (shown_plan c.loop.plan) c.loop.counter inv.1 l (shown_plan c.put.new.plan) (shown_item c.in_ok-number.number) lt c.in_ok-put.ensures came.1 came.0 came.2)
 
 pub returns : goal.returns
 returns g c =
+    let n : Net = net_of c.args.net.now in
     let m : Moment = moment c.args.reader.now (g.S.Shelf.told c.args.shelf.now) in
-    let k : Moment = moment c.base_pair.new.reader (g.S.Shelf.told c.base_pair.new.shelf) in
-    let l : Moment = moment c.weights.new.reader (g.S.Shelf.told c.weights.new.shelf) in
-    let j : Moment = moment c.outflows.new.reader (g.S.Shelf.told c.outflows.new.shelf) in
-    let i : Moment = moment c.directs.new.reader (g.S.Shelf.told c.directs.new.shelf) in
-    let ws = c.in_ok-weights.ensures in
-    let os = c.in_ok-outflows.ensures in
-    let ds = c.in_ok-direct.ensures in
-    let base : Field = bases c.in_ok-base.base c.in_ok-base.flow_base in
-    let w : List ℕ = c.in_ok-weights.weights.items in
-    let o : List ℕ = c.in_ok-outflows.outflows.items in
-    let d : List ℕ = c.in_ok-direct.direct.items in
-    let run : Run m i (base ∷ (ws.items ++ (os.items ++ ds.items))) = run-then m k i _ _ c.in_ok-base.ensures.0 (run-then k l i _ _ ws.run (run-then l j i _ _ os.run ds.run)) in
-    let same : base ∷ (ws.items ++ (os.items ++ ds.items)) ≡ base ∷ (map weight w ++ (map outflow o ++ map direct d)) =
-    ap (λ (x : List Field). base ∷ (x ++ (os.items ++ ds.items))) ws.is.items_are ∙ ap (λ (x : List Field). base ∷ (map weight w ++ (x ++ ds.items))) os.is.items_are
-    ∙ ap (λ (x : List Field). base ∷ (map weight w ++ (map outflow o ++ x))) ds.is.items_are in
-    record {
-      items = base ∷ (map weight w ++ (map outflow o ++ map direct d));
-      state = ds.state;
-      run = subst (Run m i) same run;
-      ready = ds.ready;
-      is = record { items_are = refl; fits = record { feeds = ws.is.long; outs = os.is.long; directs = ds.is.long }; next_is = ds.is.next_is };
-    }
+    let k : Moment = moment c.loop.reader (g.S.Shelf.told c.loop.shelf) in
+    front-taken n m k c.loop.plan c.loop.counter c.loop.invariant.1 (omega (arith, c.loop.invariant.0, c.loop-test.false))

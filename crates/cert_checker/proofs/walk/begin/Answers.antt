@@ -5,10 +5,9 @@ use Rattle.pool_model.specs.Network.{Net, net_of}
 use Rattle.cert_items.specs.declared.items.State.{State}
 use Rattle.cert_items.specs.declared.items.State.TheVariants as states
 use Rattle.cert_stream.specs.Items.{kind, shape, shaped_state}
-use Rattle.proof_lines.specs.Grammar.{kind_of, behind_item}
+use Rattle.proof_lines.specs.Grammar.{behind_item}
 use Rattle.cert_checker.specs.Parts.{IsRefusedFront}
 use Rattle.proof_lines.specs.Runs.{Moment, moment, IsReady}
-use Rattle.proof_lines.proofs.Coming.{kind-known}
 use Rattle.proof_lines.proofs.Running.{failed-halts, failed-then, run-then}
 use Rattle.cert_checker.proofs.Walking.{shape-halts, begun}
 use Rattle.cert_checker.proofs.walk.begin.Goals as goal
@@ -24,9 +23,9 @@ returns-in_err-kind-clause-begun g c =
 pub shape-requires-clause-asks : goal.shape-requires-clause-asks
 shape-requires-clause-asks g c =
     let h : Moment = moment c.kind.new.reader (g.S.Shelf.told c.kind.new.shelf) in
-    let number = c.in_ok-kind.kind in
-    let headed : IsReady h (states.Shape (kind_of number)) = subst (λ (s : State). IsReady h (behind_item s (kind number))) c.requires.ready.at c.in_ok-kind.ensures.1 in
-    (kind_of number, headed.at)
+    let k = c.in_ok-kind.kind in
+    let headed : IsReady h (states.Shape k) = subst (λ (s : State). IsReady h (behind_item s (kind k))) c.requires.ready.at c.in_ok-kind.ensures.1 in
+    (k, headed.at)
 
 pub returns-in_err-shape-clause-begun : goal.returns-in_err-shape-clause-begun
 returns-in_err-shape-clause-begun g c =
@@ -43,13 +42,13 @@ returns-then-ne-clause-begun g c =
     let m : Moment = moment c.args.reader.now (g.S.Shelf.told c.args.shelf.now) in
     let h : Moment = moment c.kind.new.reader (g.S.Shelf.told c.kind.new.shelf) in
     let j : Moment = moment c.shape.new.reader (g.S.Shelf.told c.shape.new.shelf) in
-    let number = c.in_ok-kind.kind in
-    let headed : IsReady h (states.Shape (kind_of number)) = subst (λ (s : State). IsReady h (behind_item s (kind number))) c.requires.ready.at c.in_ok-kind.ensures.1 in
+    let k = c.in_ok-kind.kind in
+    let headed : IsReady h (states.Shape k) = subst (λ (s : State). IsReady h (behind_item s (kind k))) c.requires.ready.at c.in_ok-kind.ensures.1 in
     let counts = c.in_ok-shape.shape in
     let run = run-then m h j _ _ c.in_ok-kind.ensures.0 c.in_ok-shape.ensures.0 in
-    let ready : IsReady j (shaped_state (kind_of number) counts) = subst (λ (s : State). IsReady j (behind_item s (shape counts))) headed.at c.in_ok-shape.ensures.1 in
+    let ready : IsReady j (shaped_state k counts) = subst (λ (s : State). IsReady j (behind_item s (shape counts))) headed.at c.in_ok-shape.ensures.1 in
     let other : c.in_ok-shape.shape ≢ c.counts.result = search rules in
-    shape-halts n m j number counts run ready (λ same. other (same ∙ sym c.counts.ensures.counts))
+    shape-halts n m j k counts run ready (λ same. other (same ∙ sym c.counts.ensures.counts))
 
 pub returns-clause-begun : goal.returns-clause-begun
 returns-clause-begun g c =
@@ -57,10 +56,10 @@ returns-clause-begun g c =
     let m : Moment = moment c.args.reader.now (g.S.Shelf.told c.args.shelf.now) in
     let h : Moment = moment c.kind.new.reader (g.S.Shelf.told c.kind.new.shelf) in
     let j : Moment = moment c.shape.new.reader (g.S.Shelf.told c.shape.new.shelf) in
-    let number = c.in_ok-kind.kind in
-    let headed : IsReady h (states.Shape (kind_of number)) = subst (λ (s : State). IsReady h (behind_item s (kind number))) c.requires.ready.at c.in_ok-kind.ensures.1 in
+    let k = c.in_ok-kind.kind in
+    let headed : IsReady h (states.Shape k) = subst (λ (s : State). IsReady h (behind_item s (kind k))) c.requires.ready.at c.in_ok-kind.ensures.1 in
     let counts = c.in_ok-shape.shape in
     let run = run-then m h j _ _ c.in_ok-kind.ensures.0 c.in_ok-shape.ensures.0 in
-    let ready : IsReady j (shaped_state (kind_of number) counts) = subst (λ (s : State). IsReady j (behind_item s (shape counts))) headed.at c.in_ok-shape.ensures.1 in
+    let ready : IsReady j (shaped_state k counts) = subst (λ (s : State). IsReady j (behind_item s (shape counts))) headed.at c.in_ok-shape.ensures.1 in
     let same : c.in_ok-shape.shape ≡ c.counts.result = search rules in
-    begun n m j number counts run ready (kind-known m h number c.requires.ready.at c.in_ok-kind.ensures.0) (same ∙ c.counts.ensures.counts)
+    begun n m j k counts run ready (same ∙ c.counts.ensures.counts)

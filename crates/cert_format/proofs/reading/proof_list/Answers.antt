@@ -4,7 +4,7 @@ use Rattle.cert_writing.specs.Views.{shown_node_proof}
 use Rattle.cert_text.specs.Reading.{each_at}
 use Rattle.cert_text.proofs.Each.{each-push, each-end}
 use Rattle.cert_format.specs.Reading.{proof_line_at}
-use Rattle.cert_format.proofs.Outcomes.{each-halts}
+use Rattle.cert_text.proofs.Outcomes.{each-halts}
 use Rattle.cert_format.proofs.reading.proof_list.Goals as goal
 
 pub returns-in_err-proof : goal.returns-in_err-proof

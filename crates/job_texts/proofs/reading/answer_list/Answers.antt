@@ -5,7 +5,7 @@ use Rattle.cert_text.proofs.Each.{each-push, each-end}
 use Rattle.work_units.specs.Views.{shown_answer}
 use Rattle.job_texts.specs.Reading.{answer_at}
 use Rattle.job_texts.specs.Views.{place_of, shown_answers}
-use Rattle.job_texts.proofs.Outcomes.{each-halts}
+use Rattle.cert_text.proofs.Outcomes.{each-halts}
 use Rattle.job_texts.proofs.reading.answer_list.Goals as goal
 
 pub returns-in_err-answer : goal.returns-in_err-answer

@@ -4,7 +4,7 @@ use Rattle.job_texts.specs.Texts.{AreWritten, answers_text}
 use Rattle.job_texts.specs.Reading.{answers_at}
 use Rattle.job_texts.specs.Views.{shown_answers}
 use Rattle.job_texts.proofs.AnswerLaws.{answers_reads}
-use Rattle.job_texts.proofs.Outcomes.{is_found, is_only, is_fault}
+use Rattle.cert_text.proofs.Outcomes.{is_found, is_only, is_fault}
 use Rattle.job_texts.proofs.reading.read_answers.Goals as goal
 
 pub returns-clause-found : goal.returns-clause-found

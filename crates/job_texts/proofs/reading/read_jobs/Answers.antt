@@ -2,7 +2,7 @@ use Rattle.job_texts.specs.Texts.{Jobs, AreJobs, jobs_text}
 use Rattle.job_texts.specs.Reading.{jobs_at}
 use Rattle.job_texts.specs.Views.{shown_jobs}
 use Rattle.job_texts.proofs.JobLaws.{jobs_reads}
-use Rattle.job_texts.proofs.Outcomes.{is_found, is_only, is_fault}
+use Rattle.cert_text.proofs.Outcomes.{is_found, is_only, is_fault}
 use Rattle.job_texts.proofs.reading.read_jobs.Goals as goal
 
 pub returns-clause-found : goal.returns-clause-found

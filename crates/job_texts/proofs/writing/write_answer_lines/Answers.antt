@@ -7,7 +7,7 @@ use Rattle.edge_io.proofs.Writes.{front-first, wrote-behind}
 use Rattle.work_units.specs.Views.{shown_answer}
 use Rattle.job_texts.specs.Texts.{answer_lines}
 use Rattle.cert_writing.specs.Text.{line}
-use Rattle.job_texts.proofs.Pieces.{counted_text}
+use Rattle.cert_writing.proofs.Pieces.{counted_text}
 use Rattle.job_texts.proofs.writing.write_answer_lines.Goals as goal
 
 pub returns-in_err-write_line-clause-wrote : goal.returns-in_err-write_line-clause-wrote

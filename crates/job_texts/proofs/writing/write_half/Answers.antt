@@ -1,12 +1,17 @@
-use Rattle.std.proofs.Common.{[], subst, List, ℕ}
+use Rattle.std.proofs.Common.{◌≡◌, [], ◌++◌, Option, Some, None, refl, subst, List, ℕ}
 use Rattle.std.specs.Prelude.{option_map}
 use Rattle.std.proofs.lemmas.Result.{err_from_is_err_and}
 use Rattle.edge_io.specs.Writing.{Wrote, TookFront}
 use Rattle.edge_io.proofs.Writes.{front-first, wrote-behind}
+use Rattle.row_model.specs.Multipliers.{Proof}
 use Rattle.box_space.specs.Views.{shown_proof}
 use Rattle.job_texts.specs.Texts.{half_line}
-use Rattle.job_texts.proofs.Pieces.{half_text}
 use Rattle.job_texts.proofs.writing.write_half.Goals as goal
+
+-- the line of a half is its word, and what stands behind it
+half_text : (word : List ℕ) (z : Option Proof) → word ++ half_line [] z ≡ half_line word z
+half_text word None = refl
+half_text word (Some p) = refl
 
 pub returns-in_err-write_whole-clause-wrote : goal.returns-in_err-write_whole-clause-wrote
 returns-in_err-write_whole-clause-wrote g c =

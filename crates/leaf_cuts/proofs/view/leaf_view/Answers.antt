@@ -9,16 +9,17 @@ use Rattle.leaf_cuts.proofs.view.leaf_view.Goals.{then-of_form+in_ok-push, else-
 pub loop-coord-preserved : goal.loop-coord-preserved
 loop-coord-preserved c =
     let n = net_of c.args.net.now in
-    let e = c.args.ends.now in
+    let splits = c.args.tree.now.kept.splits.list in
+    let e = c.args.leaf.now.ends in
     let coord = c.loop-coord.coord in
     let rows = c.loop-coord.rows.items in
     elim c.if-of_form.branch [
       | then-of_form+in_ok-push w ↦
-          rw w.rows-is (subst (λ (xs : List CoordRow). AreSoFar n c.args.form e (coord + 1) xs) (sym w.in_ok-push.ensures.items)
-          (so_far-push n c.args.form e coord rows w.row_of.result c.loop-coord.invariant (c.of_form.ensures.0 w.if-of_form.true).1 w.row_of.ensures.coord w.row_of.ensures.row w.row_of.ensures.ends))
+          rw w.rows-is (subst (λ (xs : List CoordRow). AreSoFar n c.args.form splits e (coord + 1) xs) (sym w.in_ok-push.ensures.items)
+          (so_far-push n c.args.form splits e coord rows w.row_of.result c.loop-coord.invariant (c.of_form.ensures.0 w.if-of_form.true).1 w.row_of.ensures.coord w.row_of.ensures.row w.row_of.ensures.ends))
       | else-of_form w ↦
           let same : c.if-of_form.rows.items ≡ rows = cc in
           let there : coord < coords n = search rules in
-          subst (λ (xs : List CoordRow). AreSoFar n c.args.form e (coord + 1) xs) (sym same)
-          (so_far-pass n c.args.form e coord rows c.loop-coord.invariant (cut-off n c.args.form coord c.of_form.result there c.of_form.ensures w.if-of_form.false))
+          subst (λ (xs : List CoordRow). AreSoFar n c.args.form splits e (coord + 1) xs) (sym same)
+          (so_far-pass n c.args.form splits e coord rows c.loop-coord.invariant (cut-off n c.args.form coord c.of_form.result there c.of_form.ensures w.if-of_form.false))
     ]

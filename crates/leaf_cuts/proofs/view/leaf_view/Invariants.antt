@@ -3,4 +3,4 @@ use Rattle.leaf_cuts.proofs.FormCoords.{AreSoFar}
 use Rattle.leaf_cuts.proofs.view.leaf_view.Given as goal
 
 abbrev pub invariant-loop-coord : goal.invariant-loop-coord
-invariant-loop-coord l = AreSoFar (net_of l.net) l.form l.ends l.coord l.rows.items
+invariant-loop-coord l = AreSoFar (net_of l.net) l.form l.tree.kept.splits.list l.leaf.ends l.coord l.rows.items

@@ -58,6 +58,3 @@ returns-clause-ok c =
       least = c.in_ok-check_qualities.ensures.keeps_least;
       arcs = c.in_ok-check_arcs.ensures.keeps;
     }) c.cost.ensures.num c.cost.ensures.base
-
-pub returns-clause-size : goal.returns-clause-size
-returns-clause-size c = c.cost.ensures.size

@@ -1,4 +1,4 @@
-use Rattle.std.proofs.Common.{◌≡◌, ◌*◌, ◌+◌, ◌<◌, ◌^◌, ◌≤◌, unsigned_abs, arith, rules, sym, ap, subst, FitsSigned}
+use Rattle.std.proofs.Common.{◌*◌, ◌^◌, ◌≤◌, unsigned_abs, arith, rules, subst, FitsSigned}
 use mir.Syntax.{w64, w128}
 use mir.Val.{to_z}
 use Rattle.integers.proofs.AtKey.{term-le-sum_below}

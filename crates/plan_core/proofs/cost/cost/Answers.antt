@@ -3,7 +3,7 @@ use Rattle.std.proofs.lemmas.Int.{ints, to_z-of_z}
 use mir.Syntax.{w128}
 use Rattle.pool_model.specs.Network.{net_of}
 use Rattle.plan_core.specs.Views.{shown_plan}
-use Rattle.plan_core.proofs.Costs.{supply_room, demand_room, difference_is, difference_small}
+use Rattle.plan_core.proofs.Costs.{supply_room, demand_room, difference_is}
 use Rattle.plan_core.proofs.cost.cost.Goals as goal
 
 pub purchases-requires : goal.purchases-requires
@@ -21,12 +21,3 @@ returns-clause-num c =
     let left : FitsSigned w128 (c.purchases.result +ℤ c.carriage.result -ℤ c.revenue.result) = omega (arith, ints, c.purchases.ensures.size, c.carriage.ensures.size, c.revenue.ensures.size) in
     simp to_z-of_z (difference_is (net_of c.args.net.now) (shown_plan c.args.plan.now) c.args.outflows.now c.args.inflows.now c.purchases.result c.carriage.result c.revenue.result
     c.requires.outflows c.requires.inflows c.purchases.ensures.value c.carriage.ensures.value c.revenue.ensures.value)
-
-pub returns-clause-size : goal.returns-clause-size
-returns-clause-size c =
-    let spent : FitsSigned w128 c.purchases.result = search rules in
-    let carried : FitsSigned w128 c.carriage.result = search rules in
-    let earned : FitsSigned w128 c.revenue.result = search rules in
-    let paid : FitsSigned w128 (c.purchases.result +ℤ c.carriage.result) = omega (arith, ints, c.purchases.ensures.size, c.carriage.ensures.size) in
-    let left : FitsSigned w128 (c.purchases.result +ℤ c.carriage.result -ℤ c.revenue.result) = omega (arith, ints, c.purchases.ensures.size, c.carriage.ensures.size, c.revenue.ensures.size) in
-    simp to_z-of_z (difference_small c.purchases.result c.carriage.result c.revenue.result c.purchases.ensures.size c.carriage.ensures.size c.revenue.ensures.size)

@@ -1,4 +1,4 @@
-use Rattle.std.proofs.Common.{◌^◌, ◌+◌, ◌*◌, ◌≤◌, pos, ◌*ℤ◌, unsigned_abs, get_or, arith, ap, ◌∙◌, rules, FitsSigned}
+use Rattle.std.proofs.Common.{◌^◌, ◌≤◌, pos, ◌*ℤ◌, unsigned_abs, get_or, arith, ap, ◌∙◌, rules, FitsSigned}
 use Rattle.std.proofs.lemmas.Int.{to_z-of_z}
 use mir.Syntax.{w64, w128}
 use Rattle.pool_model.specs.Network.{net_of}

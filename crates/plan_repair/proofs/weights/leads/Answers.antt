@@ -10,7 +10,7 @@ returns-then-goes_before c =
     let flow = feed_flow n c.args.point.now in
     let other = c.loop-other.other in
     let feed = c.args.feed in
-    let among : other < n.feeds = subst (λ (xs : List ℕ). other < get_or xs 4 0) c.counts.ensures.counts c.loop-other-test.true in
+    let among : other < n.feeds = omega (arith, c.loop-other-test.true, c.sizes-counts.ensures.counts.feeds) in
     let same : n.feed_pool other ≡ n.feed_pool feed = sym c.feed-its_pool.ensures.pool ∙ c.if-its_pool-pool.true ∙ c.feed-pool.ensures.pool in
     let before : goes_before flow other feed ≡ true =
     goes_before-is flow other feed c.feed_flow.result c.feed_flow-flow.result c.goes_before.result c.feed_flow.ensures.value

@@ -10,8 +10,8 @@ loop-feed-preserved c =
     let arc = c.loop-feed.feed in
     let at = c.feed-pool.result.1 in
     let table = c.loop-feed.sums in
-    let limited = c.counts.ensures.limited in
-    let among : arc < n.feeds = subst (λ (xs : List ℕ). arc < get_or xs 4 0) c.counts.ensures.counts c.loop-feed-test.true in
+    let limited = c.sizes-counts.ensures.limited in
+    let among : arc < n.feeds = omega (arith, c.loop-feed-test.true, c.sizes-counts.ensures.counts.feeds) in
     let within : at < length table = omega (arith, c.feed-pool.ensures.pool, limited.feed_pools arc among, limited.pools, c.loop-feed.invariant.long) in
     record {
       long = length-set table at _ ∙ c.loop-feed.invariant.long;

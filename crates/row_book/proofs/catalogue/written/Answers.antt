@@ -1,23 +1,11 @@
-use Rattle.std.proofs.Common.{◌<◌, ap, subst, ◌∙◌}
+use Rattle.std.proofs.Common.{ap, ◌∙◌}
 use Rattle.pool_model.specs.Network.{net_of}
 use Rattle.box_space.specs.Views.{shown_box}
 use Rattle.box_space.specs.Tables.{row_of}
 use Rattle.row_book.specs.declared.catalogue.Group.{Group}
-use Rattle.row_book.specs.Groups.{group_count, row_in_group}
+use Rattle.row_book.specs.Groups.{row_in_group}
 use Rattle.row_book.proofs.Placing.{line-network, line-p, line-q, line-further}
 use Rattle.row_book.proofs.catalogue.written.Goals as goal
-
-pub table_at-requires : goal.table_at-requires
-table_at-requires c = subst (λ (g : Group). c.place_of-group.result.1 < group_count (net_of c.args.net.now) g) c.in-Network.is c.place_of-group.ensures.placed.among
-
-pub row-requires-clause-among : goal.row-requires-clause-among
-row-requires-clause-among c = subst (λ (g : Group). c.place_of-group.result.1 < group_count (net_of c.args.net.now) g) c.in-P.is c.place_of-group.ensures.placed.among
-
-pub row-requires-in-Q-clause-among : goal.row-requires-in-Q-clause-among
-row-requires-in-Q-clause-among c = subst (λ (g : Group). c.place_of-group.result.1 < group_count (net_of c.args.net.now) g) c.in-Q.is c.place_of-group.ensures.placed.among
-
-pub row-requires-in-Further-clause-among : goal.row-requires-in-Further-clause-among
-row-requires-in-Further-clause-among c = subst (λ (g : Group). c.place_of-group.result.1 < group_count (net_of c.args.net.now) g) c.in-Further.is c.place_of-group.ensures.placed.among
 
 pub returns-in-Network-clause-line : goal.returns-in-Network-clause-line
 returns-in-Network-clause-line c =

@@ -1,8 +1,6 @@
 use Rattle.std.proofs.Common.{◌≢◌, ◌<◌, pos, ◌*ℤ◌, length, arith, rules, ap, ◌∙◌, below_more, get_or-set_same, get_or-set_other, FitsSigned}
 use Rattle.std.proofs.lemmas.Int.{to_z-of_z}
 use mir.Syntax.{w64, w128}
-use Rattle.pool_model.specs.Network.{net_of}
-use Rattle.row_book.proofs.Costs.{all_costs, all_small}
 use Rattle.row_book.proofs.multiplying.fill_costs.Goals as goal
 
 pub loop-var-preserved : goal.loop-var-preserved
@@ -19,11 +17,3 @@ loop-var-preserved c =
           (rw get_or-set_same (simp to_z-of_z c.scaled.ensures.small));
       zero = λ k past inside. let ne : k ≢ c.loop-var.var = omega arith in rw get_or-set_other (c.loop-var.invariant.zero k (omega arith) inside);
     }
-
-pub returns-clause-costs : goal.returns-clause-costs
-returns-clause-costs c = all_costs (net_of c.args.net.now) c.args.scale c.loop-var.rests c.loop-var.var
-    (omega (arith, c.loop-var-test.false, c.flows-var-end.ensures.count)) c.loop-var.invariant.zero c.loop-var.invariant.costs
-
-pub returns-clause-small : goal.returns-clause-small
-returns-clause-small c = all_small (net_of c.args.net.now) c.args.scale c.loop-var.rests c.loop-var.var
-    (omega (arith, c.loop-var-test.false, c.flows-var-end.ensures.count)) c.loop-var.invariant.zero c.loop-var.invariant.small

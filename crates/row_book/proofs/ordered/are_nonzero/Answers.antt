@@ -1,4 +1,4 @@
-use Rattle.std.proofs.Common.{◌≢◌, pos, length, get_or, arith, ap, rules, sym, ◌∙◌, below_more, FitsSigned, to_z, of_z}
+use Rattle.std.proofs.Common.{◌≢◌, pos, length, get_or, arith, ap, rules, sym, ◌∙◌, FitsSigned, to_z}
 use Rattle.std.proofs.lemmas.Int.{to_z-of_z}
 use mir.Syntax.{w64}
 use Rattle.linear_program.specs.declared.multipliers.Part.{Part}
@@ -11,10 +11,6 @@ returns-then-part-eq0 c =
     let mult : FitsSigned w64 t.mult = search rules in
     never (λ all. at_part (λ q. q.mult ≢ pos 0) c.args.proof.now.parts.items c.loop-part.part-index (omega (arith, ap length c.deref-part-items.ensures.value)) all
     (ap (λ xs. (get_or xs c.loop-part.part-index no_part).mult) (sym c.deref-part-items.ensures.value) ∙ sym (to_z-of_z w64 t.mult mult) ∙ ap (to_z w64) c.if-part-eq0.true))
-
-pub loop-part-preserved : goal.loop-part-preserved
-loop-part-preserved c =
-    below_more _ _ c.loop-part.invariant (λ e. c.if-part-eq0.false (ap (λ xs. of_z w64 (get_or xs c.loop-part.part-index no_part).mult) c.deref-part-items.ensures.value ∙ ap (of_z w64) e))
 
 pub returns : goal.returns
 returns c = always (all_parts (λ q. q.mult ≢ pos 0) c.args.proof.now.parts.items (λ k h. c.loop-part.invariant k (omega (arith, ap length c.deref-part-items.ensures.value))))

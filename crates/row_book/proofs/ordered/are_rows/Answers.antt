@@ -1,4 +1,4 @@
-use Rattle.std.proofs.Common.{◌<◌, length, get_or, arith, ap, below_more}
+use Rattle.std.proofs.Common.{◌<◌, length, get_or, arith, ap}
 use Rattle.row_book.proofs.AllParts.{never, always, no_part, at_part, all_parts}
 use Rattle.row_book.proofs.ordered.are_rows.Goals as goal
 
@@ -10,9 +10,6 @@ returns-then-part-count c =
       ap (λ xs. (get_or xs c.loop-part.part-index no_part).row) c.deref-part-items.ensures.value,
       c.if-part-count.true,
     )))
-
-pub loop-part-preserved : goal.loop-part-preserved
-loop-part-preserved c = below_more _ _ c.loop-part.invariant (omega (arith, ap (λ xs. (get_or xs c.loop-part.part-index no_part).row) c.deref-part-items.ensures.value, c.if-part-count.false))
 
 pub returns : goal.returns
 returns c = always (all_parts (λ q. q.row < c.args.count) c.args.proof.now.parts.items (λ k h. c.loop-part.invariant k (omega (arith, ap length c.deref-part-items.ensures.value))))

@@ -1,6 +1,5 @@
 use Rattle.std.proofs.Common.{ℕ, suc, ◌<◌, ◌-◌, List, length, get_or, arith, ap, subst}
 use Rattle.linear_program.specs.declared.multipliers.Part.{Part}
-use Rattle.row_book.proofs.Rising.{rises_more}
 use Rattle.row_book.proofs.AllParts.{never, always, no_part, rising_at, rising_all}
 use Rattle.row_book.proofs.ordered.is_rising.Goals as goal
 
@@ -14,9 +13,6 @@ returns-then-parts-i c =
       ap (λ xs. (get_or xs (c.loop-i.i - 1) no_part).row) c.as_slice-parts.ensures.value,
       rising_at c.args.proof.now.parts.items (c.loop-i.i - 1) c.loop-i.i (omega arith) (omega (arith, ap length c.as_slice-parts.ensures.value)) rising,
     )))
-
-pub loop-i-preserved : goal.loop-i-preserved
-loop-i-preserved c = rises_more (λ k. (get_or c.as_slice-parts.result.now k no_part).row) c.loop-i.i c.loop-i.auto.i c.if-parts-i.false c.loop-i.invariant
 
 pub returns : goal.returns
 returns c =

@@ -12,11 +12,6 @@ returns-in_err-check_rows-clause-fault c =
     let exit = err_from_is_err_and c.from_residual.result c.from_residual.ensures.1 in
     rw (exit.1, exit.2) (c.in_err-check_rows.ensures.fault (shown_box c.args.v.now))
 
-pub returns-in_err-number-clause-fault : goal.returns-in_err-number-clause-fault
-returns-in_err-number-clause-fault c =
-    let exit = err_from_is_err_and c.from_residual-in_err-number.result c.from_residual-in_err-number.ensures.1 in
-    rw (exit.1, exit.2) c.in_err-number.ensures.fault
-
 pub returns-clause-ok : goal.returns-clause-ok
 returns-clause-ok c =
     let number : FitsSigned w128 c.in_ok-number.number = search rules in

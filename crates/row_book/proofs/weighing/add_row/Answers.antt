@@ -60,15 +60,6 @@ returns-in_err-add_product-2-clause-wide c =
       ap (sum_by g) c.terms-terms.ensures,
     ))
 
-pub returns-in_err-add_product-clause-wide : goal.returns-in_err-add_product-clause-wide
-returns-in_err-add_product-clause-wide c =
-    let mult = c.ranges.mult in
-    let constant : FitsSigned w128 c.constant.result = search rules in
-    let size : c.into.result ≡ unsigned_abs c.args.mult = omega (arith, c.into.ensures, simp to_z-of_z at c.unsigned_abs.ensures.value) in
-    let first : c.into.result * c.unsigned_abs-2.result ≡ unsigned_abs c.args.mult * unsigned_abs c.args.row.now.constant =
-    ap (λ z. z * c.unsigned_abs-2.result) size ∙ ap (λ z. unsigned_abs c.args.mult * z) (simp to_z-of_z at c.unsigned_abs-2.ensures.value ∙ ap unsigned_abs c.constant.ensures) in
-    on_err c.from_residual.result (omega (arith, c.in_err-add_product.ensures.wide, first))
-
 pub loop-term-preserved : goal.loop-term-preserved
 loop-term-preserved c =
     let ends = end_size (net_of c.args.net.now) (shown_box c.args.v.now) in

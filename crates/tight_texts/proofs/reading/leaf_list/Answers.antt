@@ -5,7 +5,7 @@ use Rattle.cert_text.proofs.Each.{each-push, each-end}
 use Rattle.tight_texts.specs.Views.{shown_leaf}
 use Rattle.tight_texts.specs.Reading.{leaf_at}
 use Rattle.tight_texts.specs.Views.{place_of}
-use Rattle.tight_texts.proofs.Outcomes.{each-halts}
+use Rattle.cert_text.proofs.Outcomes.{each-halts}
 use Rattle.tight_texts.proofs.reading.leaf_list.Goals as goal
 
 pub returns-in_err-leaf : goal.returns-in_err-leaf

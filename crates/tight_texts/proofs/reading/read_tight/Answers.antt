@@ -2,7 +2,7 @@ use Rattle.tight_texts.specs.Texts.{Marks, AreMarks, marks_text}
 use Rattle.tight_texts.specs.Reading.{marks_at}
 use Rattle.tight_texts.specs.Views.{shown_marks}
 use Rattle.tight_texts.proofs.MarkLaws.{marks_reads}
-use Rattle.tight_texts.proofs.Outcomes.{is_found, is_only, is_fault}
+use Rattle.cert_text.proofs.Outcomes.{is_found, is_only, is_fault}
 use Rattle.tight_texts.proofs.reading.read_tight.Goals as goal
 
 pub returns-clause-found : goal.returns-clause-found

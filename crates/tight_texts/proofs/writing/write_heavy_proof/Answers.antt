@@ -14,4 +14,4 @@ returns-in_err-write_whole-clause-wrote g c =
     rw p.1 (front-first (g.K.Sink.taken c.args.out.now) (32 ∷ codes "4") (flat_map field (proof_fields (shown_proof c.args.proof.now))) (g.K.Sink.taken c.write_whole.new.out) (c.in_err-write_whole.ensures.wrote))
 
 pub returns-clause-wrote : goal.returns-clause-wrote
-returns-clause-wrote g c = (wrote-behind c.write_proof.result (g.K.Sink.taken c.args.out.now) (32 ∷ codes "4") (g.K.Sink.taken c.write_whole.new.out) (flat_map field (proof_fields (shown_proof c.args.proof.now))) (g.K.Sink.taken c.write_proof.new.out) (c.in_ok-write_whole.ensures.wrote) (c.write_proof.ensures.wrote))
+returns-clause-wrote g c = (wrote-behind c.put.result (g.K.Sink.taken c.args.out.now) (32 ∷ codes "4") (g.K.Sink.taken c.write_whole.new.out) (flat_map field (proof_fields (shown_proof c.args.proof.now))) (g.K.Sink.taken c.put.new.out) (c.in_ok-write_whole.ensures.wrote) (c.put.ensures.wrote))

@@ -1,19 +1,15 @@
-use Rattle.std.proofs.Common.{[], ◌∷◌, length, subst, List, ℕ}
-use Rattle.std.specs.Prelude.{codes, decimal}
+use Rattle.std.proofs.Common.{[], ◌∷◌, ◌++◌, length, map}
+use Rattle.std.specs.Prelude.{decimal, codes}
 use Rattle.std.specs.List.{flat_map}
-use Rattle.std.proofs.lemmas.Result.{err_from_is_err_and}
-use Rattle.edge_io.specs.Writing.{Wrote, TookFront}
-use Rattle.edge_io.proofs.Writes.{front-first, wrote-behind}
+use Rattle.edge_io.proofs.Writes.{wrote-same}
 use Rattle.cert_writing.specs.Text.{line}
-use Rattle.tight_texts.specs.Texts.{mark_line}
+use Rattle.cert_writing.proofs.Pieces.{counted_text}
+use Rattle.tight_texts.specs.Texts.{mark_line, mark_lines}
 use Rattle.tight_texts.specs.Views.{shown_leaf}
-use Rattle.tight_texts.proofs.Pieces.{counted_text}
 use Rattle.tight_texts.proofs.writing.write_mark_lines.Goals as goal
 
-pub returns-in_err-write_line-clause-wrote : goal.returns-in_err-write_line-clause-wrote
-returns-in_err-write_line-clause-wrote g c =
-    let p = err_from_is_err_and c.from_residual.result c.from_residual.ensures.1 in
-    rw p.1 (subst (λ (w : List ℕ). TookFront (g.K.Sink.taken c.args.out.now) w (g.K.Sink.taken c.write_line.new.out)) (counted_text (codes "leaves") mark_line shown_leaf c.args.marks.now) (front-first (g.K.Sink.taken c.args.out.now) (line (codes "leaves") (decimal (length c.args.marks.now) ∷ [])) (flat_map (λ x. mark_line (shown_leaf x)) c.args.marks.now) (g.K.Sink.taken c.write_line.new.out) (c.in_err-write_line.ensures.wrote)))
-
 pub returns-clause-wrote : goal.returns-clause-wrote
-returns-clause-wrote g c = subst (λ (w : List ℕ). Wrote c.write_mark_list.result (g.K.Sink.taken c.args.out.now) w (g.K.Sink.taken c.write_mark_list.new.out)) (counted_text (codes "leaves") mark_line shown_leaf c.args.marks.now) (wrote-behind c.write_mark_list.result (g.K.Sink.taken c.args.out.now) (line (codes "leaves") (decimal (length c.args.marks.now) ∷ [])) (g.K.Sink.taken c.write_line.new.out) (flat_map (λ x. mark_line (shown_leaf x)) c.args.marks.now) (g.K.Sink.taken c.write_mark_list.new.out) (c.in_ok-write_line.ensures.wrote) (c.write_mark_list.ensures.wrote))
+returns-clause-wrote g c =
+    let xs = c.args.marks.now in
+    wrote-same c.write_counted.result (g.K.Sink.taken c.args.out.now) (line (codes "leaves") (decimal (length xs) ∷ []) ++ flat_map (λ x. mark_line (shown_leaf x)) xs)
+    (mark_lines (map shown_leaf xs)) (g.K.Sink.taken c.write_counted.new.out) (counted_text (codes "leaves") mark_line shown_leaf xs) c.write_counted.ensures.wrote

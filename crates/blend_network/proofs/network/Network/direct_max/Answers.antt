@@ -1,6 +1,6 @@
-use Rattle.std.proofs.Common.{option_map, pos, get_or, ap, sym, ◌∙◌, arith}
+use Rattle.std.proofs.Common.{ap, ◌∙◌, arith}
 use Rattle.pool_model.specs.Network as model
-use Rattle.pool_model.specs.Network.{Network, net_of, no_arc}
+use Rattle.pool_model.specs.Network.{net_of, no_arc}
 use Rattle.network_parts.specs.Views.{shown_arc}
 use Rattle.network_parts.proofs.Mapped.{read-map}
 use Rattle.blend_network.proofs.network.Network.direct_max.Goals as goal
@@ -10,12 +10,3 @@ unfolding net_of
 amount-requires c =
     let e = read-map shown_arc c.self.inside.directs.items c.args.n c.index.result.now no_arc (search arith) c.index.ensures in
     λ m is. c.self.invariant.limited.direct_maxima c.args.n m (search arith) (ap (λ (r : model.Arc). r.max) e ∙ is)
-
-pub returns : goal.returns
-unfolding net_of
-returns c =
-    let e = read-map shown_arc c.self.inside.directs.items c.args.n c.index.result.now no_arc (search arith) c.index.ensures in
-    record {
-      value = c.amount.ensures.value ∙ ap (option_map pos) (sym (ap (λ (r : model.Arc). r.max) e) ∙ ap (λ (m : Network). (get_or m.directs c.args.n no_arc).max) c.self.view_is);
-      size = c.amount.ensures.size;
-    }

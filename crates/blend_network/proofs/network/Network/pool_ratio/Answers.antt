@@ -27,16 +27,3 @@ overflow_cast-result-2 c =
     = get_or_default c.as_slice.result.now c.args.k 0 1000 within ∙ ap (λ (rs : List ℕ). get_or rs c.args.k 1000) c.as_slice.ensures.value
     ∙ sym (ap (λ (p : model.Pool). get_or p.ratio c.args.k 1000) e) ∙ ap (λ (m : Network). ratio_of m c.args.l c.args.k) c.self.view_is in
     omega (arith, ints, read, most)
-
-pub returns : goal.returns
-unfolding net_of
-returns c =
-    let limited : IsLimited (net_of c.args.self.now) = subst (λ (m : Network). IsLimited (net_of m)) c.self.view_is c.self.invariant.limited in
-    let most = ratio-most c.args.self.now limited c.args.l c.args.k c.requires.pool c.requires.quality in
-    let e = read-map shown_pool c.self.inside.pools.items c.args.l c.index.result.now no_pool (search arith) c.index.ensures in
-    let within : c.args.k < length c.as_slice.result.now
-    = omega (arith, c.self.invariant.ratio c.args.l (search arith), ap (λ n. length n.qualities) c.self.view_is, ap length c.as_slice.ensures.value, ap (λ s. length s.ratio) e) in
-    let read : get_or c.as_slice.result.now c.args.k 0 ≡ ratio_of c.args.self.now c.args.l c.args.k
-    = get_or_default c.as_slice.result.now c.args.k 0 1000 within ∙ ap (λ (rs : List ℕ). get_or rs c.args.k 1000) c.as_slice.ensures.value
-    ∙ sym (ap (λ (p : model.Pool). get_or p.ratio c.args.k 1000) e) ∙ ap (λ (m : Network). ratio_of m c.args.l c.args.k) c.self.view_is in
-    record { value = omega (arith, ints, read, most); size = most }

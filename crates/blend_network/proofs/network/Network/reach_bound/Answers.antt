@@ -13,11 +13,6 @@ best_margin-margin-requires-clause-cost c =
     let limited : IsLimited (net_of c.args.self.now) = subst (λ (n : Network). IsLimited (net_of n)) c.self.view_is c.self.invariant.limited in
     λ x is. reach_cost-within (net_of c.args.self.now) c.loop-j.j limited x (sym c.reach_cost.ensures ∙ is)
 
-pub earnings-earned-requires-clause-flow : goal.earnings-earned-requires-clause-flow
-earnings-earned-requires-clause-flow c =
-    let max = c.product_max.ensures in
-    (omega (arith, ints, max.value), omega (arith, ints, max.value, max.size))
-
 -- one more product
 sum_more : (f : ℕ → ℤ) (j : ℕ) (total part : ℤ) → total ≡ int_sum_below f j → part ≡ f j → total +ℤ part ≡ int_sum_below f (j + 1)
 sum_more f j total part e k = rw add-one (ap (λ z. z +ℤ part) e ∙ ap (λ z. int_sum_below f j +ℤ z) k)

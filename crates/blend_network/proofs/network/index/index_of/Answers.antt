@@ -1,10 +1,10 @@
-use Rattle.std.proofs.Common.{get_or, ◌∙◌, arith}
+use Rattle.std.proofs.Common.{get_or, ◌∙◌}
 use Rattle.pool_model.specs.Naming.{network_of}
 use Rattle.pool_model.specs.Network.{net_of}
 use Rattle.network_parts.specs.Parts.{rows_of}
 use Rattle.blend_network.specs.Keys.{keys}
 use Rattle.blend_network.specs.declared.keys.Key.TheVariants.{FeedsFrom}
-use Rattle.blend_network.proofs.Indexed.{key_few, count_is, along, kept_known, grouped_is, index_more}
+use Rattle.blend_network.proofs.Indexed.{along, kept_known, grouped_is, index_more}
 use Rattle.blend_network.proofs.network.index.index_of.Goals as goal
 
 pub grouped-requires-clause-along : goal.grouped-requires-clause-along
@@ -16,12 +16,6 @@ grouped-requires-clause-known c =
     kept_known r c.args.arcs.now c.requires.checked.found c.requires.limited
     (get_or keys c.loop-key.key-index FeedsFrom) c.nodes.result
     (c.nodes.ensures (net_of (network_of r)) c.counts_from-counts.ensures)
-
-pub grouped-requires-clause-few : goal.grouped-requires-clause-few
-grouped-requires-clause-few c =
-    let r = rows_of c.args.parts.now in
-    let key = get_or keys c.loop-key.key-index FeedsFrom in
-    omega (arith, key_few (net_of (network_of r)) c.requires.limited (omega (arith, c.requires.checked.faultless.paths)) key, count_is r c.args.arcs.now c.requires.checked.found key)
 
 pub loop-key-preserved : goal.loop-key-preserved
 loop-key-preserved c =

@@ -8,13 +8,6 @@ use Rattle.box_tree.specs.declared.entry.EntryFault.TheVariants.{Memory}
 use Rattle.box_tree.proofs.Refusals.{refused-each}
 use Rattle.box_tree.proofs.tree.Tree.apply.Goals as goal
 
-pub returns-in-Root-clause-refused : goal.returns-in-Root-clause-refused
-returns-in-Root-clause-refused c =
-    let n = net_of c.args.net.now in
-    let s = searched_of c.args.self.now.kept in
-    refused-each n s (shown_entry c.args.entry) c.prove_root.result
-    (subst (λ (e : Entry). IfErr c.prove_root.result (λ f. f ≢ Memory → IsFirstFault n s (shown_entry e) f)) (sym c.in-Root.is) c.prove_root.ensures.fault)
-
 pub returns-in-SplitOf-clause-refused : goal.returns-in-SplitOf-clause-refused
 returns-in-SplitOf-clause-refused c =
     let n = net_of c.args.net.now in

@@ -10,13 +10,12 @@ use Rattle.std.specs.Option.{ForSome}
 use Rattle.split_tree.specs.declared.span.Side.TheVariants.{Left, Right}
 use Rattle.split_tree.specs.Spans.{half_at, CutsBetween}
 use Rattle.split_tree.specs.Splits.{Splits, MayCome, IsOf as AreCut}
-use Rattle.box_tree.specs.EntryFaults.{IsBadProof}
 use Rattle.box_tree.specs.Kept.{Kept, searched_of}
 use Rattle.box_tree.specs.Taken.{grown, IsTaken}
 use Rattle.box_tree.proofs.Counting.{few-counted}
 use Rattle.box_tree.proofs.Growing.{split-taken}
 use Rattle.box_tree.proofs.Indexing.{cut-past}
-use Rattle.box_tree.proofs.Refusals.{bad-split, bad-left, bad-right}
+use Rattle.box_tree.proofs.Refusals.{bad-split}
 use Rattle.box_tree.proofs.tree.Tree.split.Goals as goal
 
 pub returns-in_err-span-clause-fault : goal.returns-in_err-span-clause-fault
@@ -25,26 +24,6 @@ returns-in_err-span-clause-fault c =
     rw (p.1, p.2) (λ _. bad-split (net_of c.args.net.now) (searched_of c.args.self.now.kept) (shown_split c.args.split)
     (option_map shown_proof c.args.left) (option_map shown_proof c.args.right) c.in_err-span.field-0.0
     c.in_err-span.ensures.fault)
-
-pub returns-in_err-left_shown-clause-fault : goal.returns-in_err-left_shown-clause-fault
-returns-in_err-left_shown-clause-fault c =
-    let n = net_of c.args.net.now in
-    let cut = c.in_ok-span.ensures in
-    let p = err_from_is_err_and c.from_residual-in_err-left_shown.result c.from_residual-in_err-left_shown.ensures.1 in
-    rw (p.1, p.2) (λ ne. bad-left n (searched_of c.args.self.now.kept) (shown_split c.args.split) (option_map shown_proof c.args.left)
-    (option_map shown_proof c.args.right) c.in_err-left_shown.field-0.0 cut.cuts cut.few
-    (c.in_err-left_shown.ensures.fault ne))
-
-pub returns-in_err-right_shown-clause-fault : goal.returns-in_err-right_shown-clause-fault
-returns-in_err-right_shown-clause-fault c =
-    let n = net_of c.args.net.now in
-    let s = shown_split c.args.split in
-    let right = option_map shown_proof c.args.right in
-    let f = c.in_err-right_shown.field-0.0 in
-    let cut = c.in_ok-span.ensures in
-    let p = err_from_is_err_and c.from_residual-in_err-right_shown.result c.from_residual-in_err-right_shown.ensures.1 in
-    rw (p.1, p.2) (λ ne. bad-right n (searched_of c.args.self.now.kept) s (option_map shown_proof c.args.left) right f cut.cuts cut.few c.in_ok-left_shown.ensures.in_order
-    (subst (λ (z : Kept). IsBadProof n (half_at n z.splits.list s Right) right f) c.in_ok-left_shown.ensures.kept (c.in_err-right_shown.ensures.fault ne)))
 
 pub returns-clause-taken : goal.returns-clause-taken
 returns-clause-taken c =

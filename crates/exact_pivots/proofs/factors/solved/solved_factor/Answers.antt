@@ -1,14 +1,11 @@
-use Rattle.std.proofs.Common.{refl, subst, inl, inr}
+use Rattle.std.proofs.Common.{subst}
 use Rattle.std.proofs.lemmas.Result.{IfOk-weaker}
 use Rattle.exact_num.specs.Fraction.{Fraction, quotient_of, negative_of}
 use Rattle.exact_num.specs.Views.{shown_frac}
 use Rattle.exact_num.specs.declared.frac.Frac.{Frac}
 use Rattle.exact_run.specs.Operations.{IsReduced}
-use Rattle.exact_run.specs.declared.operations.Operation.TheVariants.{Div}
-use Rattle.exact_pivots.specs.Stops.{IsSolvedFactor, IsWrittenSolvingAt}
-use Rattle.exact_pivots.proofs.Entries.{same_or_other}
+use Rattle.exact_pivots.specs.Stops.{IsSolvedFactor}
 use Rattle.exact_pivots.proofs.Reduced.{quotient-of_reduced}
-use Rattle.exact_pivots.proofs.Told.{told_as}
 use Rattle.exact_pivots.proofs.factors.solved.solved_factor.Goals as goal
 
 pub returns-clause-factor : goal.returns-clause-factor
@@ -25,16 +22,3 @@ returns-clause-factor c =
       zero = λ ne z. absurd (c.requires.entry z);
     })
     c.worked.ensures.answer
-
-pub returns-clause-wide : goal.returns-clause-wide
-returns-clause-wide c =
-    let entry = c.args.entry in
-    told_as c.worked.result (IsWrittenSolvingAt (shown_frac c.args.by) c.args.entering c.args.leaving entry.column (shown_frac entry.value)) Div c.in_ok-numerator.numerator c.args.by (
-      c.if-entry-entering.false,
-      refl,
-      elim (same_or_other entry.column c.args.leaving) [
-        | inl e ↦ inl (e, c.in_ok-numerator.ensures.leaving e)
-        | inr ne ↦ inr (ne, c.in_ok-numerator.ensures.others ne)
-      ],
-    )
-    c.worked.ensures.wide c.worked.ensures.told
