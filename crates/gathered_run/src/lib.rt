@@ -20,10 +20,10 @@ mod fault;
 mod files;
 mod gathering;
 mod prefix;
-mod rules;
+mod running;
 mod told;
 
 pub use fault::GatherFault;
 pub use files::AnswersFile;
-pub use rules::gather;
+pub use running::gather;
 pub use told::{Gathered, Line};

@@ -21,10 +21,10 @@ mod fault;
 mod putting;
 mod recovery;
 mod replay;
-mod rules;
+mod running;
 mod session;
 
 pub use fault::RunFault;
 pub use putting::put;
 pub use recovery::{Recovered, recover};
-pub use rules::run_recorded;
+pub use running::run_recorded;

@@ -20,7 +20,7 @@ use Rattle.gathered_run.specs.Gatherings.{BeginWith}
 use Rattle.gathered_run.proofs.Prefixes.{jobs-on}
 use Rattle.gathered_run.proofs.Growth.{grown-from, grown-none}
 use Rattle.gathered_run.proofs.Openings.{begun-is, taken_by, not_begun, gathered-by, no_gather_cause, other-cause, other-decided, run-decided, broken-none, broken-unopened, broken-stopped, disk-of}
-use Rattle.gathered_run.proofs.rules.gather.Goals as goal
+use Rattle.gathered_run.proofs.running.gather.Goals as goal
 
 -- ---- the desk
 

@@ -15,7 +15,7 @@ use Rattle.recorded_run.proofs.Recording.{begins-same, recovered-held, grown-mom
 use Rattle.recorded_run.proofs.Splitting.{few-front, few-same}
 use Rattle.recorded_run.proofs.Acknowledging.{opening-keeps, run-keeps}
 use Rattle.recorded_run.proofs.Causes.{no_cause, free-alone}
-use Rattle.recorded_run.proofs.rules.run_recorded.Goals as goal
+use Rattle.recorded_run.proofs.running.run_recorded.Goals as goal
 
 -- the session that is driven
 pub drive-requires-clause-session : goal.drive-requires-clause-session
