@@ -1,8 +1,11 @@
-use Rattle.std.proofs.Common.{◌≡◌, ◌+◌, ◌<◌, List, sym, subst, rules}
+use Rattle.std.proofs.Common.{◌≡◌, ℕ, ◌+◌, ◌<◌, List, map, sym, subst, rules}
+use Rattle.std.specs.Prelude.{filter}
+use Rattle.integers.specs.Numbers.{tabulate}
 use Rattle.pool_model.specs.Network.{net_of}
 use Rattle.row_model.specs.Boxes.{coords}
 use Rattle.branching.specs.declared.view.CoordRow.{CoordRow}
-use Rattle.leaf_cuts.proofs.FormCoords.{AreSoFar, so_far-push, so_far-pass, cut-off}
+use Rattle.leaf_cuts.specs.Views.{AreRowsOf}
+use Rattle.leaf_cuts.proofs.FormCoords.{cuts_at, AreSoFar, so_far-push, so_far-pass, cut-off}
 use Rattle.leaf_cuts.proofs.view.leaf_view.Goals as goal
 use Rattle.leaf_cuts.proofs.view.leaf_view.Goals.{then-of_form+in_ok-push, else-of_form}
 
@@ -23,3 +26,18 @@ loop-coord-preserved c =
           subst (λ (xs : List CoordRow). AreSoFar n c.args.form splits e (coord + 1) xs) (sym same)
           (so_far-pass n c.args.form splits e coord rows c.loop-coord.invariant (cut-off n c.args.form coord c.of_form.result there c.of_form.ensures w.if-of_form.false))
     ]
+
+pub returns : goal.returns
+returns c = λ b is.
+    let n = net_of c.args.net.now in
+    let splits = c.args.tree.now.kept.splits.list in
+    let rows = c.loop-coord.rows.items in
+    let so = c.loop-coord.invariant in
+    let all : c.loop-coord.coord ≡ coords n = search rules in
+    record {
+      node = c.new.ensures.node;
+      rows = subst (λ (xs : List CoordRow). AreRowsOf n c.args.form splits b xs) (sym c.new.ensures.rows) record {
+        coords = subst (λ (k : ℕ). map (λ (r : CoordRow). r.coord) rows ≡ filter (cuts_at n c.args.form) (tabulate (λ i. i) k)) all so.coords;
+        ends = λ i d h. so.ends i d h b is;
+      };
+    }

@@ -1,4 +1,4 @@
-use Rattle.std.proofs.Common.{ℕ, List, ◌<◌, ◌^◌, ◌+◌, ◌*◌, ◌∙◌, get_or, length, arith, ap, length-set, subst}
+use Rattle.std.proofs.Common.{◌<◌, ◌^◌, ◌+◌, ◌*◌, ◌∙◌, get_or, length, arith, ap, length-set}
 use Rattle.pool_model.specs.Network.{net_of}
 use Rattle.plan_core.proofs.Tables.{added_first, added_size}
 use Rattle.plan_repair.specs.PlainPlan.{feed_flow}

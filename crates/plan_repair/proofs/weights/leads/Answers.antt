@@ -1,4 +1,4 @@
-use Rattle.std.proofs.Common.{◌≡◌, ℕ, ◌<◌, true, List, get_or, sym, subst, ◌∙◌}
+use Rattle.std.proofs.Common.{◌≡◌, ◌<◌, arith, true, sym, ◌∙◌}
 use Rattle.pool_model.specs.Network.{net_of}
 use Rattle.plan_repair.specs.PlainPlan.{feed_flow, goes_before}
 use Rattle.plan_repair.proofs.Leading.{goes_before-is, led}
