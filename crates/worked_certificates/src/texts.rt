@@ -42,12 +42,12 @@ fn long_text(alloc: Global) -> Result<String, AllocError> {
 }
 
 /// Of the long one: three lines, the count of the splits, two halves of them, the count of the proofs, the word of the proof, its
-/// fields, its parts in quarters, the end of its line, and the last line.
+/// number, its scale and count of parts, these in quarters, the end of its line, and the last line.
 #[test]
 fn is_read_and_written_in_few_pieces(rt: HostRuntime) -> Result<(), Fail> {
     let alloc = rt.alloc();
     let long = long_text(alloc)?;
-    for (text, pieces) in [(FULL, 1), (NO_PLAN, 1), (TREE, 1), (long.as_str(), 15)] {
+    for (text, pieces) in [(FULL, 1), (NO_PLAN, 1), (TREE, 1), (long.as_str(), 16)] {
         assert!(rt; is_written_in(alloc, text, pieces)?, "{pieces} pieces");
     }
     Ok(())
