@@ -7,6 +7,7 @@ ghost use Rattle.recorded_run.specs.declared.fault.RunFault.TheVariants as fault
 use disk_calls::DiskFailed;
 use edge_io::Memory;
 use node_journal::JournalFault;
+use std::alloc::AllocFailed;
 
 /// Why a recorded run gives no answer: the first cause in this order.
 #[derive(Clone, Copy, Debug, PartialEq, Eq)]
@@ -37,6 +38,14 @@ impl From<Memory> for RunFault {
     ghost from_gives = { λ _ f. f ≡ faults.Journal journal_faults.Memory };
 
     fn from(_e: Memory) -> RunFault {
+        RunFault::Journal(JournalFault::Memory)
+    }
+}
+
+impl<T: Drop> From<AllocFailed<T>> for RunFault {
+    ghost from_gives = { λ _ f. f ≡ faults.Journal journal_faults.Memory };
+
+    fn from(_e: AllocFailed<T>) -> RunFault {
         RunFault::Journal(JournalFault::Memory)
     }
 }
