@@ -11,9 +11,9 @@
 //!
 //! Which plan to write is left to the crates above, and so is the text of a plan.
 //!
-//! Proofs above may cite, of `proofs/`: `Reaching` (how much of a quality arcs bring), `Blends` (what flows in the plan that a written plan stands for and of what quality, and that
-//! the check by pool weights is its blending law), `Supply` (what all sources send out flows into all products, and how large a plan's
-//! numbers are) and `Tables` (sums by node, with one arc more).
+//! Proofs above may cite, of `proofs/`: `Blends` (what flows in the plan that a written plan stands for and of what quality, and that the
+//! check by pool weights is its blending law), `Supply` (what all sources send out flows into all products, and how large a plan's numbers
+//! are) and `Tables` (sums by node, with one arc more).
 #![tactic(auto)]
 
 mod arcs;

@@ -1,41 +1,62 @@
--- What a session is between two steps, and what a run of it leaves.
-use Rattle.std.specs.Prelude.{◌≡◌, ◌⊎◌, ℕ, List, false, Some, Result, MatchResult}
+-- What a run holds between two steps, how its entries are recorded, and what it leaves.
+use Rattle.std.specs.Prelude.{◌≡◌, ◌⊎◌, ℕ, List, [], ◌∷◌, ◌++◌, IsTrue, false, Some, Result, MatchResult}
 use Rattle.disk_calls.specs.Disks.{DiskTold, LeavesOnly}
 use Rattle.pool_model.specs.Network.{Net}
 use Rattle.row_model.specs.Entries.{Entry, Searched, made_by, AreInOrder}
 use Rattle.journal_format.specs.Files.{Stands}
 use Rattle.journal_format.specs.Longest.{longest}
-use Rattle.search_core.specs.Searches.{IsSearchOf, searched}
+use Rattle.journal_format.specs.Records.{Place, IsKeptAt}
+use Rattle.node_journal.specs.Journals.{Ready, IsLeft, IsBeforeOrAfter}
+use Rattle.node_journal.specs.Settled.{IsOnDisk}
+use Rattle.search_core.specs.Searches.{IsSearchOf, Searching}
 use Rattle.search_run.specs.Found.{IsFound}
 use Rattle.search_run.specs.Orders.{options_of}
 use Rattle.search_run.specs.Runs.{IsRun}
 use Rattle.search_core.specs.declared.ended.Ended.{Ended}
 use Rattle.search_run.specs.declared.orders.Orders.{Orders}
 use Rattle.journal_format.specs.declared.fault.JournalFault.TheVariants.{Memory}
+use Rattle.journal_format.specs.declared.version.Version.TheVariants.{Two}
 use Rattle.recorded_run.specs.Recorded.{BeginsWith, HasFewSplits, IsBetween, IsRecorded, StandsNow}
 use Rattle.recorded_run.specs.Acknowledged.{KeepsAcknowledged}
 use Rattle.recorded_run.specs.declared.fault.RunFault.{RunFault}
 use Rattle.recorded_run.specs.declared.fault.RunFault.TheVariants.{Journal}
-use Rattle.recorded_run.specs.declared.session.Session.{Session}
 
--- the search is the network's and asks for what was ordered, and its journal takes each entry that is in order
-pub record IsSession (n : Net) (o : Orders) (s : Session) : Type 0 where
-  pub search : IsSearchOf n s.search
-  pub options : s.search.options ≡ options_of o
-  pub largest : s.journal.largest ≡ longest n
-  pub usable : s.journal.failed ≡ false
+-- the search is the network's and asks for what was ordered
+pub record IsOrdered (n : Net) (o : Orders) (s : Searching) : Type 0 where
+  pub search : IsSearchOf n s
+  pub options : s.options ≡ options_of o
+
+-- the journal takes each entry that is in order on the network, and where the disk tells, it reads as the journal left it
+pub record TakesEach (n : Net) (journal : Ready) (d : DiskTold) : Type 0 where
+  pub largest : journal.largest ≡ longest n
+  pub usable : journal.failed ≡ false
+  pub left : IsTrue d.tells → IsLeft journal d
+
+-- the place of a run that records nothing
+abbrev pub nowhere : Place
+nowhere = record { gate = 0; version = Two }
+
+-- one entry more stands on the disk, with the next record's place behind it
+abbrev pub Puts : Entry → Place → DiskTold → Place → DiskTold → Type 0
+Puts e before old after new = (text file : List ℕ) (list : List Entry) → IsOnDisk file old → IsKeptAt before text list file
+    → (then : List ℕ) × IsOnDisk then new × IsKeptAt after text (list ++ e ∷ []) then
+
+-- meanwhile a crash at any moment leaves the file for the list, or for the list with the entry
+abbrev pub LeavesOneOrBoth : Entry → Place → DiskTold → DiskTold → Type 0
+LeavesOneOrBoth e before old new = (text file : List ℕ) (list : List Entry) → IsOnDisk file old → IsKeptAt before text list file
+    → LeavesOnly old new (IsBeforeOrAfter text list e)
 
 -- A run from a list that the disk holds: a crash at any moment leaves the network's own file, for a list between that one and the
 -- last, and no acknowledged entry is lost; the last has few splits, also where the run failed. Where the run came to its end the disk holds
 -- the last, and the tree is made of it; where memory ran out the file stands for it.
-pub record IsRecordedRun (n : Net) (text : List ℕ) (o : Orders) (first : List Entry) (old new : DiskTold) (s : Session) (result : Result Ended RunFault) : Type 0 where
+pub record IsRecordedRun (n : Net) (text : List ℕ) (o : Orders) (first : List Entry) (old new : DiskTold) (next : Place) (s : Searched) (result : Result Ended RunFault) : Type 0 where
   pub last : List Entry
   pub begins : BeginsWith last first
   pub any_moment : LeavesOnly old new (IsBetween n text first last)
   pub acknowledged : KeepsAcknowledged n text first last old new
   pub few : HasFewSplits o first last
   pub held : MatchResult result
-      (λ _. IsRecorded n text last s.journal.next (searched s.search) new)
+      (λ _. IsRecorded n text last next s new)
       (λ fault. fault ≡ Journal Memory → StandsNow n text last new)
 
 -- What is recorded on a file that is the network's own and stands for the first list. A crash at any moment leaves what it might have left

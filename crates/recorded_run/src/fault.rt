@@ -7,7 +7,7 @@ ghost use Rattle.recorded_run.specs.declared.fault.RunFault.TheVariants as fault
 use disk_calls::DiskFailed;
 use edge_io::Memory;
 use node_journal::JournalFault;
-use std::alloc::{AllocError, AllocFailed};
+use std::alloc::AllocFailed;
 
 /// Why a recorded run gives no answer: the first cause in this order.
 #[derive(Clone, Copy, Debug, PartialEq, Eq)]
@@ -38,14 +38,6 @@ impl From<Memory> for RunFault {
     ghost from_gives = { λ _ f. f ≡ faults.Journal journal_faults.Memory };
 
     fn from(_e: Memory) -> RunFault {
-        RunFault::Journal(JournalFault::Memory)
-    }
-}
-
-impl From<AllocError> for RunFault {
-    ghost from_gives = { λ _ f. f ≡ faults.Journal journal_faults.Memory };
-
-    fn from(_e: AllocError) -> RunFault {
         RunFault::Journal(JournalFault::Memory)
     }
 }

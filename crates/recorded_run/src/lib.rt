@@ -1,8 +1,12 @@
-//! A run of a search that is recorded: each entry stands in a journal before the tree takes it.
+//! A search that is driven to its end: what is due is asked, recorded and taken, again and again, until the search says how it ended.
+//!
+//! [`run_search`] goes on from any tree of the network, the root alone or one that was made before, and records nothing. Its [`Outcome`] is
+//! the tree that the search left, with how it ended.
 //!
 //! [`run_recorded`] opens the journal of a network on the file that is attached, makes the tree of its entries, and goes on from
-//! there to the end of the search. A crash at any moment leaves the file as it was, or the network's own file, which stands for
-//! a list that begins with the entries that were found; and what is answered is the tree of all that the file stands for then.
+//! there in the same way; each entry stands in the journal before the tree takes it. A crash at any moment leaves the file as it was, or
+//! the network's own file, which stands for a list that begins with the entries that were found; and what is answered is the tree of all
+//! that the file stands for then.
 //!
 //! [`recover`] is the first part of that alone, for a run that goes on in another way: it opens the journal and makes the tree. Such a run
 //! puts its entries into the journal by [`put`], each before its tree takes it.
@@ -17,14 +21,19 @@
 //! by entry, and what a crash leaves meanwhile) and `proofs/Turning.antt` (an entry that is put into a journal, behind a Turn or not).
 #![tactic(auto)]
 
+mod driving;
 mod fault;
+mod outcome;
 mod putting;
+mod recorder;
 mod recovery;
 mod replay;
 mod running;
-mod session;
+mod unrecorded;
 
 pub use fault::RunFault;
+pub use outcome::Outcome;
 pub use putting::put;
 pub use recovery::{Recovered, recover};
 pub use running::run_recorded;
+pub use unrecorded::run_search;

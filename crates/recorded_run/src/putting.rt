@@ -1,6 +1,6 @@
 //! An entry that is put into a journal, behind a Turn where one is needed.
 
-ghost use Rattle.std.specs.Prelude.{◌≡◌, ◌≤◌, ◌++◌, ◌∷◌, [], ℕ, List, false, length, IsTrue, OnOk, OnErr};
+ghost use Rattle.std.specs.Prelude.{◌≡◌, ◌≤◌, ℕ, List, false, length, IsTrue, OnOk, OnErr};
 ghost use Rattle.edge_io.specs.Counts.{Rose};
 ghost use Rattle.disk_calls.specs.Disks.{LeavesOnly, IsSameDisk};
 ghost use Rattle.row_model.specs.Entries as entries;
@@ -9,8 +9,9 @@ ghost use Rattle.journal_format.specs.Payload.{payload, IsNarrow};
 ghost use Rattle.journal_format.specs.Files.{IsKept};
 ghost use Rattle.journal_format.specs.Records.{IsKeptAt};
 ghost use Rattle.journal_format.specs.declared.version.Version.TheVariants.{Two};
-ghost use Rattle.node_journal.specs.Journals.{IsLeft, IsBeforeOrAfter};
+ghost use Rattle.node_journal.specs.Journals.{IsLeft};
 ghost use Rattle.node_journal.specs.Settled.{IsOnDisk};
+ghost use Rattle.recorded_run.specs.Sessions.{LeavesOneOrBoth, Puts};
 
 use box_tree::Entry;
 use disk_calls::{Disk, DiskFailed};
@@ -22,12 +23,8 @@ pub fn put<D: Disk>(journal: &mut Journal, disk: &mut D, entry: &Entry) -> Resul
     requires usable { journal.old.failed ≡ false }
     requires short { length (payload Two (shown_entry entry.now)) ≤ journal.old.largest }
     requires narrow { IsNarrow (shown_entry entry.now) }
-    ensures acknowledged { OnOk result ((text file : List ℕ) (list : List entries.Entry) →
-        IsOnDisk file (D.told disk.old) → IsKeptAt journal.old.next text list file →
-        (after : List ℕ) × IsOnDisk after (D.told disk.new) × IsKeptAt journal.new.next text (list ++ shown_entry entry.now ∷ []) after) }
-    ensures any_moment { (text file : List ℕ) (list : List entries.Entry) →
-        IsOnDisk file (D.told disk.old) → IsKeptAt journal.old.next text list file →
-        LeavesOnly (D.told disk.old) (D.told disk.new) (IsBeforeOrAfter text list (shown_entry entry.now)) }
+    ensures acknowledged { OnOk result (Puts (shown_entry entry.now) journal.old.next (D.told disk.old) journal.new.next (D.told disk.new)) }
+    ensures any_moment { LeavesOneOrBoth (shown_entry entry.now) journal.old.next (D.told disk.old) (D.told disk.new) }
     ensures usable { OnOk result (journal.new.failed ≡ false) }
     ensures same_largest { journal.new.largest ≡ journal.old.largest }
     ensures failed { OnErr result (Rose (D.told disk.old).faults (D.told disk.new).faults) }

@@ -13,13 +13,14 @@ ghost use Rattle.search_run.specs.Orders.{options_of};
 ghost use Rattle.recorded_run.specs.Recorded.{IsNetworksOwn, IsCause, IsFreeFault, IsLeftAlone, StandsNow, Ends};
 ghost use Rattle.recorded_run.specs.Sessions.{IsResumed, IsRunFrom};
 
+use crate::driving::drive;
 use crate::fault::RunFault;
+use crate::outcome::Outcome;
 use crate::recovery::{Recovered, recover};
-use crate::session::Session;
 use blend_network::Network;
 use disk_calls::Disk;
 use search_core::Search;
-use search_run::{Orders, Outcome};
+use search_run::Orders;
 use std::alloc::Global;
 
 /// Opens the journal of the network on the file that is attached, and goes on from the tree of its entries until nothing more is to
@@ -71,11 +72,9 @@ pub fn run_recorded<D: Disk>(
     ensures same_disk { IsSameDisk (D.told disk.old) (D.told disk.new) }
 {
     let recovered = recover(alloc, net, text, disk)?;
-    let Recovered { journal, tree } = recovered;
-    let search = Search::start(alloc, net, orders.options(), tree)?;
-    let mut session = Session { journal, search };
-    let ended = session.drive(alloc, net, orders, disk)?;
-    let Session { journal: _, search } = session;
+    let Recovered { mut journal, tree } = recovered;
+    let mut search = Search::start(alloc, net, orders.options(), tree)?;
+    let ended = drive(alloc, net, orders, &mut search, &mut journal, disk)?;
     let tree = search.into_tree();
     Ok(Outcome { tree, ended })
 }

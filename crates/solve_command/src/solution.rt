@@ -12,8 +12,9 @@ use blend_network::Network;
 use box_tree::Tree;
 use cert_format::Certificate;
 use edge_io::Memory;
+use recorded_run::run_search;
 use search_core::Ended;
-use search_run::{Orders, run_search};
+use search_run::Orders;
 use std::alloc::Global;
 use tree_certificate::certificate_of;
 

@@ -17,20 +17,22 @@ use Rattle.recorded_run.proofs.Acknowledging.{opening-keeps, run-keeps}
 use Rattle.recorded_run.proofs.Causes.{no_cause, free-alone}
 use Rattle.recorded_run.proofs.running.run_recorded.Goals as goal
 
--- the session that is driven
-pub drive-requires-clause-session : goal.drive-requires-clause-session
-drive-requires-clause-session g c = record {
+-- what is driven
+pub drive-requires-clause-ordered : goal.drive-requires-clause-ordered
+drive-requires-clause-ordered g c = record {
   search = c.in_ok-search.ensures.search;
   options = c.in_ok-search.ensures.options ∙ c.options.ensures;
-  largest = c.in_ok-recovered.ensures.largest;
-  usable = c.in_ok-recovered.ensures.usable;
 }
 
-pub drive-requires-clause-left : goal.drive-requires-clause-left
-drive-requires-clause-left g c = λ tells.
-    let was = reaches-file (g.D.Disk.told c.args.disk.now).reads 0 (c.requires.attached (subst IsTrue c.recover.ensures.same_disk.device.same_telling tells)) in
-    let held = c.in_ok-recovered.ensures.found.held was.0 was.1 in
-    (c.args.text.now, c.in_ok-recovered.ensures.found.first, held.file, held.on_disk, held.kept)
+pub drive-requires-clause-takes : goal.drive-requires-clause-takes
+drive-requires-clause-takes g c = record {
+  largest = c.in_ok-recovered.ensures.largest;
+  usable = c.in_ok-recovered.ensures.usable;
+  left = λ tells.
+      let was = reaches-file (g.D.Disk.told c.args.disk.now).reads 0 (c.requires.attached (subst IsTrue c.recover.ensures.same_disk.device.same_telling tells)) in
+      let held = c.in_ok-recovered.ensures.found.held was.0 was.1 in
+      (c.args.text.now, c.in_ok-recovered.ensures.found.first, held.file, held.on_disk, held.kept);
+}
 
 pub returns-clause-run : goal.returns-clause-run
 returns-clause-run g c =
@@ -60,7 +62,7 @@ returns-clause-any_moment g c = λ file first is own.
     let held = subst (λ (s : Searched). IsRecorded n text first place s (g.D.Disk.told c.recover.new.disk)) (sym made)
     (recovered-held n text first place (searched_of c.in_ok-recovered.recovered.tree.kept) file (g.D.Disk.told c.args.disk.now) (g.D.Disk.told c.recover.new.disk) c.in_ok-recovered.ensures.found is own.stands) in
     let run = c.in_ok-ended.ensures.recorded text first held in
-    let ends = recorded-ends n text run.last c.drive.new.self.journal.next (searched c.drive.new.self.search)
+    let ends = recorded-ends n text run.last c.drive.new.recorder.next (searched c.drive.new.search)
     (g.D.Disk.told c.drive.new.disk) run.held in
     let opening = c.recover.ensures.any_moment file first is own in
     record {
