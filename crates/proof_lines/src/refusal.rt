@@ -11,7 +11,7 @@ use edge_io::Memory;
 use faults::Ranked;
 use plan_core::PlanFault;
 use row_book::ProofFault;
-use std::alloc::{AllocError, AllocFailed};
+use std::alloc::AllocFailed;
 
 /// Why a certificate is refused. The causes are looked for in this order, and the first is answered.
 #[derive(Clone, Copy, Debug, PartialEq, Eq)]
@@ -53,14 +53,6 @@ impl From<Memory> for Refusal {
     ghost from_gives = { λ _ r. r ≡ refusals.Memory };
 
     fn from(_e: Memory) -> Refusal {
-        Refusal::Memory
-    }
-}
-
-impl From<AllocError> for Refusal {
-    ghost from_gives = { λ _ r. r ≡ refusals.Memory };
-
-    fn from(_e: AllocError) -> Refusal {
         Refusal::Memory
     }
 }
