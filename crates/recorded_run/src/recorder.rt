@@ -47,7 +47,9 @@ pub(crate) trait Recorder<D> {
 /// In a journal, behind a Turn where one is needed.
 impl<D: Disk> Recorder<D> for Journal {
     ghost told = { D.told };
+
     ghost next = { λ journal. journal.next };
+
     ghost takes = { λ n journal d. TakesEach n journal (D.told d) };
 
     fn record(

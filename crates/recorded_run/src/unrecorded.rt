@@ -27,7 +27,9 @@ struct Unrecorded;
 
 impl Recorder<()> for Unrecorded {
     ghost told = { λ _. untold 0 };
+
     ghost next = { λ _. nowhere };
+
     ghost takes = { λ _ _ _. Unit {0} };
 
     fn record(
