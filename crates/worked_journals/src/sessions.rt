@@ -8,10 +8,10 @@ use branching::RuleName;
 use disk_calls::Disk;
 use edge_io::Memory;
 use node_journal::{Journal, JournalFault};
-use recorded_run::{RunFault, run_recorded};
+use recorded_run::{Outcome, RunFault, run_recorded};
 use search_core::Ended;
-use search_run::{Orders, Outcome};
-use std::alloc::{AllocError, Global};
+use search_run::Orders;
+use std::alloc::Global;
 use std::test::Fail;
 use worked_devices::{TestDisk, disk_of, file_of};
 use worked_networks::{HAVERLY_1, network};
@@ -68,7 +68,7 @@ fn entries_on(alloc: Global, disk: &mut TestDisk) -> Result<u64, JournalFault> {
 }
 
 /// Whether a run over a file of these bytes closes at the best cost.
-fn is_closed_over(alloc: Global, net: &Network, file: &[u8]) -> Result<bool, AllocError> {
+fn is_closed_over(alloc: Global, net: &Network, file: &[u8]) -> Result<bool, Memory> {
     let mut disk = disk_of(alloc, &[file], 1_000)?;
     Ok(is_closed(alloc, net, &mut disk) == Some(true))
 }
