@@ -4,10 +4,12 @@
 A search is spread over four processes, and killed twenty times at random moments, from a fixed seed: the tool alone, so that what it started
 has to end with it. In the end it closes the gap that plain `solve` closes, and both checkers accept its certificate. Answers that don't come, since
 the program that works on them is killed or writes nonsense now and then, cost a round and no more. A second spread on the same journal is
-refused. Bad words and files end it with the status that plain `solve` ends with. With --on parallel the jobs go over GNU parallel, and with --on slurm to a cluster. Prints what differs, and in its last line how much was tried.
+refused. Files that a killed run left are taken away by the next one. Bad words and files end it with the status that plain `solve` ends with.
+With --on parallel the jobs go over GNU parallel, and with --on slurm to a cluster. Prints what differs, and in its last line how much was tried.
 """
 
 import argparse
+import fcntl
 import os
 import random
 import re
@@ -178,6 +180,30 @@ def killed(case, name, kills, draw):
         yield f"{name}: files are left: {folders}"
 
 
+def left_behind(case, name):
+    """What a run leaves that was killed while its folder came to be, was there, or went: the next one takes it away, and nothing that is held."""
+    net, journal = EXAMPLES / f"{name}.json", case.folder / "left.journal"
+    for number, files in enumerate((None, (), ("1.jobs", "solve.out"))):
+        lock = case.folder / f"pool-spread-left{number}.lock"
+        lock.touch()
+        if files is not None:
+            lock.with_suffix("").mkdir()
+        for file in files or ():
+            (lock.with_suffix("") / file).touch()
+    held = case.folder / "pool-spread-held.lock"
+    held.with_suffix("").mkdir()
+    with open(held, "w") as file:
+        fcntl.flock(file, fcntl.LOCK_EX)
+        for wanted in ([held.stem, held.name], []):
+            status, _, said = case.run(net, journal, "--nodes", "10")
+            if status:
+                yield f"{name}: status {status} beside what was left: {said!r}"
+            there = sorted(it.name for it in case.folder.glob("pool-spread-*"))
+            if there != wanted:
+                yield f"{name}: {there} are left, wanted: {wanted}"
+            fcntl.flock(file, fcntl.LOCK_UN)
+
+
 def rough(case, name):
     """A program that loses and garbles what it works on."""
     pool = case.folder / "rough"
@@ -212,6 +238,7 @@ def faults(case, kills):
     yield from plain(case, "adhya4", "--rule", "violated", "--gap", "1" if case.engine == "local" else "440")
     if case.engine == "local":
         yield from statuses(case)
+        yield from left_behind(case, "row1")
         yield from rough(case, "haverly2")
         yield from at_once(case, "adhya1")
     if kills:
