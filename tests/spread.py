@@ -204,6 +204,19 @@ def left_behind(case, name):
             fcntl.flock(file, fcntl.LOCK_UN)
 
 
+def lock_lost(case, name):
+    """Whoever clears old files away may take the lock's too: the run ends as ever."""
+    run, lost = subprocess.Popen(case.words(EXAMPLES / f"{name}.json", case.folder / "lost.journal", "--nodes", "10"), stdout=subprocess.DEVNULL, stderr=subprocess.PIPE, env=case.environment(), cwd=case.folder), 0
+    while run.poll() is None:
+        for lock in case.folder.glob("pool-spread-*.lock"):
+            lock.unlink(missing_ok=True)
+            lost += 1
+        time.sleep(0.02)
+    said = run.communicate()[1]
+    if run.returncode or not lost:
+        yield f"{name}: status {run.returncode} after the loss of {lost} locks: {said!r}"
+
+
 def rough(case, name):
     """A program that loses and garbles what it works on."""
     pool = case.folder / "rough"
@@ -239,6 +252,7 @@ def faults(case, kills):
     if case.engine == "local":
         yield from statuses(case)
         yield from left_behind(case, "row1")
+        yield from lock_lost(case, "haverly1")
         yield from rough(case, "haverly2")
         yield from at_once(case, "adhya1")
     if kills:
